@@ -17,14 +17,11 @@ use Rattle.std.specs.declared.vec.Vec.{Vec}
 use Rattle.hex.specs.Hex.{IsBytes, decode_of, encode_lower, encode_with, is_hex_digit, lower_digits}
 use Rattle.hex.specs.declared.error.FromHexError.{FromHexError}
 use Rattle.hex.proofs.HexLemmas.{decode_of-digits, decode_of-encode_lower, decode_of-ok, decode_of-same}
-use Rattle.datasketches.specs.Actions.{Change}
 use Rattle.datasketches.specs.Actions as action
 use Rattle.datasketches.specs.declared.image_kind.ImageKind.{ImageKind}
-use Rattle.datasketches.specs.declared.join.Join.{Join}
-use Rattle.datasketches.specs.declared.join.Join.TheVariants as join
 use Rattle.datasketches.specs.declared.shape.Shape.{Shape}
 use Rattle.datasketches.specs.declared.shape.Shape.TheVariants as shape
-use Rattle.datasketches_cli.specs.Grammar.{Spelled, bytes_of_digits, number, number_below, signed_number, report_of, plain_kind, seeded_kind, frequent_of, sampled_of, counts_of, bloom_of, add_of, adds_of, insert_of, change_of, decay_of, join_of, save_of, restore_of, load_of, image_of, ask_of, status_of, rows_of, windows_of, hadd_of, hturn_of, hreport_of, verbs, request_of, split_words}
+use Rattle.datasketches_cli.specs.Grammar.{Spelled, bytes_of_digits, number, number_below, signed_number, report_of, plain_kind, seeded_kind, counts_of, load_of, one_word, two_words, three_words, four_words, five_words, request_of, split_words}
 use Rattle.datasketches_cli.specs.Laws.{IsShownAs, LoadsWhatWasShown, DigitsMakeWhatWasShown}
 use Rattle.datasketches_cli.specs.Requests.{Request, Act}
 
@@ -137,7 +134,7 @@ abbrev LoadsBytes : Spelled → List ℕ → Type 0
 LoadsBytes (Some (Act (action.Load name k bytes most))) digits = bytes_of_digits digits ≡ Some bytes
 LoadsBytes _ digits = Unit {0}
 
-mapped : {X : Type 0} (f : X → Request (List ℕ)) (digits : List ℕ) → ((x : X) → LoadsBytes (Some (f x)) digits) → (found : Option X) → LoadsBytes (option_map f found) digits
+mapped : {X : Type 0} (f : X → Request) (digits : List ℕ) → ((x : X) → LoadsBytes (Some (f x)) digits) → (found : Option X) → LoadsBytes (option_map f found) digits
 mapped f digits loads None = tt
 mapped f digits loads (Some x) = loads x
 
@@ -145,120 +142,72 @@ chained : {X : Type 0} (f : X → Spelled) (digits : List ℕ) → ((x : X) → 
 chained f digits loads None = tt
 chained f digits loads (Some x) = loads x
 
-frequent_loads : (words : List (List ℕ)) (d : List ℕ) → LoadsBytes (frequent_of words) d
-frequent_loads (name ∷ max ∷ []) d = mapped _ d (λ m. tt) (number max)
-frequent_loads _ d = tt
-
-sampled_loads : (words : List (List ℕ)) (d : List ℕ) → LoadsBytes (sampled_of words) d
-sampled_loads (name ∷ max ∷ sample ∷ []) d = chained _ d (λ m. mapped _ d (λ n. tt) (number sample)) (number max)
-sampled_loads _ d = tt
-
-counts_loads : (of : ℕ → ℕ → ℕ → Shape) (words : List (List ℕ)) (d : List ℕ) → LoadsBytes (counts_of of words) d
-counts_loads of (name ∷ hashes ∷ buckets ∷ seed ∷ []) d = chained _ d (λ h. chained _ d (λ b. mapped _ d (λ s. tt) (number seed)) (number_below (2 ^ 32) buckets)) (number_below (2 ^ 8) hashes)
-counts_loads of _ d = tt
-
-bloom_loads : (words : List (List ℕ)) (d : List ℕ) → LoadsBytes (bloom_of words) d
-bloom_loads (name ∷ bits ∷ hashes ∷ seed ∷ []) d = chained _ d (λ b. chained _ d (λ h. mapped _ d (λ s. tt) (number seed)) (number_below (2 ^ 16) hashes)) (number bits)
-bloom_loads _ d = tt
-
-add_loads : (words : List (List ℕ)) (d : List ℕ) → LoadsBytes (add_of words) d
-add_loads (name ∷ weight ∷ item ∷ []) d = mapped _ d (λ w. tt) (number weight)
-add_loads _ d = tt
-
-adds_loads : (words : List (List ℕ)) (d : List ℕ) → LoadsBytes (adds_of words) d
-adds_loads (name ∷ weight ∷ item ∷ []) d = mapped _ d (λ w. tt) (signed_number weight)
-adds_loads _ d = tt
-
-insert_loads : (words : List (List ℕ)) (d : List ℕ) → LoadsBytes (insert_of words) d
-insert_loads (name ∷ item ∷ []) d = tt
-insert_loads _ d = tt
-
-change_loads : (change : Change (List ℕ)) (words : List (List ℕ)) (d : List ℕ) → LoadsBytes (change_of change words) d
-change_loads change (name ∷ []) d = tt
-change_loads change _ d = tt
-
-decay_loads : (words : List (List ℕ)) (d : List ℕ) → LoadsBytes (decay_of words) d
-decay_loads (name ∷ n ∷ m ∷ []) d = chained _ d (λ x. mapped _ d (λ y. tt) (number m)) (number n)
-decay_loads _ d = tt
-
-join_loads : (join : Join) (words : List (List ℕ)) (d : List ℕ) → LoadsBytes (join_of join words) d
-join_loads join (into ∷ other ∷ []) d = tt
-join_loads join _ d = tt
-
-save_loads : (words : List (List ℕ)) (d : List ℕ) → LoadsBytes (save_of words) d
-save_loads (name ∷ image ∷ []) d = tt
-save_loads _ d = tt
-
-restore_loads : (words : List (List ℕ)) (d : List ℕ) → LoadsBytes (restore_of words) d
-restore_loads (image ∷ name ∷ []) d = tt
-restore_loads _ d = tt
-
 bytes_case : (name : List ℕ) (k : ImageKind) (most : ℕ) (digits : List ℕ) (found : Option (List ℕ)) → bytes_of_digits digits ≡ found → LoadsBytes (option_map (λ bytes. Act (action.Load name k bytes most)) found) digits
 bytes_case name k most digits None e = tt
 bytes_case name k most digits (Some bytes) e = e
 
+load_loads : (name : List ℕ) (kind : Option ImageKind) (max digits d : List ℕ) → digits ≡ d → LoadsBytes (load_of name kind max digits) d
+load_loads name kind max digits d same =
+    subst (λ (l : List ℕ). LoadsBytes (load_of name kind max digits) l) same
+    (chained _ digits (λ k. chained _ digits (λ m. bytes_case name k m digits (bytes_of_digits digits) refl) (number max)) kind)
+
+counts_loads : (of : ℕ → ℕ → ℕ → Shape) (name hashes buckets seed d : List ℕ) → LoadsBytes (counts_of of name hashes buckets seed) d
+counts_loads of name hashes buckets seed d = chained _ d (λ h. chained _ d (λ b. mapped _ d (λ s. tt) (number seed)) (number_below (2 ^ 32) buckets)) (number_below (2 ^ 8) hashes)
+
+module _ {X : Type 0} (apply : X → Spelled) (d : List ℕ) where
+  abbrev AllLoad : List (List ℕ × X) → Type 0
+  AllLoad [] = Unit {0}
+  AllLoad (entry ∷ entries) = LoadsBytes (apply entry.1) d × AllLoad entries
+
+  pick_case : (t : Bool) (spelled : X) (others : Option X) → LoadsBytes (apply spelled) d → LoadsBytes (option_and_then apply others) d → LoadsBytes (option_and_then apply (cond t (Some spelled) others)) d
+  pick_case true spelled others first rest = first
+  pick_case false spelled others first rest = rest
+
+  found_loads : (test : List ℕ → Bool) (entries : List (List ℕ × X)) → AllLoad entries → LoadsBytes (option_and_then apply (lookup test entries)) d
+  found_loads test [] all = tt
+  found_loads test (entry ∷ entries) (first, rest) = pick_case (test entry.0) entry.1 (lookup test entries) first (found_loads test entries rest)
+
 -- the digits of a load are its last word
-load_loads : (verb : List ℕ) (words : List (List ℕ)) (d : List ℕ) → get_or (verb ∷ words) (length (verb ∷ words) - 1) [] ≡ d → LoadsBytes (load_of words) d
-load_loads verb (name ∷ word ∷ max ∷ digits ∷ []) d last =
-    subst (λ (l : List ℕ). LoadsBytes (load_of (name ∷ word ∷ max ∷ digits ∷ [])) l) last
-    (chained _ digits (λ k. chained _ digits (λ m. bytes_case name k m digits (bytes_of_digits digits) refl) (number max)) (plain_kind word))
-load_loads verb (name ∷ word ∷ max ∷ seed ∷ digits ∷ []) d last =
-    subst (λ (l : List ℕ). LoadsBytes (load_of (name ∷ word ∷ max ∷ seed ∷ digits ∷ [])) l) last
-    (chained _ digits (λ s. chained _ digits (λ k. chained _ digits (λ m. bytes_case name k m digits (bytes_of_digits digits) refl) (number max)) (seeded_kind word s)) (number seed))
-load_loads verb _ d last = tt
-
-image_loads : (words : List (List ℕ)) (d : List ℕ) → LoadsBytes (image_of words) d
-image_loads (image ∷ []) d = tt
-image_loads _ d = tt
-
-ask_loads : (words : List (List ℕ)) (d : List ℕ) → LoadsBytes (ask_of words) d
-ask_loads (name ∷ item ∷ []) d = tt
-ask_loads _ d = tt
-
-status_loads : (words : List (List ℕ)) (d : List ℕ) → LoadsBytes (status_of words) d
-status_loads (name ∷ []) d = tt
-status_loads _ d = tt
-
-rows_loads : (words : List (List ℕ)) (d : List ℕ) → LoadsBytes (rows_of words) d
-rows_loads (name ∷ report ∷ threshold ∷ []) d = chained _ d (λ r. mapped _ d (λ t. tt) (number threshold)) (report_of report)
-rows_loads _ d = tt
-
-windows_loads : (words : List (List ℕ)) (d : List ℕ) → LoadsBytes (windows_of words) d
-windows_loads (windows ∷ max ∷ []) d = chained _ d (λ w. mapped _ d (λ m. tt) (number max)) (number windows)
-windows_loads _ d = tt
-
-hadd_loads : (words : List (List ℕ)) (d : List ℕ) → LoadsBytes (hadd_of words) d
-hadd_loads (tenant ∷ weight ∷ item ∷ []) d = chained _ d (λ t. mapped _ d (λ w. tt) (number weight)) (number tenant)
-hadd_loads _ d = tt
-
-hturn_loads : (words : List (List ℕ)) (d : List ℕ) → LoadsBytes (hturn_of words) d
-hturn_loads (tenant ∷ []) d = mapped _ d (λ t. tt) (number tenant)
-hturn_loads _ d = tt
-
-hreport_loads : (words : List (List ℕ)) (d : List ℕ) → LoadsBytes (hreport_of words) d
-hreport_loads (tenant ∷ report ∷ threshold ∷ []) d = chained _ d (λ t. chained _ d (λ r. mapped _ d (λ n. tt) (number threshold)) (report_of report)) (number tenant)
-hreport_loads _ d = tt
-
-abbrev AllLoad : List (List ℕ) → List ℕ → List (List ℕ × (List (List ℕ) → Spelled)) → Type 0
-AllLoad words d [] = Unit {0}
-AllLoad words d (entry ∷ entries) = LoadsBytes (entry.1 words) d × AllLoad words d entries
-
-all_load : (verb : List ℕ) (words : List (List ℕ)) (d : List ℕ) → get_or (verb ∷ words) (length (verb ∷ words) - 1) [] ≡ d → AllLoad words d verbs
-all_load verb words d last =
-    (frequent_loads words d, (sampled_loads words d, (counts_loads shape.CountI64 words d, (counts_loads shape.CountU64 words d, (bloom_loads words d, (add_loads words d, (adds_loads words d, (insert_loads words d, (change_loads action.Reset words d, (change_loads action.Halve words d, (decay_loads words d, (join_loads join.Merge words d, (join_loads join.Union words d, (join_loads join.Intersect words d, (join_loads join.Difference words d, (save_loads words d, (restore_loads words d, (load_loads verb words d last, (image_loads words d, (ask_loads words d, (status_loads words d, (rows_loads words d, (windows_loads words d, (hadd_loads words d, (hturn_loads words d, (hreport_loads words d, tt))))))))))))))))))))))))))
-
-pick_case : (t : Bool) (words : List (List ℕ)) (d : List ℕ) (spelled : List (List ℕ) → Spelled) (others : Option (List (List ℕ) → Spelled)) → LoadsBytes (spelled words) d → LoadsBytes (option_and_then (λ s. s words) others) d
-    → LoadsBytes (option_and_then (λ s. s words) (cond t (Some spelled) others)) d
-pick_case true words d spelled others first rest = first
-pick_case false words d spelled others first rest = rest
-
-found_loads : (test : List ℕ → Bool) (words : List (List ℕ)) (d : List ℕ) (entries : List (List ℕ × (List (List ℕ) → Spelled))) → AllLoad words d entries → LoadsBytes (option_and_then (λ s. s words) (lookup test entries)) d
-found_loads test words d [] all = tt
-found_loads test words d (entry ∷ entries) (first, rest) = pick_case (test entry.0) words d entry.1 (lookup test entries) first (found_loads test words d entries rest)
-
 request_loads : (words : List (List ℕ)) (d : List ℕ) → get_or words (length words - 1) [] ≡ d → LoadsBytes (request_of words) d
 request_loads [] d last = tt
-request_loads (verb ∷ words) d last = found_loads (bytes_eq verb) words d verbs (all_load verb words d last)
+request_loads (v ∷ []) d last = tt
+request_loads (v ∷ a ∷ []) d last =
+    found_loads (λ s. s a) d (bytes_eq v) one_word (tt, (tt, (tt, (tt, (mapped _ d (λ t. tt) (number a), tt)))))
+request_loads (v ∷ a ∷ b ∷ []) d last = found_loads (λ s. s a b) d (bytes_eq v) two_words
+    (tt, (tt, (mapped _ d (λ m. tt) (number b), (tt, (tt, (tt, (tt, (tt, (tt, (chained _ d (λ w. mapped _ d (λ m. tt) (number b)) (number a), tt))))))))))
+request_loads (v ∷ a ∷ b ∷ c ∷ []) d last =
+    found_loads (λ s. s a b c) d (bytes_eq v) three_words (
+      mapped _ d (λ w. tt) (number b),
+      (
+        mapped _ d (λ w. tt) (signed_number b),
+        (
+          chained _ d (λ m. mapped _ d (λ n. tt) (number c)) (number b),
+          (
+            chained _ d (λ n. mapped _ d (λ m. tt) (number c)) (number b),
+            (
+              chained _ d (λ r. mapped _ d (λ t. tt) (number c)) (report_of b),
+              (
+                chained _ d (λ t. mapped _ d (λ w. tt) (number b)) (number a),
+                (chained _ d (λ t. chained _ d (λ r. mapped _ d (λ n. tt) (number c)) (report_of b)) (number a), tt),
+              ),
+            ),
+          ),
+        ),
+      ),
+    )
+request_loads (v ∷ a ∷ b ∷ c ∷ e ∷ []) d last = found_loads (λ s. s a b c e) d (bytes_eq v) four_words (
+  counts_loads shape.CountI64 a b c e d,
+  (
+    counts_loads shape.CountU64 a b c e d,
+    (
+      chained _ d (λ m. chained _ d (λ h. mapped _ d (λ s. tt) (number e)) (number_below (2 ^ 16) c)) (number b),
+      (load_loads a (plain_kind b) c e d last, tt),
+    ),
+  ),
+)
+request_loads (v ∷ a ∷ b ∷ c ∷ e ∷ f ∷ []) d last =
+    found_loads (λ s. s a b c e f) d (bytes_eq v) five_words (load_loads a (option_and_then (seeded_kind b) (number e)) c f d last, tt)
+request_loads (v ∷ a ∷ b ∷ c ∷ e ∷ f ∷ g ∷ rest) d last = tt
 
 pub loads_what_was_shown : LoadsWhatWasShown
 loads_what_was_shown digits shown is line front name k image most words says =

@@ -27,37 +27,6 @@ is_number limit word a b l = grind (arith, nat_tests)
 no_number : (limit : ℕ) (word : List ℕ) → ¬ ((all_ascii_digits word ≡ true) × (0 < length word) × (digits_value 10 word < limit)) → number_below limit word ≡ None
 no_number limit word h = cond-false (ltb 0 (length word) && all_ascii_digits word && ltb (digits_value 10 word) limit) (Some (digits_value 10 word)) None (not_all (length word) (digits_value 10 word) limit (all_ascii_digits word) h)
 
--- three tests that are all true, where they give a number
-all_pass : (a b c : Bool) (v n : ℕ) → cond (a && b && c) (Some v) None ≡ Some n → (a ≡ true) × (b ≡ true) × (c ≡ true) × (v ≡ n)
-all_pass true true true v n e = (refl, refl, refl, cc)
-all_pass true true false v n e = absurd (cc e)
-all_pass true false c v n e = absurd (cc e)
-all_pass false b c v n e = absurd (cc e)
-
-made : (limit : ℕ) (word : List ℕ) (n : ℕ) → number_below limit word ≡ Some n
-    → (ltb 0 (length word) ≡ true) × (all_ascii_digits word ≡ true) × (ltb (digits_value 10 word) limit ≡ true) × (digits_value 10 word ≡ n)
-made limit word n e = all_pass (ltb 0 (length word)) (all_ascii_digits word) (ltb (digits_value 10 word) limit) (digits_value 10 word) n e
-
--- a number of 64 bits that is below a lesser limit
-pub narrow : (limit : ℕ) (word : List ℕ) (n : ℕ) → n < limit → number_below (2 ^ 64) word ≡ Some n → number_below limit word ≡ Some n
-narrow limit word n less e =
-    let (some, digits', below, value) = made (2 ^ 64) word n e in
-    is_number limit word digits' (ltb-true 0 (length word) some) (omega arith) ∙ ap Some value
-
--- and a number below a lesser limit, as one of 64 bits
-pub widen : (limit : ℕ) (word : List ℕ) (n : ℕ) → limit ≤ 2 ^ 64 → number_below limit word ≡ Some n → (number_below (2 ^ 64) word ≡ Some n) × (n < limit)
-widen limit word n le e =
-    let (some, digits', below, value) = made limit word n e in
-    let less : digits_value 10 word < limit = ltb-true (digits_value 10 word) limit below in (
-      is_number (2 ^ 64) word digits' (ltb-true 0 (length word) some) (omega arith) ∙ ap Some value,
-      omega arith,
-    )
-
--- a word that is no number of 64 bits below a limit
-pub none_below : (limit : ℕ) (word : List ℕ) (found : Option ℕ) → limit ≤ 2 ^ 64 → number_below limit word ≡ found → ((n : ℕ) → number_below (2 ^ 64) word ≡ Some n → n < limit → ⊥) → None ≡ number_below limit word
-none_below limit word None le e none = sym e
-none_below limit word (Some n) le e none = let (same, less) = widen limit word n le e in absurd (none n same less)
-
 -- what was parsed, as an option
 of_result : {T E : Type 0} (of : ℕ → T) (limit : ℕ) (word : List ℕ) (r : Result T E) → OkIff r ((all_ascii_digits word ≡ true) × (0 < length word) × (digits_value 10 word < limit)) (of (digits_value 10 word)) → result_ok r ≡ option_map of (number_below limit word)
 of_result of limit word (Ok z) h = ap Some h.1 ∙ sym (ap (option_map of) (is_number limit word h.0.0 h.0.1 h.0.2))

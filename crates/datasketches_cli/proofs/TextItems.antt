@@ -1,6 +1,5 @@
 -- Strings as items: a value for given bytes, and additions by bytes.
 
--- for each valid UTF-8 byte string there is a value of type `String` with these bytes. It exists in proofs alone, and needs no memory.
 use Rattle.std.proofs.Common.{◌≡◌, ◌≢◌, ◌<◌, ◌^◌, ℕ, Bool, cond, List, Option, None, Some, Result, Ok, Err, true, inl, inr, refl, sym, ◌∙◌, ap, length, arith}
 use Rattle.std.specs.Prelude.{⊤, IsErr, IsTrue, MatchOption}
 use Rattle.std.specs.Cmp.Lexicographic.{bytes_decides}
@@ -26,18 +25,17 @@ use Rattle.datasketches.specs.declared.sketch.Sketch.{Sketch}
 use Rattle.datasketches_cli.specs.Steps.{Did, DidByBytes, DidWith}
 use Rattle.datasketches_cli.specs.Texts.{Text, text_input}
 
-pub text_of_bytes : (bytes : List ℕ) → IsUtf8 bytes → length bytes < 2 ^ 63 → Global → (text : Text) × (string_bytes text ≡ bytes)
-text_of_bytes bytes utf8 small alloc = (
+-- for valid UTF-8 bytes there is a value of type `String` with these bytes, which a key of them names. It exists in proofs
+-- alone, and needs no memory
+pub text_named : (bytes : List ℕ) → IsUtf8 bytes → length bytes < 2 ^ 63 → Global → (text : Text) × (string_bytes text ≡ bytes) × IsTrue (bytes_eq bytes (string_bytes text))
+text_named bytes utf8 small alloc = (
   record {
     bytes = record { ptr = null_ptr; len = length bytes; cap = length bytes; alloc = alloc; items = bytes; ok = (refl, omega arith); small = small };
     ok = ∣ utf8 ∣₁;
   },
   refl,
+  (bytes_decides bytes bytes).1 refl,
 )
-
--- a key names the strings with its bytes
-pub names_text : (bytes : List ℕ) (text : Text) → string_bytes text ≡ bytes → IsTrue (bytes_eq bytes (string_bytes text))
-names_text bytes text same = (bytes_decides bytes (string_bytes text)).1 (sym same)
 
 -- ---- additions
 

@@ -5,7 +5,8 @@ use Rattle.std.specs.Io.BufRead.{take_through, drop_through, strip_last}
 use Rattle.std.specs.Io.KnownBytes.{Appends, IsAtEnd, prepend_known}
 use Rattle.std.specs.String.{string_bytes}
 use Rattle.std.proofs.lemmas.Bool.{false≢true}
-use Rattle.datasketches_cli.specs.Requests.{Answer, Request}
+use Rattle.datasketches_cli.specs.Requests.{Request}
+use Rattle.datasketches_cli.specs.declared.reply.Answer.{Answer}
 use Rattle.datasketches_cli.specs.declared.state.State.{State}
 use Rattle.datasketches_cli.specs.declared.serve.Ended.{Ended}
 use Rattle.datasketches_cli.specs.declared.serve.Ended.TheVariants.{All, BadLine}
@@ -62,7 +63,7 @@ passed (Some input) is now held holds gathered line state before (rest, e, text,
     (drop_through 10 rest, t'.2, text, told, λ ended more goes. leads ended more (rw (first_of rest line t'.0 t'.1) (inl (blank, goes))))
 
 -- a request was read, done and answered
-pub answered : (was is now held holds : Option (List ℕ)) (gathered gathered' line : List ℕ) (state after : State) (before : ℕ) (request : Request Text) (answer : Answer) → Midway was is held holds gathered state before → TakesLine true is now line → Says (text_of line) request → ServingStep state request answer after → gathered' ≡ gathered ++ answer_line answer → Midway was now held holds gathered' after (before + 1)
+pub answered : (was is now held holds : Option (List ℕ)) (gathered gathered' line : List ℕ) (state after : State) (before : ℕ) (request : Request) (answer : Answer) → Midway was is held holds gathered state before → TakesLine true is now line → Says (text_of line) request → ServingStep state request answer after → gathered' ≡ gathered ++ answer_line answer → Midway was now held holds gathered' after (before + 1)
 answered None is now held holds gathered gathered' line state after before request answer m t says step more = tt
 answered (Some input) is now held holds gathered gathered' line state after before request answer (rest, e, text, told, leads) t says step grown =
     let t' = rw e at t in

@@ -1,18 +1,19 @@
 -- Effects of the parts of the loop.
-use Rattle.std.specs.Prelude.{◌≡◌, ℕ, Bool, true, false, List, [], ◌++◌, Option, None, Some, IfSome}
+use Rattle.std.specs.Prelude.{◌≡◌, ℕ, Bool, true, false, List, [], ◌++◌, Option, None, Some, IfSome, Result, Ok, Err, ⊤}
 use Rattle.std.specs.Io.BufRead.{strip_last}
 use Rattle.std.specs.Io.KnownBytes.{Appends, IsAtEnd}
 use Rattle.std.specs.String.{string_bytes}
 use Rattle.datasketches_cli.specs.Asking.{Says, IsBad}
 use Rattle.datasketches_cli.specs.Grammar.{Spelled, IsBlank}
-use Rattle.datasketches_cli.specs.Texts.{Text}
 use Rattle.datasketches_cli.specs.declared.responder.Responder.{Responder}
 use Rattle.datasketches_cli.specs.declared.responder.LineOutcome.{LineOutcome}
 use Rattle.datasketches_cli.specs.declared.responder.LineOutcome.TheVariants as line
 use Rattle.datasketches_cli.specs.declared.serve.Ended.{Ended}
 use Rattle.datasketches_cli.specs.declared.serve.Ended.TheVariants.{All}
 use Rattle.datasketches_cli.specs.Reading.{TakesLine}
-use Rattle.datasketches_cli.specs.Requests.{Answer, Request, request_bytes}
+use Rattle.datasketches_cli.specs.Requests.{Request}
+use Rattle.datasketches_cli.specs.declared.reply.Answer.{Answer}
+use Rattle.datasketches_cli.specs.declared.state.State.{State}
 use Rattle.datasketches_cli.specs.Steps.{ServingStep}
 use Rattle.datasketches_cli.specs.Transcript.{answer_line, Serves}
 
@@ -21,7 +22,7 @@ abbrev pub WritesFront : Option (List ℕ) → Option (List ℕ) → List ℕ �
 WritesFront held holds gathered left = (front : List ℕ) × Appends held holds front × (gathered ≡ front ++ left)
 
 -- the request was done, and the line of its `Answer` was appended to the gathered replies
-abbrev pub HasAnswered : Request Text → Responder → Responder → Type 0
+abbrev pub HasAnswered : Request → Responder → Responder → Type 0
 HasAnswered request old new =
     (answer : Answer) × ServingStep old.state request answer new.state
     × (string_bytes new.replies ≡ string_bytes old.replies ++ answer_line answer)
@@ -30,21 +31,17 @@ HasAnswered request old new =
 abbrev pub IsIdle : Responder → Responder → Type 0
 IsIdle old new = (new.state ≡ old.state) × (string_bytes new.replies ≡ string_bytes old.replies)
 
--- the line of the answer was appended to the gathered replies, and nothing else was done
-abbrev pub HasReplied : Answer → Bool → Responder → Responder → Type 0
-HasReplied answer found old new =
-    (found ≡ true) × (new.state ≡ old.state) × (string_bytes new.replies ≡ string_bytes old.replies ++ answer_line answer)
-
--- the spelled request was done and answered; or there is none, and nothing was done
-abbrev pub Answers : Spelled → Bool → Responder → Responder → Type 0
-Answers (Some spelled) true old new = (request : Request Text) × (request_bytes request ≡ spelled) × HasAnswered request old new
-Answers None false old new = IsIdle old new
-Answers _ _ old new = ⊥
+-- the spelled request was run, with this answer, if memory did not run out; or there is none, and nothing was done
+abbrev pub Runs : {E : Type 0} → Spelled → State → Option (Result Answer E) → State → Type 0
+Runs (Some request) old (Some (Ok answer)) new = ServingStep old request answer new
+Runs (Some request) old (Some (Err e)) new = ⊤
+Runs None old None new = new ≡ old
+Runs _ old _ new = ⊥
 
 -- the outcome of the line
 abbrev pub IsAnswered : List ℕ → Responder → Responder → LineOutcome → Type 0
 IsAnswered text old new line.Blank = IsBlank text × IsIdle old new
-IsAnswered text old new line.Answered = (request : Request Text) × Says text request × HasAnswered request old new
+IsAnswered text old new line.Answered = (request : Request) × Says text request × HasAnswered request old new
 IsAnswered text old new line.Bad = IsBad text × IsIdle old new
 
 -- the outcome of the next line, or none if no input is left

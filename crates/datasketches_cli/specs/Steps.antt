@@ -5,6 +5,7 @@ use Rattle.std.specs.String.{string_bytes, string_eq}
 use Rattle.datasketches.specs.ErrorType.{ErrorType}
 use Rattle.datasketches.specs.Items.{text_codec}
 use Rattle.datasketches.specs.Actions.{Action}
+use Rattle.datasketches.specs.Actions as action
 use Rattle.datasketches.specs.Keyed.{PerformedByKey}
 use Rattle.datasketches.specs.Replies.{done_or}
 use Rattle.datasketches.specs.State.{SessionState}
@@ -17,7 +18,9 @@ use Rattle.heavy_windows.specs.Calls.{IsMade, IsAddition, IsTurn, IsReport}
 use Rattle.heavy_windows.specs.Errors.{ErrorValue}
 use Rattle.heavy_windows.specs.State.{WindowsState}
 use Rattle.heavy_windows.specs.declared.report.Report.{Report}
-use Rattle.datasketches_cli.specs.Requests.{Answer, Replied, Reported, Request, Act, OpenWindows, AddTo, TurnOf, ReportOf}
+use Rattle.datasketches_cli.specs.Requests.{Request, Act, OpenWindows, AddTo, TurnOf, ReportOf}
+use Rattle.datasketches_cli.specs.declared.reply.Answer.{Answer}
+use Rattle.datasketches_cli.specs.declared.reply.Answer.TheVariants.{Replied, Reported}
 use Rattle.datasketches_cli.specs.declared.state.State.{State}
 use Rattle.datasketches_cli.specs.Texts.{Text, text_input, text_slot}
 
@@ -59,19 +62,15 @@ ReportsOn tenant kind threshold None outcome = outcome ≡ Err NoSuchName
 ReportsOn tenant kind threshold (Some windows) outcome =
     (result : Result (Report Text) ErrorValue) × IsReport string_eq tenant kind threshold windows result × (outcome ≡ passed_on result)
 
--- the `Answer` to a request that succeeded or was rejected
-abbrev pub done_or_refused : Result ⊤ Refusal → Answer
-done_or_refused outcome = Replied (done_or outcome)
-
 -- the `Answer` to a request for a report, which succeeded or was rejected
 abbrev pub report_or_refused : Result (Report Text) Refusal → Answer
 report_or_refused (Ok report) = Reported report
 report_or_refused (Err refusal) = Replied (Refused refusal)
 
 -- a request on windows had this outcome, and left the session unchanged
-abbrev pub OfWindows : (Windows → Result ⊤ Refusal → Windows → Type 0) → State → Answer → State → Type 0
-OfWindows Does old given new =
-    (outcome : Result ⊤ Refusal) × Does old.windows outcome new.windows × (given ≡ done_or_refused outcome)
+abbrev pub OfWindows : (Windows → Result ⊤ Refusal → Windows → Type 0) → State → Reply Text → State → Type 0
+OfWindows Does old reply new =
+    (outcome : Result ⊤ Refusal) × Does old.windows outcome new.windows × (reply ≡ done_or outcome)
     × (new.session ≡ old.session)
 
 -- the session performed the action, with this reply
@@ -82,6 +81,27 @@ Did action old reply new = Performs text_slot string_eq text_input text_codec st
 abbrev pub DidWith : List ℕ → (Text → Action Text) → SessionState Text → Reply Text → SessionState Text → Type 0
 DidWith bytes action old reply new = (item : Text) × (string_bytes item ≡ bytes) × Did (action item) old reply new
 
+-- the session performed the action, with a string of the bytes of its item, if any
+abbrev pub DidSpelled : Action (List ℕ) → SessionState Text → Reply Text → SessionState Text → Type 0
+DidSpelled (action.Create name shape) old reply new = Did (action.Create name shape) old reply new
+DidSpelled (action.Alter name (action.Add item weight)) old reply new =
+    DidWith item (λ x. action.Alter name (action.Add x weight)) old reply new
+DidSpelled (action.Alter name (action.AddSigned item weight)) old reply new =
+    DidWith item (λ x. action.Alter name (action.AddSigned x weight)) old reply new
+DidSpelled (action.Alter name (action.Insert item)) old reply new =
+    DidWith item (λ x. action.Alter name (action.Insert x)) old reply new
+DidSpelled (action.Alter name action.Reset) old reply new = Did (action.Alter name action.Reset) old reply new
+DidSpelled (action.Alter name action.Halve) old reply new = Did (action.Alter name action.Halve) old reply new
+DidSpelled (action.Alter name (action.Decay n d)) old reply new = Did (action.Alter name (action.Decay n d)) old reply new
+DidSpelled (action.Combine into other join) old reply new = Did (action.Combine into other join) old reply new
+DidSpelled (action.Save name image) old reply new = Did (action.Save name image) old reply new
+DidSpelled (action.Restore image name) old reply new = Did (action.Restore image name) old reply new
+DidSpelled (action.Load name kind bytes max_bytes) old reply new = Did (action.Load name kind bytes max_bytes) old reply new
+DidSpelled (action.ShowImage image) old reply new = Did (action.ShowImage image) old reply new
+DidSpelled (action.Ask name item) old reply new = DidWith item (λ x. action.Ask name x) old reply new
+DidSpelled (action.GetStatus name) old reply new = Did (action.GetStatus name) old reply new
+DidSpelled (action.ListRows name kind threshold) old reply new = Did (action.ListRows name kind threshold) old reply new
+
 -- a string of these bytes was added, or there was no memory for it
 abbrev pub DidByBytes : List ℕ → List ℕ → ℕ → SessionState Text → Result ⊤ Refusal → SessionState Text → Type 0
 DidByBytes name bytes weight old result new =
@@ -89,12 +109,14 @@ DidByBytes name bytes weight old result new =
     old result new
 
 -- the effect of a request. An action is a step of the session; the others are calls on the windows
-abbrev pub ServingStep : State → Request Text → Answer → State → Type 0
-ServingStep old (Act action) given new =
-    (reply : Reply Text) × Did action old.session reply new.session × (given ≡ Replied reply) × (new.windows ≡ old.windows)
-ServingStep old (OpenWindows windows max_map_size) given new = OfWindows (Opens windows max_map_size) old given new
-ServingStep old (AddTo tenant weight item) given new = OfWindows (AddsTo tenant weight item) old given new
-ServingStep old (TurnOf tenant) given new = OfWindows (TurnsFor tenant) old given new
+abbrev pub ServingStep : State → Request → Answer → State → Type 0
+ServingStep old (Act action) (Replied reply) new =
+    DidSpelled action old.session reply new.session × (new.windows ≡ old.windows)
+ServingStep old (OpenWindows windows max_map_size) (Replied reply) new = OfWindows (Opens windows max_map_size) old reply new
+ServingStep old (AddTo tenant weight item) (Replied reply) new =
+    (x : Text) × (string_bytes x ≡ item) × OfWindows (AddsTo tenant weight x) old reply new
+ServingStep old (TurnOf tenant) (Replied reply) new = OfWindows (TurnsFor tenant) old reply new
 ServingStep old (ReportOf tenant kind threshold) given new =
     (outcome : Result (Report Text) Refusal) × ReportsOn tenant kind threshold old.windows outcome
     × (given ≡ report_or_refused outcome) × (new ≡ old)
+ServingStep old _ (Reported report) new = ⊥

@@ -7,8 +7,8 @@ use Rattle.std.specs.List.{slice_split}
 use Rattle.datasketches_cli.specs.declared.serve.Ended.{Ended}
 use Rattle.datasketches_cli.specs.declared.serve.Ended.TheVariants.{All, BadLine}
 use Rattle.datasketches_cli.specs.Printing.{answer_text}
-use Rattle.datasketches_cli.specs.Requests.{Answer, Request}
-use Rattle.datasketches_cli.specs.Texts.{Text}
+use Rattle.datasketches_cli.specs.Requests.{Request}
+use Rattle.datasketches_cli.specs.declared.reply.Answer.{Answer}
 use Rattle.datasketches_cli.specs.declared.state.State.{State}
 use Rattle.datasketches_cli.specs.Asking.{Says, IsBad}
 use Rattle.datasketches_cli.specs.Grammar.{IsBlank}
@@ -38,7 +38,7 @@ abbrev pub Transcript : ℕ → State → List (List ℕ) → Ended → List ℕ
 Transcript number state [] ended text = (ended ≡ All) × (text ≡ [])
 Transcript number state (line ∷ lines) ended text =
     (IsBlank line × Transcript (number + 1) state lines ended text)
-    ⊎ ((request : Request Text) × (answer : Answer) × (after : State) × (rest : List ℕ)
+    ⊎ ((request : Request) × (answer : Answer) × (after : State) × (rest : List ℕ)
     × Says line request × ServingStep state request answer after × (text ≡ answer_line answer ++ rest)
     × Transcript (number + 1) after lines ended rest)
     ⊎ (IsBad line × (ended ≡ BadLine number) × (text ≡ bad_line number))

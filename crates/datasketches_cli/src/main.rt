@@ -24,7 +24,6 @@ mod responder;
 mod serve;
 mod state;
 mod stopped;
-mod strings;
 mod verbs;
 
 use counted::Counted;

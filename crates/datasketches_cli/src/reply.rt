@@ -2,30 +2,37 @@
 ghost use Rattle.std.specs.Prelude.{◌≡◌, ◌++◌, OnOk, string_bytes, codes};
 ghost use Rattle.hex.specs.Hex.{encode_lower};
 ghost use Rattle.std.specs.List.{flat_map};
-ghost use Rattle.datasketches.specs.Replies.{done_or};
 ghost use Rattle.datasketches_cli.specs.Printing.{report_text, reply_text, status_text, row_text};
-ghost use Rattle.datasketches_cli.specs.Requests.{Replied};
 ghost use Rattle.datasketches_cli.specs.Transcript.{answer_line};
 
 use datasketches::frequencies::Row;
-use datasketches::{Refusal, Reply, Status};
+use datasketches::{Reply, Status};
 use heavy_windows::Report;
 use std::alloc::{AllocError, Global};
 use std::fmt::Write;
 
-/// Writes the line of the reply `Done`, or of `Refused` with the reason.
+/// The answer to a request.
+#[derive(Drop)]
+pub enum Answer {
+    /// The reply of the session, or `Done` or `Refused` for windows.
+    Replied(Reply<String>),
+    /// A report on windows.
+    Reported(Report<String>),
+}
+
+/// Writes the line of an answer.
 #[inline(always)]
-pub fn write_outcome(out: &mut String, outcome: Result<(), Refusal>) -> Result<(), AllocError>
-    ensures { OnOk result (string_bytes out.new ≡ string_bytes out.old ++ answer_line (Replied (done_or outcome))) }
+pub fn write_answer(alloc: Global, out: &mut String, answer: &Answer) -> Result<(), AllocError>
+    ensures { OnOk result (string_bytes out.new ≡ string_bytes out.old ++ answer_line answer.now) }
 {
-    match outcome {
-        Ok(()) => out.push_str("ok\n"),
-        Err(refusal) => writeln!(out, "refused {}", refusal.name()),
+    match answer {
+        Answer::Replied(reply) => write_reply(alloc, out, reply),
+        Answer::Reported(report) => write_report(out, report),
     }
 }
 
 /// Writes the line of a report on a tenant's windows.
-pub fn write_report(out: &mut String, report: &Report<String>) -> Result<(), AllocError>
+fn write_report(out: &mut String, report: &Report<String>) -> Result<(), AllocError>
     ensures { OnOk result (string_bytes out.new ≡ string_bytes out.old ++ (report_text report.now ++ codes "\n")) }
 {
     write!(
@@ -40,7 +47,7 @@ pub fn write_report(out: &mut String, report: &Report<String>) -> Result<(), All
 
 /// Writes the line of a reply.
 #[inline(always)]
-pub fn write_reply(alloc: Global, out: &mut String, reply: &Reply<String>) -> Result<(), AllocError>
+fn write_reply(alloc: Global, out: &mut String, reply: &Reply<String>) -> Result<(), AllocError>
     ensures { OnOk result (string_bytes out.new ≡ string_bytes out.old ++ (reply_text reply.now ++ codes "\n")) }
 {
     match reply {

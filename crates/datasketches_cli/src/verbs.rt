@@ -1,9 +1,342 @@
-//! The verbs of lines: each parses the words after it, calls the session or the windows, and gathers the reply.
+//! The verbs of lines: each parses the words after it, and calls the session or the windows.
 //!
 //! Names and items are slices of the line.
+ghost use Rattle.std.specs.Prelude.{◌≡◌, [], ◌∷◌, Some, Ok, OnErr, IsErr, IsTrue, IsSome, Err, IfOk, option_map};
+ghost use Rattle.std.specs.Char.{is_ascii_hexdigit};
+ghost use Rattle.std.specs.List.{list_all};
+ghost use Rattle.sketch_base.specs.Errors.{no_memory};
+ghost use Rattle.datasketches.specs.Actions as action;
+ghost use Rattle.datasketches.specs.Replies.{done_or, told};
+ghost use Rattle.datasketches_cli.specs.Grammar.{bytes_of_digits, load_of, plain_kind, request_of, seeded_kind};
+ghost use Rattle.datasketches_cli.specs.Parsing.{texts_of};
+ghost use Rattle.datasketches_cli.specs.Requests.{Request};
+ghost use Rattle.datasketches_cli.specs.Serving.{Runs};
 
-mod changes;
-mod images;
-mod queries;
-mod shapes;
-mod windows;
+use crate::keys::Keys;
+use crate::parse::number::{number_below, number_of, signed_number};
+use crate::parse::words::report_of;
+use crate::reply::Answer;
+use crate::state::{State, add, open, report, turn};
+use datasketches::error::Fault;
+use datasketches::{ImageKind, Refusal, Reply};
+use hex::FromHexError;
+use std::alloc::{AllocError, Global};
+
+impl State {
+    /// Runs the request of a line's words.
+    ///
+    /// Returns its answer, or `None` if the words are no request. `AllocError` if memory runs out outside the call.
+    #[inline(always)]
+    pub fn run(
+        &mut self,
+        alloc: Global,
+        keys: &Keys,
+        words: &[&str],
+    ) -> Option<Result<Answer, AllocError>>
+        ensures { Runs (request_of (texts_of words.now)) self.old result self.new }
+    {
+        match words {
+            [verb, a] => self.run_one(verb, a),
+            [verb, a, b] => self.run_two(alloc, keys, verb, a, b),
+            [verb, a, b, c] => self.run_three(alloc, verb, a, b, c),
+            [verb, a, b, c, d] => self.run_four(alloc, verb, a, b, c, d),
+            [verb, a, b, c, d, e] => self.run_five(alloc, verb, a, b, c, d, e),
+            _ => None,
+        }
+    }
+
+    /// Runs the request of a verb and one word.
+    fn run_one(&mut self, verb: &str, a: &str) -> Option<Result<Answer, AllocError>>
+        ensures { Runs (request_of (verb.now ∷ a.now ∷ [])) self.old result self.new }
+    {
+        match verb {
+            "reset" => done(self.session.reset(a)),
+            "halve" => done(self.session.halve(a)),
+            "image" => match self.session.image(a) {
+                Ok(bytes) => replied(Ok(Reply::Image(bytes))),
+                Err(refusal) => done(Err(refusal)),
+            },
+            "status" => match self.session.status(a) {
+                Ok(status) => replied(Ok(Reply::Status(status))),
+                Err(refusal) => done(Err(refusal)),
+            },
+            "hturn" => done(turn(&mut self.windows, number_of(a)?)),
+            _ => None,
+        }
+    }
+
+    /// Runs the request of a verb and two words.
+    #[inline(always)]
+    fn run_two(
+        &mut self,
+        alloc: Global,
+        keys: &Keys,
+        verb: &str,
+        a: &str,
+        b: &str,
+    ) -> Option<Result<Answer, AllocError>>
+        ensures { Runs (request_of (verb.now ∷ a.now ∷ b.now ∷ [])) self.old result self.new }
+    {
+        match verb {
+            "insert" => done(self.session.insert(a, b)),
+            "ask" => replied(self.session.ask(a, b)),
+            "frequent" => {
+                let max_map_size = number_of(b)? as usize;
+                done(self.session.create_frequent_items(a, max_map_size))
+            }
+            "merge" => done(self.session.merge(a, b)),
+            "union" => done(self.session.union(a, b)),
+            "intersect" => done(self.session.intersect(a, b)),
+            "difference" => done(self.session.difference(a, b)),
+            "save" => done(self.session.save(a, b)),
+            "restore" => done(self.session.restore(a, b)),
+            "windows" => {
+                let windows = number_of(a)?;
+                let max_map_size = number_of(b)?;
+                done(open(alloc, keys, &mut self.windows, windows, max_map_size))
+            }
+            _ => None,
+        }
+    }
+
+    /// Runs the request of a verb and three words.
+    #[inline(always)]
+    fn run_three(
+        &mut self,
+        alloc: Global,
+        verb: &str,
+        a: &str,
+        b: &str,
+        c: &str,
+    ) -> Option<Result<Answer, AllocError>>
+        ensures { Runs (request_of (verb.now ∷ a.now ∷ b.now ∷ c.now ∷ [])) self.old result self.new }
+    {
+        match verb {
+            "add" => self.add(alloc, a, number_of(b)?, c),
+            "adds" => {
+                let weight = signed_number(b)?;
+                done(self.session.add_signed(a, c, weight))
+            }
+            "sampled" => {
+                let max_map_size = number_of(b)? as usize;
+                let sample_size = number_of(c)? as usize;
+                let session = &mut self.session;
+                done(session.create_frequent_items_sampled(a, max_map_size, sample_size))
+            }
+            "decay" => {
+                let numerator = number_of(b)?;
+                let denominator = number_of(c)?;
+                done(self.session.decay(a, numerator, denominator))
+            }
+            "rows" => {
+                let error_type = report_of(b)?;
+                match self.session.rows(a, error_type, number_of(c)?) {
+                    Ok(rows) => replied(Ok(Reply::Rows(rows))),
+                    Err(refusal) => done(Err(refusal)),
+                }
+            }
+            "hadd" => {
+                let tenant = number_of(a)?;
+                let weight = number_of(b)?;
+                match String::from_str(alloc, c) {
+                    Ok(item) => done(add(&mut self.windows, tenant, weight, item)),
+                    Err(e) => Some(Err(e)),
+                }
+            }
+            "hreport" => {
+                let tenant = number_of(a)?;
+                let error_type = report_of(b)?;
+                match report(&self.windows, tenant, error_type, number_of(c)?) {
+                    Ok(report) => Some(Ok(Answer::Reported(report))),
+                    Err(refusal) => done(Err(refusal)),
+                }
+            }
+            _ => None,
+        }
+    }
+
+    /// Runs the request of a verb and four words.
+    fn run_four(
+        &mut self,
+        alloc: Global,
+        verb: &str,
+        a: &str,
+        b: &str,
+        c: &str,
+        d: &str,
+    ) -> Option<Result<Answer, AllocError>>
+        ensures { Runs (request_of (verb.now ∷ a.now ∷ b.now ∷ c.now ∷ d.now ∷ [])) self.old result self.new }
+    {
+        match verb {
+            "counti" => {
+                let num_hashes = number_below(b, 1 << 8)? as u8;
+                let num_buckets = number_below(c, 1 << 32)? as u32;
+                let seed = number_of(d)?;
+                let session = &mut self.session;
+                done(session.create_count_min_i64(a, num_hashes, num_buckets, seed))
+            }
+            "countu" => {
+                let num_hashes = number_below(b, 1 << 8)? as u8;
+                let num_buckets = number_below(c, 1 << 32)? as u32;
+                let seed = number_of(d)?;
+                let session = &mut self.session;
+                done(session.create_count_min_u64(a, num_hashes, num_buckets, seed))
+            }
+            "bloom" => {
+                let num_bits = number_of(b)?;
+                let num_hashes = number_below(c, 1 << 16)? as u16;
+                let seed = number_of(d)?;
+                let session = &mut self.session;
+                done(session.create_bloom_filter(a, num_bits, num_hashes, seed))
+            }
+            "load" => self.load(alloc, a, plain_kind(b), c, d),
+            _ => None,
+        }
+    }
+
+    /// Runs the request of a verb and five words.
+    fn run_five(
+        &mut self,
+        alloc: Global,
+        verb: &str,
+        a: &str,
+        b: &str,
+        c: &str,
+        d: &str,
+        e: &str,
+    ) -> Option<Result<Answer, AllocError>>
+        ensures { Runs (request_of (verb.now ∷ a.now ∷ b.now ∷ c.now ∷ d.now ∷ e.now ∷ [])) self.old result self.new }
+    {
+        match verb {
+            "load" => {
+                let seed = number_of(d)?;
+                self.load(alloc, a, seeded_kind(b, seed), c, e)
+            }
+            _ => None,
+        }
+    }
+
+    /// Adds a string with a weight. It is copied only if a sketch has to keep it.
+    #[inline(always)]
+    fn add(
+        &mut self,
+        alloc: Global,
+        name: &str,
+        weight: u64,
+        item: &str,
+    ) -> Option<Result<Answer, AllocError>>
+        ensures { Runs (Some (Request.Act (action.Alter name.now (action.Add item.now weight)))) self.old result self.new }
+    {
+        let outcome = self.session.add_by_key(name, item, weight);
+        if is_out_of_memory(&outcome) {
+            // the error of the copy ends the run, and that of a table that must double is a reply
+            return match String::from_str(alloc, item) {
+                Ok(item) => done(self.session.add(name, item, weight)),
+                Err(e) => Some(Err(e)),
+            };
+        }
+        done(outcome)
+    }
+
+    /// Creates a sketch from the bytes that digits spell.
+    fn load(
+        &mut self,
+        alloc: Global,
+        name: &str,
+        kind: Option<ImageKind>,
+        max_bytes: &str,
+        digits: &str,
+    ) -> Option<Result<Answer, AllocError>>
+        ensures { Runs (load_of name.now kind max_bytes.now digits.now) self.old result self.new }
+    {
+        let kind = kind?;
+        let max_bytes = number_of(max_bytes)? as usize;
+        match bytes_of(alloc, digits) {
+            Ok(Some(image)) => done(self.session.load(name, kind, &image, max_bytes)),
+            Ok(None) => None,
+            Err(e) => Some(Err(e)),
+        }
+    }
+}
+
+/// Returns the answer to a request that was done or rejected.
+#[inline(always)]
+fn done(outcome: Result<(), Refusal>) -> Option<Result<Answer, AllocError>>
+    ensures { result ≡ Some (Ok (Answer.Replied (done_or outcome))) }
+{
+    Some(Ok(Answer::Replied(Reply::from_outcome(outcome))))
+}
+
+/// Returns the answer to a request that was replied to or rejected.
+#[inline(always)]
+fn replied(given: Result<Reply<String>, Refusal>) -> Option<Result<Answer, AllocError>>
+    ensures { result ≡ Some (Ok (Answer.Replied (told given))) }
+{
+    match given {
+        Ok(reply) => Some(Ok(Answer::Replied(reply))),
+        Err(refusal) => Some(Ok(Answer::Replied(Reply::Refused(refusal)))),
+    }
+}
+
+/// Returns whether a call ran out of memory.
+fn is_out_of_memory(outcome: &Result<(), Refusal>) -> bool
+    ensures rejected { IsTrue result → IsErr outcome.now }
+    ensures memory { outcome.now ≡ Err (Refusal.Call no_memory) → IsTrue result }
+{
+    match outcome {
+        Err(Refusal::Call(error)) => error.fault() == Fault::NoMemory,
+        _ => false,
+    }
+}
+
+/// Parses the kind of an image that is read without a seed.
+fn plain_kind(word: &str) -> Option<ImageKind>
+    ensures { result ≡ plain_kind word.now }
+{
+    match word {
+        "frequent" => Some(ImageKind::Frequent),
+        "bloom" => Some(ImageKind::Bloom),
+        _ => None,
+    }
+}
+
+/// Parses the kind of an image that is read under a seed.
+fn seeded_kind(word: &str, seed: u64) -> Option<ImageKind>
+    ensures { result ≡ seeded_kind word.now seed }
+{
+    match word {
+        "counti" => Some(ImageKind::CountI64 { seed }),
+        "countu" => Some(ImageKind::CountU64 { seed }),
+        _ => None,
+    }
+}
+
+/// Returns the bytes of a word's hexadecimal digits, or `None` if it is not such digits.
+///
+/// # Errors
+///
+/// `AllocError` if the bytes cannot be allocated. Bad digits are never an error.
+fn bytes_of(alloc: Global, digits: &str) -> Result<Option<Vec<u8>>, AllocError>
+    ensures made { IfOk result (λ found. option_map (λ bytes. bytes.items) found ≡ bytes_of_digits digits.now) }
+    ensures memory { OnErr result (IsSome (bytes_of_digits digits.now)) }
+{
+    if digits == "-" {
+        return Ok(Some(Vec::new(alloc)));
+    }
+    // `decode` allocates before it reads the digits
+    if !are_digits(digits) {
+        return Ok(None);
+    }
+    match hex::decode(alloc, digits) {
+        Ok(bytes) => Ok(Some(bytes)),
+        Err(FromHexError::OutOfMemory) => Err(AllocError),
+        Err(_) => Ok(None),
+    }
+}
+
+/// Returns whether each byte of a word is a hexadecimal digit.
+fn are_digits(word: &str) -> bool
+    ensures { result ≡ list_all is_ascii_hexdigit word.now }
+{
+    word.as_bytes().iter().all(|byte| byte.is_ascii_hexdigit())
+}

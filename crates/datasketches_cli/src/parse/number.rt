@@ -1,5 +1,5 @@
 //! Parses numbers.
-ghost use Rattle.std.specs.Prelude.{◌≡◌, ◌^◌, [], ◌∷◌};
+ghost use Rattle.std.specs.Prelude.{◌≡◌, ◌<◌, ◌^◌, [], ◌∷◌, IfSome};
 ghost use Rattle.datasketches_cli.specs.Grammar.{number_below, signed_number};
 
 /// Parses a word of decimal digits as a number of 64 bits.
@@ -28,43 +28,15 @@ fn digit_of(byte: u8) -> Option<u64>
     }
 }
 
-/// Parses a word of decimal digits as a number of 8 bits.
-pub fn number_of_u8(word: &str) -> Option<u8>
-    ensures { result ≡ number_below (2 ^ 8) word.now }
+/// Parses a word of decimal digits as a number below a limit.
+pub fn number_below(word: &str, limit: u64) -> Option<u64>
+    ensures number { result ≡ number_below limit word.now }
+    ensures below { IfSome result (λ number. number < limit) }
 {
-    let Some(number) = number_of(word) else {
-        return None;
-    };
-    if number > 0xff {
-        return None;
+    match number_of(word) {
+        Some(number) if number < limit => Some(number),
+        _ => None,
     }
-    Some(number as u8)
-}
-
-/// Parses a word of decimal digits as a number of 16 bits.
-pub fn number_of_u16(word: &str) -> Option<u16>
-    ensures { result ≡ number_below (2 ^ 16) word.now }
-{
-    let Some(number) = number_of(word) else {
-        return None;
-    };
-    if number > 0xffff {
-        return None;
-    }
-    Some(number as u16)
-}
-
-/// Parses a word of decimal digits as a number of 32 bits.
-pub fn number_of_u32(word: &str) -> Option<u32>
-    ensures { result ≡ number_below (2 ^ 32) word.now }
-{
-    let Some(number) = number_of(word) else {
-        return None;
-    };
-    if number > 0xffffffff {
-        return None;
-    }
-    Some(number as u32)
 }
 
 /// Parses a word of decimal digits, after a minus sign if any, as a signed number of 64 bits.

@@ -1,7 +1,7 @@
 use Rattle.std.proofs.Common.{◌≡◌, ◌%◌, length, sym, ◌∙◌, inl, inr, arith}
 use Rattle.std.proofs.lemmas.Bool.{cases_eq}
 use Rattle.datasketches_cli.proofs.Digits.{some_bytes, no_bytes}
-use Rattle.datasketches_cli.proofs.verbs.images.bytes_of.Goals as goal
+use Rattle.datasketches_cli.proofs.verbs.bytes_of.Goals as goal
 
 pub returns-then-not-are_digits-clause-made : goal.returns-then-not-are_digits-clause-made
 returns-then-not-are_digits-clause-made c = sym (no_bytes c.args.digits.now (sym c.eq.ensures ∙ c.if-eq.false) (sym c.are_digits.ensures ∙ c.if-not-are_digits.true))

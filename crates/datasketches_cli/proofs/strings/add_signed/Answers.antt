@@ -1,9 +1,0 @@
-use mir.Facts.{to_z-of_z}
-use Rattle.std.proofs.Common.{arith}
-use Rattle.datasketches_cli.proofs.TextItems.{text_of_bytes, names_text}
-use Rattle.datasketches_cli.proofs.strings.add_signed.Goals as goal
-
-pub returns : goal.returns
-returns c =
-    let made = text_of_bytes c.args.item.now c.utf8.item (omega arith) c.args._alloc in
-    (made.0, made.1, rw (to_z-of_z c.ranges.weight) at ((c.add_signed.ensures made.0 (names_text c.args.item.now made.0 made.1)).step))
