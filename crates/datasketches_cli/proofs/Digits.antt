@@ -17,11 +17,11 @@ use Rattle.std.specs.declared.vec.Vec.{Vec}
 use Rattle.hex.specs.Hex.{IsBytes, decode_of, encode_lower, encode_with, is_hex_digit, lower_digits}
 use Rattle.hex.specs.declared.error.FromHexError.{FromHexError}
 use Rattle.hex.proofs.HexLemmas.{decode_of-digits, decode_of-encode_lower, decode_of-ok, decode_of-same}
+use Rattle.datasketches.specs.Actions.{Shape}
 use Rattle.datasketches.specs.Actions as action
+use Rattle.datasketches.specs.CountMinSizes.{CountMinSizes}
 use Rattle.datasketches.specs.declared.image_kind.ImageKind.{ImageKind}
-use Rattle.datasketches.specs.declared.shape.Shape.{Shape}
-use Rattle.datasketches.specs.declared.shape.Shape.TheVariants as shape
-use Rattle.datasketches_cli.specs.Grammar.{Spelled, bytes_of_digits, number, number_below, signed_number, report_of, plain_kind, seeded_kind, counts_of, load_of, one_word, two_words, three_words, four_words, five_words, request_of, split_words}
+use Rattle.datasketches_cli.specs.Grammar.{Spelled, bytes_of_digits, number, number_below, signed_number, report_of, plain_kind, seeded_kind, count_min_sizes, counts_of, load_of, one_word, two_words, three_words, four_words, five_words, request_of, split_words}
 use Rattle.datasketches_cli.specs.Laws.{IsShownAs, LoadsWhatWasShown, DigitsMakeWhatWasShown}
 use Rattle.datasketches_cli.specs.Requests.{Request, Act}
 
@@ -151,8 +151,8 @@ load_loads name kind max digits d same =
     subst (λ (l : List ℕ). LoadsBytes (load_of name kind max digits) l) same
     (chained _ digits (λ k. chained _ digits (λ m. bytes_case name k m digits (bytes_of_digits digits) refl) (number max)) kind)
 
-counts_loads : (of : ℕ → ℕ → ℕ → Shape) (name hashes buckets seed d : List ℕ) → LoadsBytes (counts_of of name hashes buckets seed) d
-counts_loads of name hashes buckets seed d = chained _ d (λ h. chained _ d (λ b. mapped _ d (λ s. tt) (number seed)) (number_below (2 ^ 32) buckets)) (number_below (2 ^ 8) hashes)
+counts_loads : (of : CountMinSizes → Shape) (name hashes buckets seed d : List ℕ) → LoadsBytes (counts_of of name hashes buckets seed) d
+counts_loads of name hashes buckets seed d = mapped _ d (λ sizes. tt) (count_min_sizes hashes buckets seed)
 
 module _ {X : Type 0} (apply : X → Spelled) (d : List ℕ) where
   abbrev AllLoad : List (List ℕ × X) → Type 0
@@ -196,9 +196,9 @@ request_loads (v ∷ a ∷ b ∷ c ∷ []) d last =
       ),
     )
 request_loads (v ∷ a ∷ b ∷ c ∷ e ∷ []) d last = found_loads (λ s. s a b c e) d (bytes_eq v) four_words (
-  counts_loads shape.CountI64 a b c e d,
+  counts_loads action.CountI64 a b c e d,
   (
-    counts_loads shape.CountU64 a b c e d,
+    counts_loads action.CountU64 a b c e d,
     (
       chained _ d (λ m. chained _ d (λ h. mapped _ d (λ s. tt) (number e)) (number_below (2 ^ 16) c)) (number b),
       (load_loads a (plain_kind b) c e d last, tt),

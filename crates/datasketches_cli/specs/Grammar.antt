@@ -8,14 +8,13 @@ use Rattle.std.specs.Str.Parse.{digits_value}
 use Rattle.hex.specs.Hex.{decode_of}
 use Rattle.sketch_base.specs.Split.{words_by}
 use Rattle.sketch_base.specs.declared.separator.Separator.TheVariants.{Space}
+use Rattle.datasketches.specs.Actions.{Shape}
 use Rattle.datasketches.specs.Actions as action
+use Rattle.datasketches.specs.CountMinSizes.{CountMinSizes}
 use Rattle.datasketches.specs.ErrorType.{ErrorType}
 use Rattle.datasketches.specs.ErrorType.TheVariants.{NoFalseNegatives, NoFalsePositives}
 use Rattle.datasketches.specs.declared.image_kind.ImageKind.{ImageKind}
 use Rattle.datasketches.specs.declared.image_kind.ImageKind.TheVariants as kind
-use Rattle.datasketches.specs.declared.join.Join.TheVariants as join
-use Rattle.datasketches.specs.declared.shape.Shape.{Shape}
-use Rattle.datasketches.specs.declared.shape.Shape.TheVariants as shape
 use Rattle.datasketches_cli.specs.Requests.{Request, Act, OpenWindows, AddTo, TurnOf, ReportOf}
 
 -- the words of a line: the nonempty parts between its spaces
@@ -63,11 +62,16 @@ seeded_kind word seed =
 abbrev pub Spelled : Type 0
 Spelled = Option Request
 
--- the words of a verb that creates a Count-Min sketch
-abbrev pub counts_of : (ℕ → ℕ → ℕ → Shape) → (name hashes buckets seed : List ℕ) → Spelled
-counts_of shape name hashes buckets seed =
-    option_and_then (λ h. option_and_then (λ b. option_map (λ s. Act (action.Create name (shape h b s))) (number seed))
+-- the sizes and the seed of a Count-Min sketch that three words spell
+abbrev pub count_min_sizes : (hashes buckets seed : List ℕ) → Option CountMinSizes
+count_min_sizes hashes buckets seed =
+    option_and_then (λ h. option_and_then (λ b. option_map (λ s. record { num_hashes = h; num_buckets = b; seed = s }) (number seed))
     (number_below (2 ^ 32) buckets)) (number_below (2 ^ 8) hashes)
+
+-- the words of a verb that creates a Count-Min sketch
+abbrev pub counts_of : (CountMinSizes → Shape) → (name hashes buckets seed : List ℕ) → Spelled
+counts_of shape name hashes buckets seed =
+    option_map (λ sizes. Act (action.Create name (shape sizes))) (count_min_sizes hashes buckets seed)
 
 -- the words of a load
 abbrev pub load_of : (name : List ℕ) → Option ImageKind → (max digits : List ℕ) → Spelled
@@ -89,11 +93,11 @@ abbrev pub two_words : List (List ℕ × (List ℕ → List ℕ → Spelled))
 two_words =
     (codes "insert", λ name item. Some (Act (action.Alter name (action.Insert item))))
     ∷ (codes "ask", λ name item. Some (Act (action.Ask name item)))
-    ∷ (codes "frequent", λ name max. option_map (λ m. Act (action.Create name (shape.Frequent m))) (number max))
-    ∷ (codes "merge", λ into other. Some (Act (action.Combine into other join.Merge)))
-    ∷ (codes "union", λ into other. Some (Act (action.Combine into other join.Union)))
-    ∷ (codes "intersect", λ into other. Some (Act (action.Combine into other join.Intersect)))
-    ∷ (codes "difference", λ into other. Some (Act (action.Combine into other join.Difference)))
+    ∷ (codes "frequent", λ name max. option_map (λ m. Act (action.Create name (action.Frequent (action.usual_sizes m)))) (number max))
+    ∷ (codes "merge", λ into other. Some (Act (action.Combine into other action.Merge)))
+    ∷ (codes "union", λ into other. Some (Act (action.Combine into other action.Union)))
+    ∷ (codes "intersect", λ into other. Some (Act (action.Combine into other action.Intersect)))
+    ∷ (codes "difference", λ into other. Some (Act (action.Combine into other action.Difference)))
     ∷ (codes "save", λ name image. Some (Act (action.Save name image)))
     ∷ (codes "restore", λ image name. Some (Act (action.Restore image name)))
     ∷ (codes "windows", λ windows max. option_and_then (λ w. option_map (OpenWindows w) (number max)) (number windows)) ∷ []
@@ -104,8 +108,8 @@ three_words =
     ∷ (codes "adds", λ name weight item. option_map (λ w. Act (action.Alter name (action.AddSigned item w))) (signed_number weight))
     ∷ (
       codes "sampled",
-      λ name max sample. option_and_then (λ m. option_map (λ n. Act (action.Create name (shape.FrequentSampled m n)))
-          (number sample)) (number max),
+      λ name max sample. option_and_then (λ m. option_map (λ n.
+          Act (action.Create name (action.Frequent (record { max_map_size = m; sample_size = n })))) (number sample)) (number max),
     )
     ∷ (
       codes "decay",
@@ -126,12 +130,13 @@ three_words =
 
 abbrev pub four_words : List (List ℕ × (List ℕ → List ℕ → List ℕ → List ℕ → Spelled))
 four_words =
-    (codes "counti", counts_of shape.CountI64)
-    ∷ (codes "countu", counts_of shape.CountU64)
+    (codes "counti", counts_of action.CountI64)
+    ∷ (codes "countu", counts_of action.CountU64)
     ∷ (
       codes "bloom",
       λ name bits hashes seed. option_and_then (λ b. option_and_then (λ h.
-          option_map (λ s. Act (action.Create name (shape.Bloom b h s))) (number seed)) (number_below (2 ^ 16) hashes)) (number bits),
+          option_map (λ s. Act (action.Create name (action.Bloom (record { num_bits = b; num_hashes = h; seed = s }))))
+          (number seed)) (number_below (2 ^ 16) hashes)) (number bits),
     )
     ∷ (codes "load", λ name kind max digits. load_of name (plain_kind kind) max digits) ∷ []
 

@@ -7,7 +7,7 @@ ghost use Rattle.std.specs.List.{list_all};
 ghost use Rattle.sketch_base.specs.Errors.{no_memory};
 ghost use Rattle.datasketches.specs.Actions as action;
 ghost use Rattle.datasketches.specs.Replies.{done_or, told};
-ghost use Rattle.datasketches_cli.specs.Grammar.{bytes_of_digits, load_of, plain_kind, request_of, seeded_kind};
+ghost use Rattle.datasketches_cli.specs.Grammar.{bytes_of_digits, count_min_sizes, load_of, plain_kind, request_of, seeded_kind};
 ghost use Rattle.datasketches_cli.specs.Parsing.{texts_of};
 ghost use Rattle.datasketches_cli.specs.Requests.{Request};
 ghost use Rattle.datasketches_cli.specs.Serving.{Runs};
@@ -17,7 +17,10 @@ use crate::parse::number::{number_below, number_of, signed_number};
 use crate::parse::words::report_of;
 use crate::reply::Answer;
 use crate::state::{State, add, open, report, turn};
+use datasketches::bloom::BloomFilterBuilder;
+use datasketches::countmin::CountMinSizes;
 use datasketches::error::Fault;
+use datasketches::frequencies::FrequentItemsSizes;
 use datasketches::{ImageKind, Refusal, Reply};
 use hex::FromHexError;
 use std::alloc::{AllocError, Global};
@@ -120,8 +123,11 @@ impl State {
             "sampled" => {
                 let max_map_size = number_of(b)? as usize;
                 let sample_size = number_of(c)? as usize;
-                let session = &mut self.session;
-                done(session.create_frequent_items_sampled(a, max_map_size, sample_size))
+                let sizes = FrequentItemsSizes {
+                    max_map_size,
+                    sample_size,
+                };
+                done(self.session.create_frequent_items_with_sizes(a, sizes))
             }
             "decay" => {
                 let numerator = number_of(b)?;
@@ -169,25 +175,22 @@ impl State {
     {
         match verb {
             "counti" => {
-                let num_hashes = number_below(b, 1 << 8)? as u8;
-                let num_buckets = number_below(c, 1 << 32)? as u32;
-                let seed = number_of(d)?;
-                let session = &mut self.session;
-                done(session.create_count_min_i64(a, num_hashes, num_buckets, seed))
+                done(
+                    self.session
+                        .create_count_min_i64(a, count_min_sizes(b, c, d)?),
+                )
             }
             "countu" => {
-                let num_hashes = number_below(b, 1 << 8)? as u8;
-                let num_buckets = number_below(c, 1 << 32)? as u32;
-                let seed = number_of(d)?;
-                let session = &mut self.session;
-                done(session.create_count_min_u64(a, num_hashes, num_buckets, seed))
+                done(
+                    self.session
+                        .create_count_min_u64(a, count_min_sizes(b, c, d)?),
+                )
             }
             "bloom" => {
                 let num_bits = number_of(b)?;
                 let num_hashes = number_below(c, 1 << 16)? as u16;
-                let seed = number_of(d)?;
-                let session = &mut self.session;
-                done(session.create_bloom_filter(a, num_bits, num_hashes, seed))
+                let sizes = BloomFilterBuilder::with_size(num_bits, num_hashes).seed(number_of(d)?);
+                done(self.session.create_bloom_filter(a, sizes))
             }
             "load" => self.load(alloc, a, plain_kind(b), c, d),
             _ => None,
@@ -287,6 +290,17 @@ fn is_out_of_memory(outcome: &Result<(), Refusal>) -> bool
         Err(Refusal::Call(error)) => error.fault() == Fault::NoMemory,
         _ => false,
     }
+}
+
+/// Parses the sizes and the seed of a Count-Min sketch.
+fn count_min_sizes(num_hashes: &str, num_buckets: &str, seed: &str) -> Option<CountMinSizes>
+    ensures { result ≡ count_min_sizes num_hashes.now num_buckets.now seed.now }
+{
+    Some(CountMinSizes {
+        num_hashes: number_below(num_hashes, 1 << 8)? as u8,
+        num_buckets: number_below(num_buckets, 1 << 32)? as u32,
+        seed: number_of(seed)?,
+    })
 }
 
 /// Parses the kind of an image that is read without a seed.
