@@ -138,9 +138,6 @@ module _ {T C : Type 0} (slot : ℕ) (eq : T → T → Bool) (input : T → List
 
   -- ---- an image that is restored
 
-  pub restores_none : (image name : List ℕ) (old : SessionState T) → at_name image old.images ≡ None → Did (Restore image name) old (Refused NoSuchName) old
-  restores_none image name old none = by_parts_alone (Restore image name) old old (Refused NoSuchName) refl (rw none (record { sketches = λ _. refl; images = λ _. refl }, refl))
-
   pub restores_taken : (image name : List ℕ) (seen old : SessionState T) (saved : Image) → seen ≡ old → at_name image old.images ≡ Some saved → (sketch : Sketch T) × (at_name name seen.sketches ≡ Some sketch) → Did (Restore image name) old (Refused NameTaken) old
   restores_taken image name seen old saved same found (sketch, taken) =
       let here = subst (λ (s : SessionState T). at_name image s.images ≡ Some saved) (sym same) found in

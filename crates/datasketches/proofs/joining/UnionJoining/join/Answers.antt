@@ -1,0 +1,13 @@
+use Rattle.sketch_bloom.specs.State.{united}
+use Rattle.datasketches.proofs.FilterJoins.{filter_joined, filter_refused}
+use Rattle.datasketches.proofs.joining.UnionJoining.join.Goals as goal
+
+pub returns-in_err-union-clause-own : goal.returns-in_err-union-clause-own
+returns-in_err-union-clause-own g c =
+    let e = c.in_err-union.ensures in
+    rw (c.in-Bloom.is, c.in-Bloom-sketch.is) (filter_refused united _ _ _ c.from_residual.result _ c.from_residual.ensures.1 e.refused e.accepted e.err)
+
+pub returns-clause-own : goal.returns-clause-own
+returns-clause-own g c =
+    let e = c.in_ok-union.ensures in
+    rw (c.in-Bloom.is, c.in-Bloom-sketch.is) (filter_joined united _ _ _ e.accepted e.ok)
