@@ -148,8 +148,8 @@ inserts_one old placed words added p l before =
     not_one n l e = grind (arith, nat_tests)
 
 -- what the code computes of the running sum is the next position
-pub place_is : (capacity all h0 h1 i hash index : ℕ) → capacity ≡ all → hash ≡ (h0 + i * h1) % 2 ^ 64 → index ≡ (hash + h1) % 2 ^ 64 / 2 % capacity → index ≡ position all h0 h1 (i + 1)
-place_is capacity all h0 h1 i hash index same e p = p ∙ (λ k. running_sum h0 h1 i hash e k / 2 % same k)
+pub place_is : (capacity h0 h1 i hash index : ℕ) → hash ≡ (h0 + i * h1) % 2 ^ 64 → index ≡ (hash + h1) % 2 ^ 64 / 2 % capacity → index ≡ position capacity h0 h1 (i + 1)
+place_is capacity h0 h1 i hash index e p = p ∙ ap (λ n. n / 2 % capacity) (running_sum h0 h1 i hash e)
 
 -- the bit at a number's index says whether it stands in the words
 pub reads_unset : (words : List ℕ) (p : ℕ) → bit_and (get_or words (p / 64) 0 / 2 ^ (p % 64)) 1 ≡ 0 → set.contains (set_of words) p ≡ false

@@ -1,13 +1,15 @@
 -- What holds of bits and of a filter, from what holds of their fields.
-use Rattle.std.proofs.Common.{◌≡◌, ℕ, ◌^◌, ◌<◌, ◌≤◌, List, length, replicate, sym, ap, subst, ◌∙◌, arith}
+use Rattle.std.proofs.Common.{◌≡◌, ℕ, ◌+◌, ◌*◌, ◌/◌, ◌%◌, ◌^◌, ◌<◌, ◌≤◌, List, length, replicate, sym, ap, subst, ◌∙◌, arith}
 use Rattle.std.proofs.lemmas.List.{length-replicate, with_items_is}
 use Rattle.std.specs.Global.{Vec}
 use Rattle.std.specs.Vec.{with_items}
 use Rattle.std.specs.FinSet as set
 use Rattle.sketch_bloom.specs.BitSet.{set_of}
 use Rattle.sketch_bloom.specs.Fields.{AreBits, state_of}
-use Rattle.sketch_bloom.specs.State.{IsFilterState, empty_state}
+use Rattle.sketch_bloom.specs.Positions.{position}
+use Rattle.sketch_bloom.specs.State.{FilterState, IsFilterState, capacity_of, empty_state}
 use Rattle.sketch_bloom.proofs.Counting.{len-set_of-le}
+use Rattle.sketch_bloom.proofs.Placing.{place_is}
 use Rattle.sketch_bloom.proofs.Members.{below_capacity, set_of-zeros, zero_everywhere}
 
 -- what holds of the state that bits show
@@ -36,6 +38,20 @@ written_state v new capacity num_hashes seed b len =
 pub written_few : (v : Vec ℕ) (new : List ℕ) → length v.items ≤ 2147483647 → length new ≡ length v.items → set.len (set_of (with_items v new).items) < 2 ^ 64
 written_few v new few len =
     subst (λ (words : List ℕ). set.len (set_of words) < 2 ^ 64) (sym (with_items_is v new (len ∙ sym v.ok.0))) (omega (arith, len-set_of-le new))
+
+-- what bits show of a state
+module _ (words : List ℕ) (capacity num_hashes seed : ℕ) (s : FilterState) (b : AreBits words capacity num_hashes) (is : state_of words num_hashes seed ≡ s) where
+  -- its set
+  pub shown_set : (p : ℕ) → set.contains s.set p ≡ set.contains (set_of words) p
+  shown_set p = ap (λ (t : FilterState). set.contains t.set p) (sym is)
+
+  -- its number of hashes
+  pub shown_hashes : num_hashes ≡ s.num_hashes
+  shown_hashes = ap (λ (t : FilterState). t.num_hashes) is
+
+  -- its positions
+  pub shown_place : (h0 h1 i hash index : ℕ) → hash ≡ (h0 + i * h1) % 2 ^ 64 → index ≡ (hash + h1) % 2 ^ 64 / 2 % capacity → index ≡ position (capacity_of s) h0 h1 (i + 1)
+  shown_place h0 h1 i hash index e p = place_is (capacity_of s) h0 h1 i hash index e (p ∙ ap (λ n. (hash + h1) % 2 ^ 64 / 2 % n) (b.capacity_is ∙ ap capacity_of is))
 
 -- words of zeros show the empty state
 pub zeroed_state : (words : List ℕ) (n num_hashes seed : ℕ) → words ≡ replicate n 0 → state_of words num_hashes seed ≡ empty_state n num_hashes seed

@@ -1,5 +1,5 @@
 -- A view of an image: its words are bytes of the image, or a word of zeros.
-use Rattle.std.proofs.Common.{◌≡◌, ℕ, ◌+◌, ◌*◌, ◌<◌, ◌≤◌, Bool, true, false, if◌then◌else◌, ◌⊎◌, inl, inr, List, [], ◌∷◌, take, drop, replicate, length, refl, sym, ap, subst, ◌∙◌, arith, length-drop}
+use Rattle.std.proofs.Common.{◌≡◌, ℕ, ◌+◌, ◌*◌, ◌/◌, ◌<◌, ◌≤◌, Bool, true, false, if◌then◌else◌, ◌⊎◌, inl, inr, List, [], ◌∷◌, take, drop, replicate, length, refl, sym, ap, subst, ◌∙◌, arith, length-drop}
 use Rattle.std.specs.FinSet as set
 use Rattle.sketch_base.specs.Fields.{le_at, words_in}
 use Rattle.sketch_bloom.specs.BitSet.{set_of, words_of_bytes}
@@ -59,11 +59,15 @@ shown_words image bytes p there are = by_mark p.is_empty refl where
   by_mark true e = inl (e, ap words_of_bytes (are ∙ ap (λ (t : Bool). if t then replicate 8 0 else take (8 * p.num_words) (drop 32 image)) e) ∙ word_of_zeros)
   by_mark false e = inr (e, ap words_of_bytes (are ∙ ap (λ (t : Bool). if t then replicate 8 0 else take (8 * p.num_words) (drop 32 image)) e) ∙ words_of_part p.num_words (drop 32 image) (omega (arith, there e, length-drop 32 image)))
 
--- there are some, and not too many
-pub count_shown : (image words : List ℕ) (p : Preamble) → ShownWords image words p → 1 ≤ p.num_words → p.num_words ≤ 2147483647 → (1 ≤ length words) × (length words ≤ 2147483647)
+-- there is one at least, and not too many
+pub count_shown : (image bytes : List ℕ) (p : Preamble) → ShownWords image (words_of_bytes bytes) p → 1 ≤ p.num_words → p.num_words ≤ 2147483647 → (1 ≤ length bytes / 8) × (length bytes / 8 ≤ 2147483647)
 unfolding ShownWords
-count_shown image words p (inl (e, is)) some few = (omega (arith, ap length is), omega (arith, ap length is))
-count_shown image words p (inr (e, is)) some few = (omega (arith, ap length is, length-words_in p.num_words (drop 32 image)), omega (arith, ap length is, length-words_in p.num_words (drop 32 image)))
+count_shown image bytes p shown some few =
+    let count : length (words_of_bytes bytes) ≡ length bytes / 8 = length-words_in (length bytes / 8) bytes in
+    elim shown as (λ _. (1 ≤ length bytes / 8) × (length bytes / 8 ≤ 2147483647)) [
+      | inl (e, is) ↦ let one = ap length is in (omega arith, omega arith)
+      | inr (e, is) ↦ let all = ap length is ∙ length-words_in p.num_words (drop 32 image) in (omega arith, omega arith)
+    ]
 
 -- the set of a word of zeros is empty
 no_bits : (words : List ℕ) → words ≡ 0 ∷ [] → set_of words ≡ set.empty

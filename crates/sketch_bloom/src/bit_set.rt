@@ -2,7 +2,7 @@
 //!
 //! A number `p` is in the set if bit `p % 64` of word `p / 64` is set. Two sets are combined in blocks of eight words,
 //! then at most one block of four, then at most three words one by one.
-ghost use Rattle.std.specs.Prelude.{◌≡◌, ◌+◌, ◌*◌, ◌/◌, ◌%◌, ◌<◌, ◌≤◌, ◌==◌, ◌↔◌, IsTrue, length, take, drop, count_ones};
+ghost use Rattle.std.specs.Prelude.{◌≡◌, ◌+◌, ◌*◌, ◌/◌, ◌%◌, ◌^◌, ◌<◌, ◌≤◌, ◌==◌, ◌↔◌, All, IsTrue, length, take, drop, count_ones};
 ghost use Rattle.std.specs.List.{sum_by};
 ghost use Rattle.std.specs.FinSet as set;
 ghost use Rattle.std.specs.Simd.Lanes.{zip2, chunk, put_chunk};
@@ -146,3 +146,9 @@ fn ones_of_four(words: &[u64], at: usize) -> u64
     let high = words[at + 2].count_ones() + words[at + 3].count_ones();
     (low + high) as u64
 }
+
+/// Does nothing. For a caller's proof, its clause says what the type says of the words.
+#[inline(always)]
+pub fn have_range(words: &[u64])
+    ensures { All (λ word. word < 2 ^ 64) words.now }
+{}

@@ -3,7 +3,7 @@ ghost use Rattle.std.specs.Prelude.{◌≡◌, ◌+◌, ◌^◌, ◌<◌, ◌≤
 ghost use Rattle.std.specs.FinSet as set;
 ghost use Rattle.std.specs.Hash as fed;
 ghost use Rattle.sketch_base.specs.Hashes.{fed_bytes};
-ghost use Rattle.sketch_bloom.specs.BitSet.{set_of};
+ghost use Rattle.sketch_bloom.specs.Image.{AreWordsOf};
 ghost use Rattle.sketch_bloom.specs.Fields.{state_of};
 ghost use Rattle.sketch_bloom.specs.Operations.{on_sets};
 ghost use Rattle.sketch_bloom.specs.Pairs.{contains_pair, with_pair};
@@ -46,20 +46,20 @@ impl<W: Words + Drop> Model for Bits<W> {
 }
 
 impl<W: Words + Drop> Bits<W> {
-    /// Creates the bits in these words.
+    /// Creates the bits in these words, of which there are `num_words`.
     #[inline]
-    pub fn new(words: W, num_hashes: u16, seed: u64) -> Self
-        requires some_words { 1 ≤ length (W.list words) }
-        requires few_words { length (W.list words) ≤ MAX_NUM_WORDS }
+    pub fn new(words: W, num_words: usize, num_hashes: u16, seed: u64) -> Self
+        requires num_words { length (W.list words) ≡ num_words }
+        requires some_words { 1 ≤ num_words }
+        requires few_words { num_words ≤ MAX_NUM_WORDS }
         requires some_hashes { 1 ≤ num_hashes }
         requires few_hashes { num_hashes ≤ MAX_NUM_HASHES }
         ensures value { result ≡ state_of (W.list words) num_hashes seed }
         ensures state { IsFilterState result }
     {
-        let capacity = Divisor::new(64 * words.count() as u64);
         Bits {
             words,
-            capacity,
+            capacity: Divisor::new(64 * num_words as u64),
             num_hashes,
             seed,
         }
@@ -73,7 +73,7 @@ impl<W: Words + Drop> Bits<W> {
         // What holds of all bits.
         ensures state { IsFilterState self.now }
     {
-        self.words.count()
+        (self.capacity.divisor() / 64) as usize
     }
 
     /// Returns the number of positions of each item.
@@ -229,10 +229,11 @@ impl Bits<Vec<u64>> {
     /// Returns the words.
     #[inline(always)]
     pub fn words(&self) -> &[u64]
-        ensures count { length result.now ≡ self.now.num_words }
-        ensures set { set_of result.now ≡ self.now.set }
+        ensures { AreWordsOf self.now result.now }
     {
-        &self.words
+        let words = self.words.as_slice();
+        bit_set::have_range(words);
+        words
     }
 
     /// Returns the allocator of the words.

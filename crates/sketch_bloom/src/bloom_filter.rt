@@ -19,7 +19,6 @@ use crate::bits::Bits;
 use crate::hashes::{hashes_of, hashes_of_str};
 use crate::limits::{MAX_NUM_HASHES, MAX_NUM_WORDS};
 use crate::set_operation::SetOperation;
-use crate::words::Words;
 use sketch_base::{Error, Fault};
 use std::alloc::{AllocError, Global};
 use std::fmt;
@@ -95,7 +94,7 @@ impl BloomFilter {
     {
         let words = vec![in alloc; 0; num_words]?;
         Ok(BloomFilter {
-            bits: Bits::new(words, num_hashes, seed),
+            bits: Bits::new(words, num_words, num_hashes, seed),
             bits_used: 0,
         })
     }

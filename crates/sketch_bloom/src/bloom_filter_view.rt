@@ -32,7 +32,7 @@ use std::marker::Model;
 /// ```
 #[derive(Drop)]
 pub struct BloomFilterView<'a> {
-    // Of an image that is marked empty, which contains no words, one word of zeros.
+    // An image that is marked empty contains no words. The bits are then one word of zeros.
     bits: Bits<&'a [u8]>,
     num_words: usize,
 }
@@ -88,7 +88,7 @@ impl<'a> BloomFilterView<'a> {
         let num_words = preamble.num_words;
         let bytes = bytes_of_set(image, preamble.is_empty, num_words);
         Ok(BloomFilterView {
-            bits: Bits::new(bytes, preamble.num_hashes, preamble.seed),
+            bits: Bits::new(bytes, bytes.len() / 8, preamble.num_hashes, preamble.seed),
             num_words,
         })
     }

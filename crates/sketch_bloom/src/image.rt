@@ -1,5 +1,5 @@
 //! Reading and writing the images of filters.
-ghost use Rattle.std.specs.Prelude.{◌≡◌, ◌+◌, ◌*◌, ◌<◌, ◌≤◌, ◌^◌, ◌++◌, ◌==◌, if◌then◌else◌, None, Some, false, length, drop, All, IfOk, IfErr, OnOk};
+ghost use Rattle.std.specs.Prelude.{◌≡◌, ◌+◌, ◌*◌, ◌≤◌, ◌++◌, ◌==◌, if◌then◌else◌, None, Some, false, length, drop, IfOk, IfErr, OnOk};
 ghost use Rattle.std.specs.FinSet as set;
 ghost use Rattle.std.specs.Int.{w64, to_le_bytes};
 ghost use Rattle.sketch_base.specs.Errors.{invalid_data};
@@ -116,10 +116,7 @@ pub fn read_words(
 /// Returns the length of the image of a filter with these words, of which `bits_used` bits are set.
 pub fn image_length(words: &[u64], bits_used: u64) -> usize
     requires { length words.now ≤ MAX_NUM_WORDS }
-    ensures length { result ≡ (if bits_used == 0 then 24 else 32 + 8 * length words.now) }
-
-    // What the type says, for the caller's proof.
-    ensures words_fit { All (λ word. word < 2 ^ 64) words.now }
+    ensures { result ≡ (if bits_used == 0 then 24 else 32 + 8 * length words.now) }
 {
     if bits_used == 0 {
         24
@@ -132,10 +129,7 @@ pub fn image_length(words: &[u64], bits_used: u64) -> usize
 pub fn write_empty(out: &mut [u8], num_hashes: u16, seed: u64, num_words: usize)
     requires room { length out.old ≡ 24 }
     requires few_words { num_words ≤ MAX_NUM_WORDS }
-    ensures bytes { out.new ≡ preamble 3 4 num_hashes seed num_words }
-
-    // What the type says, for the caller's proof.
-    ensures seed_fits { seed < 2 ^ 64 }
+    ensures { out.new ≡ preamble 3 4 num_hashes seed num_words }
 {
     let longs = PREAMBLE_LONGS_EMPTY;
     out.copy_from_slice(&preamble_bytes(longs, EMPTY_FLAG_MASK, num_hashes, seed, num_words));
@@ -145,12 +139,8 @@ pub fn write_empty(out: &mut [u8], num_hashes: u16, seed: u64, num_words: usize)
 pub fn write_full(out: &mut [u8], num_hashes: u16, seed: u64, bits_used: u64, words: &[u64])
     requires room { length out.old ≡ 32 + 8 * length words.now }
     requires few_words { length words.now ≤ MAX_NUM_WORDS }
-    ensures bytes { out.new ≡ preamble 4 0 num_hashes seed (length words.now) ++ to_le_bytes w64 bits_used
+    ensures { out.new ≡ preamble 4 0 num_hashes seed (length words.now) ++ to_le_bytes w64 bits_used
         ++ bytes_of_words words.now }
-
-    // What the types say, for the caller's proof.
-    ensures seed_fits { seed < 2 ^ 64 }
-    ensures words_fit { All (λ word. word < 2 ^ 64) words.now }
 {
     let longs = PREAMBLE_LONGS_NONEMPTY;
     out[..24].copy_from_slice(&preamble_bytes(longs, 0, num_hashes, seed, words.len()));
@@ -178,10 +168,7 @@ fn preamble_bytes(longs: u8, flags: u8, num_hashes: u16, seed: u64, num_words: u
 /// Writes the words to `out`, which has 8 bytes for each.
 fn write_words(out: &mut [u8], words: &[u64])
     requires { length out.old ≡ 8 * length words.now }
-    ensures bytes { out.new ≡ bytes_of_words words.now }
-
-    // What the type says, for the caller's proof.
-    ensures words_fit { All (λ word. word < 2 ^ 64) words.now }
+    ensures { out.new ≡ bytes_of_words words.now }
 {
     for i in 0..words.len() {
         out[8 * i..8 * i + 8].copy_from_slice(&words[i].to_le_bytes());

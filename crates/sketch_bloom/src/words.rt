@@ -9,10 +9,6 @@ pub trait Words {
     // The words.
     ghost list: { Self → List ℕ };
 
-    /// Returns the number of words.
-    fn count(&self) -> usize
-        ensures { result ≡ length (list self.now) };
-
     /// Returns word `i`.
     fn word(&self, i: usize) -> u64
         requires { i < length (list self.now) }
@@ -21,11 +17,6 @@ pub trait Words {
 
 impl Words for Vec<u64> {
     ghost list = { λ words. words.items };
-
-    #[inline(always)]
-    fn count(&self) -> usize {
-        self.len()
-    }
 
     #[inline(always)]
     fn word(&self, i: usize) -> u64 {
@@ -37,11 +28,6 @@ impl<'a> Words for &'a [u64] {
     ghost list = { λ words. words.now };
 
     #[inline(always)]
-    fn count(&self) -> usize {
-        self.len()
-    }
-
-    #[inline(always)]
     fn word(&self, i: usize) -> u64 {
         self[i]
     }
@@ -50,11 +36,6 @@ impl<'a> Words for &'a [u64] {
 /// The words of bytes, little-endian. The bytes need not be aligned.
 impl<'a> Words for &'a [u8] {
     ghost list = { λ bytes. words_of_bytes bytes.now };
-
-    #[inline(always)]
-    fn count(&self) -> usize {
-        self.len() / 8
-    }
 
     #[inline(always)]
     fn word(&self, i: usize) -> u64 {

@@ -8,7 +8,6 @@ ghost use Rattle.sketch_bloom.specs.State.{IsFilterState};
 use crate::bits::Bits;
 use crate::bloom_filter::BloomFilter;
 use crate::image::{UNCOUNTED, image_length, read_preamble, read_words, write_empty, write_full};
-use crate::words::Words;
 use sketch_base::image::u64_at;
 use sketch_base::{Error, Fault};
 use std::alloc::Global;
@@ -159,7 +158,7 @@ impl BloomFilter {
             return Err(Error::invalid_data(Fault::BadBitCount));
         }
         Ok(BloomFilter {
-            bits: Bits::new(words, num_hashes, preamble.seed),
+            bits: Bits::new(words, num_words, num_hashes, preamble.seed),
             bits_used,
         })
     }

@@ -1,4 +1,4 @@
-use Rattle.std.proofs.Common.{◌≡◌, ℕ, List, ◌+◌, ◌*◌, ◌/◌, ◌%◌, ◌^◌, ◌<◌, ◌==◌, length, get_or, set, bit_and, bit_or, refl, sym, ap, subst, ◌∙◌, arith}
+use Rattle.std.proofs.Common.{◌≡◌, ℕ, List, ◌+◌, ◌*◌, ◌/◌, ◌%◌, ◌^◌, ◌<◌, ◌==◌, length, get_or, set, bit_and, bit_or, sym, ap, subst, ◌∙◌, arith}
 use mir.Val.{bool_byte}
 use Rattle.std.proofs.Math.Nat.{mod-eq_of_lt}
 use Rattle.std.specs.FinSet as numbers
@@ -21,7 +21,7 @@ inserts-preserved c =
     let words : List ℕ = c.inserts.words in
     let p : ℕ = c.index_of-index.result in
     let placed : Numbers = positions c.args.capacity c.inserts._i c.args.h0 c.args.h1 in
-    let index : c.index_of-index.result ≡ position c.args.capacity c.args.h0 c.args.h1 (c.inserts._i + 1) = place_is c.args.capacity c.args.capacity c.args.h0 c.args.h1 c.inserts._i c.inserts.hash c.index_of-index.result refl c.inserts.invariant.0 c.index_of-index.ensures.value in
+    let index : c.index_of-index.result ≡ position c.args.capacity c.args.h0 c.args.h1 (c.inserts._i + 1) = place_is c.args.capacity c.args.h0 c.args.h1 c.inserts._i c.inserts.hash c.index_of-index.result c.inserts.invariant.0 c.index_of-index.ensures.value in
     let below : c.index_of-index.result < 64 * length c.inserts.words = omega arith in
     let next : numbers.insert placed p ≡ positions c.args.capacity (c.inserts._i + 1) c.args.h0 c.args.h1 = ap (numbers.insert placed) index ∙ sym (positions-suc c.args.capacity c.inserts._i c.args.h0 c.args.h1) in (
       running_sum c.args.h0 c.args.h1 c.inserts._i c.inserts.hash c.inserts.invariant.0,

@@ -1,8 +1,7 @@
-use Rattle.std.proofs.Common.{◌≡◌, ℕ, ◌+◌, ◌*◌, ◌<◌, ◌≤◌, ◌^◌, List, [], ◌∷◌, ◌++◌, length, get_or, take, sym, ap, ◌∙◌, arith}
+use Rattle.std.proofs.Common.{◌≡◌, ℕ, ◌+◌, ◌*◌, ◌<◌, ◌≤◌, List, [], ◌∷◌, ◌++◌, length, get_or, take, sym, ap, ◌∙◌, arith}
 use Rattle.std.specs.Int.{w64, to_le_bytes}
 use Rattle.std.proofs.lemmas.List.{take_all, take_more}
 use Rattle.std.proofs.lemmas.List.Concat.{flat_map-append}
-use Rattle.std.proofs.lemmas.List.Elements.{All-from_get_or}
 use Rattle.std.proofs.lemmas.Slice.{take-put_mid}
 use Rattle.sketch_base.specs.Fields.{bytes_of_words}
 use Rattle.sketch_bloom.proofs.image.write_words.Goals as goal
@@ -23,13 +22,9 @@ loop-i-preserved c =
     ∙ (ap (λ (bs : List ℕ). bs ++ bytes) c.loop-i.invariant
     ∙ (ap (λ (bs : List ℕ). bytes_of_words (take i words) ++ bs) bytes_are ∙ sym more))
 
-pub returns-clause-bytes : goal.returns-clause-bytes
-returns-clause-bytes c =
+pub returns : goal.returns
+returns c =
     let words : List ℕ = c.args.words.now in
     let all_bytes : take (8 * c.loop-i.i) c.loop-i.out ≡ c.loop-i.out = take_all (8 * c.loop-i.i) c.loop-i.out (omega (arith, c.loop-i-test.false, c.loop-i.auto.out, c.requires)) in
     let all_words : take c.loop-i.i words ≡ words = take_all c.loop-i.i words (omega (arith, c.loop-i-test.false)) in
     sym all_bytes ∙ (c.loop-i.invariant ∙ ap bytes_of_words all_words)
-
-pub returns-clause-words_fit : goal.returns-clause-words_fit
-returns-clause-words_fit c =
-    All-from_get_or (λ (w : ℕ). w < 2 ^ 64) c.args.words.now 0 (λ k l. (c.type_inv.words k).fits)

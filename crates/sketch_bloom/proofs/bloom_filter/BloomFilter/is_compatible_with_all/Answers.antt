@@ -2,7 +2,7 @@ use Rattle.std.proofs.Common.{All, IsTrue, true, false, refl, subst}
 use Rattle.std.proofs.lemmas.Bool.{false≢true}
 use Rattle.std.proofs.lemmas.List.{take_all}
 use Rattle.std.proofs.lemmas.List.Elements.{All-more, All-map}
-use Rattle.sketch_bloom.specs.State.{FilterState, IsFilterState, IsCompatible}
+use Rattle.sketch_bloom.specs.State.{IsCompatible}
 use Rattle.sketch_bloom.proofs.Unions.{one_other}
 use Rattle.sketch_bloom.proofs.bloom_filter.BloomFilter.is_compatible_with_all.Goals as goal
 
@@ -11,9 +11,6 @@ returns-then-not-is_compatible-clause-compatible c = (
   λ (t : IsTrue false). absurd (false≢true t),
   λ all. c.if-not-is_compatible.ensures.1 (one_other (IsCompatible c.args.self.now) c.args.others.now c.each.i c.index-others-i.result c.each-test.true c.index-others-i.is all),
 )
-
-pub returns-then-not-is_compatible-clause-state : goal.returns-then-not-is_compatible-clause-state
-returns-then-not-is_compatible-clause-state c = subst (λ (s : FilterState). IsFilterState s) c.self.view_is c.self.invariant.state
 
 pub each-preserved : goal.each-preserved
 each-preserved c =
@@ -26,6 +23,3 @@ returns-clause-compatible c = (
       (subst (λ others. All (λ other. IsCompatible c.args.self.now other.now) others) (take_all c.each.i c.args.others.now c.each-test.false) c.each.invariant),
   λ all. refl,
 )
-
-pub returns-clause-state : goal.returns-clause-state
-returns-clause-state c = subst (λ (s : FilterState). IsFilterState s) c.self.view_is c.self.invariant.state

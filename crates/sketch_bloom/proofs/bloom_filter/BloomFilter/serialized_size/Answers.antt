@@ -9,7 +9,7 @@ returns-clause-some c =
     let f = c.self.inside in
     let fits : f.bits.seed < 2 ^ 64 = omega arith in
     subst (λ (s : FilterState). (image : List ℕ) × IsSpelled image s) c.self.view_is
-    (some_image c.words.result.now f.bits f.bits_used c.self.invariant fits (record { count = c.words.ensures.count; fit = c.image_length.ensures.words_fit; set = c.words.ensures.set }))
+    (some_image c.words.result.now f.bits f.bits_used c.self.invariant fits c.words.ensures)
 
 pub returns-clause-each : goal.returns-clause-each
 returns-clause-each c =

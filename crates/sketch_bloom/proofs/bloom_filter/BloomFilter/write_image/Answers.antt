@@ -11,8 +11,8 @@ returns-then-self-eq0 c =
     let f = c.self.inside in
     let image = c.write_empty.new.out in
     subst (λ (s : FilterState). IsSpelled image s) c.self.view_is
-    (spelled_empty image f.bits f.bits_used c.self.invariant (subst (λ (n : ℕ). n < 2 ^ 64) c.seed-seed.ensures c.write_empty.ensures.seed_fits) c.if-self-eq0.true
-    (c.write_empty.ensures.bytes ∙ (λ i. preamble 3 4 (c.num_hashes-num_hashes.ensures i) (c.seed-seed.ensures i) (c.num_words.ensures.value i))))
+    (spelled_empty image f.bits f.bits_used c.self.invariant (subst (λ (n : ℕ). n < 2 ^ 64) c.seed-seed.ensures c.seed-seed.type_inv) c.if-self-eq0.true
+    (c.write_empty.ensures ∙ (λ i. preamble 3 4 (c.num_hashes-num_hashes.ensures i) (c.seed-seed.ensures i) (c.num_words.ensures.value i))))
 
 pub returns-else-self-eq0 : goal.returns-else-self-eq0
 returns-else-self-eq0 c =
@@ -20,6 +20,5 @@ returns-else-self-eq0 c =
     let image = c.write_full.new.out in
     let words = c.words.result.now in
     subst (λ (s : FilterState). IsSpelled image s) c.self.view_is
-    (spelled_full image words f.bits f.bits_used c.self.invariant (subst (λ (n : ℕ). n < 2 ^ 64) c.seed-seed.ensures c.write_full.ensures.seed_fits)
-    (record { count = c.words.ensures.count; fit = c.write_full.ensures.words_fit; set = c.words.ensures.set }) c.if-self-eq0.false
-    (c.write_full.ensures.bytes ∙ (λ i. preamble 4 0 (c.num_hashes-num_hashes.ensures i) (c.seed-seed.ensures i) (c.words.ensures.count i) ++ to_le_bytes w64 f.bits_used ++ bytes_of_words words)))
+    (spelled_full image words f.bits f.bits_used c.self.invariant (subst (λ (n : ℕ). n < 2 ^ 64) c.seed-seed.ensures c.seed-seed.type_inv) c.words.ensures c.if-self-eq0.false
+    (c.write_full.ensures ∙ (λ i. preamble 4 0 (c.num_hashes-num_hashes.ensures i) (c.seed-seed.ensures i) (c.words.ensures.count i) ++ to_le_bytes w64 f.bits_used ++ bytes_of_words words)))

@@ -1,9 +1,9 @@
-use Rattle.std.proofs.Common.{◌≡◌, ◌⊎◌, sym, subst, ap, ◌∙◌}
+use Rattle.std.proofs.Common.{◌/◌, length, ◌≡◌, ◌⊎◌, sym, subst, ap, ◌∙◌}
 use Rattle.std.specs.FinSet as set
 use Rattle.sketch_bloom.specs.BitSet.{words_of_bytes}
 use Rattle.sketch_bloom.specs.Fields.{view_of}
 use Rattle.sketch_bloom.specs.State.{FilterState}
-use Rattle.sketch_bloom.proofs.Images.{value_restores}
+use Rattle.sketch_bloom.proofs.Images.{length-words_in, value_restores}
 use Rattle.sketch_bloom.proofs.Views.{ShownWords, shown_words, count_shown, same_shown, view_fields, view_value}
 use Rattle.sketch_bloom.proofs.bloom_filter_view.BloomFilterView.new.Goals as goal
 use Rattle.sketch_bloom.proofs.bloom_filter_view.BloomFilterView.new.Goals.{After-bytes_of_set-bytes}
@@ -12,11 +12,14 @@ use Rattle.sketch_bloom.proofs.bloom_filter_view.BloomFilterView.new.Goals.{Afte
 shown : (c : After-bytes_of_set-bytes) → ShownWords c.args.image.now (words_of_bytes c.bytes_of_set-bytes.result.now) c.in_ok-preamble.preamble
 shown c = shown_words c.args.image.now c.bytes_of_set-bytes.result.now c.in_ok-preamble.preamble c.in_ok-preamble.ensures.words c.bytes_of_set-bytes.ensures
 
+pub new-requires-clause-num_words : goal.new-requires-clause-num_words
+new-requires-clause-num_words c = length-words_in (length c.bytes_of_set-bytes.result.now / 8) c.bytes_of_set-bytes.result.now
+
 pub new-requires-clause-some_words : goal.new-requires-clause-some_words
-new-requires-clause-some_words c = (count_shown c.args.image.now _ c.in_ok-preamble.preamble (shown (goal.at.new-requires-clause-some_words c).After-bytes_of_set-bytes) c.in_ok-preamble.ensures.some_words c.in_ok-preamble.ensures.few_words).0
+new-requires-clause-some_words c = (count_shown c.args.image.now c.bytes_of_set-bytes.result.now c.in_ok-preamble.preamble (shown (goal.at.new-requires-clause-some_words c).After-bytes_of_set-bytes) c.in_ok-preamble.ensures.some_words c.in_ok-preamble.ensures.few_words).0
 
 pub new-requires-clause-few_words : goal.new-requires-clause-few_words
-new-requires-clause-few_words c = (count_shown c.args.image.now _ c.in_ok-preamble.preamble (shown (goal.at.new-requires-clause-few_words c).After-bytes_of_set-bytes) c.in_ok-preamble.ensures.some_words c.in_ok-preamble.ensures.few_words).1
+new-requires-clause-few_words c = (count_shown c.args.image.now c.bytes_of_set-bytes.result.now c.in_ok-preamble.preamble (shown (goal.at.new-requires-clause-few_words c).After-bytes_of_set-bytes) c.in_ok-preamble.ensures.some_words c.in_ok-preamble.ensures.few_words).1
 
 pub invariant_of-result : goal.invariant_of-result
 invariant_of-result c =
