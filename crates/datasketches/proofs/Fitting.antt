@@ -1,22 +1,31 @@
--- A session that fits an assignment fits what a command makes of it.
+-- What an action does to what a session stands for.
 use Rattle.std.proofs.Common.{◌≡◌, ℕ, Bool, true, false, cond, List, Option, Some, None, inl, inr, refl, sym, ◌∙◌, ap, subst}
+use Rattle.std.specs.Prelude.{◌⊎◌, ⊤}
 use Rattle.std.specs.Option.{option_map}
 use Rattle.std.specs.Str.{bytes_eq}
-use Rattle.std.proofs.lemmas.Bool.{true≢false, false≢true}
+use Rattle.std.proofs.lemmas.Bool.{true≢false}
 use Rattle.std.proofs.lemmas.Slice.Eq.{bytes_eq-Decides}
+use Rattle.sketch_base.specs.Errors.{ErrorValue}
 use Rattle.sketch_base.specs.declared.fault.Fault.{Fault}
-use Rattle.datasketches.specs.Actions.{Shape}
-use Rattle.datasketches.specs.Actions.{Join}
-use Rattle.datasketches.specs.SessionStandsFor.{Paired}
-use Rattle.datasketches.specs.Histories.{History, put_at, begun, joined, of_both}
+use Rattle.sketch_frequencies.specs.Items.{Codec}
+use Rattle.datasketches.specs.Actions.{Action, Action as action, Change, Join, Shape}
+use Rattle.datasketches.specs.Changing.{Changes}
+use Rattle.datasketches.specs.SessionStandsFor.{Paired, SessionStandsFor}
+use Rattle.datasketches.specs.Histories.{Assignment, History, accepted_told, put_at, begun, changed, joined, of_both, restored}
+use Rattle.datasketches.specs.Images.{Image, IsSavedOf, IsImageOf, IsWrittenBy, IsReadFrom, IsReadRefusal, IsWriteRefusal, IsLoadRefusal, GivesBack}
 use Rattle.datasketches.specs.Joining.{Joins}
+use Rattle.datasketches.specs.Loading.{IsActionTold}
 use Rattle.datasketches.specs.Names.{at_name, Puts, AreSame}
-use Rattle.datasketches.specs.Replies.{is_refused}
-use Rattle.datasketches.specs.Shapes.{fault_of}
+use Rattle.datasketches.specs.Replies.{is_refused, refused}
+use Rattle.datasketches.specs.Shapes.{empty_sketch, fault_of}
 use Rattle.datasketches.specs.Stands.{StandsFor, Does, DoesWith}
-use Rattle.datasketches.specs.Steps.{OnSketch, Creates, MakesEmpty, JoinsNamed, JoinsApart}
+use Rattle.datasketches.specs.State.{SessionState, IsUnchanged}
+use Rattle.datasketches.specs.Steps.{OnSketch, Creates, MakesEmpty, JoinsNamed, JoinsApart, MakesFrom, Writes, Reads, Loads, IsLoaded, Refuses, Performs}
+use Rattle.datasketches.specs.declared.image_kind.ImageKind.{ImageKind}
 use Rattle.datasketches.specs.declared.reply.Reply.{Reply}
+use Rattle.datasketches.specs.declared.reply.Reply.TheVariants.{Done}
 use Rattle.datasketches.specs.declared.sketch.Sketch.{Sketch}
+use Rattle.datasketches.proofs.Saved.{saved_stands}
 
 -- ---- values under names, related to histories under the same names
 
@@ -45,135 +54,174 @@ again_case name other false values value e found = refl
 pub put_again : {V : Type 0} (name : List ℕ) (value : V) (old new : List (List ℕ × V)) → at_name name old ≡ Some value → Puts name value old new → AreSame old new
 put_again name value old new found puts other = puts other ∙ again_case name other (bytes_eq name other) old value refl found
 
--- ---- on named sketches
+-- ---- a session after one name has another value
 
-module _ {T : Type 0} (eq : T → T → Bool) where
-  abbrev pub SketchesFit : List (List ℕ × Sketch T) → (List ℕ → Option (History T)) → Type 0
-  SketchesFit sketches histories = AllPaired (StandsFor eq) sketches histories
+module _ {T C : Type 0} (eq : T → T → Bool) (codec : Codec C) (content : T → C) where
+  -- nothing changed
+  pub unchanged_fits : (old new : SessionState T) (a : Assignment T) → SessionStandsFor eq codec content old a → IsUnchanged old new → SessionStandsFor eq codec content new a
+  unchanged_fits old new a fits same = record {
+    sketches = same_pairs (StandsFor eq) old.sketches new.sketches a.sketches fits.sketches same.sketches;
+    images = same_pairs (IsSavedOf eq codec content) old.images new.images a.images fits.images same.images;
+  }
+
+  -- a name has a sketch that stands for what `f` makes of a history
+  with_sketch : {W : Type 0} (S : W → History T → Type 0) (f : History T → History T) (name : List ℕ) (before : W) (sketch : Sketch T) (history : Option (History T)) (old new : SessionState T) (a : Assignment T) → SessionStandsFor eq codec content old a →
+      Paired S (Some before) history → ((h : History T) → S before h → StandsFor eq sketch (f h)) → Puts name sketch old.sketches new.sketches → AreSame old.images new.images → SessionStandsFor eq codec content new (record a { sketches = put_at name (option_map f history) a.sketches })
+  with_sketch S f name before sketch (Some h) old new a fits pair carries puts images = record {
+    sketches = put_pair (StandsFor eq) name sketch (f h) old.sketches new.sketches a.sketches fits.sketches (carries h pair) puts;
+    images = same_pairs (IsSavedOf eq codec content) old.images new.images a.images fits.images images;
+  }
+  with_sketch S f name before sketch None old new a fits pair carries puts images = absurd pair
+
+  -- a name has a sketch that stands for the combination of two histories
+  with_both : (join : Join) (into : List ℕ) (sketch from after : Sketch T) (g h : Option (History T)) (old new : SessionState T) (a : Assignment T) → SessionStandsFor eq codec content old a → Paired (StandsFor eq) (Some sketch) g → Paired (StandsFor eq) (Some from) h →
+      ((g h : History T) → StandsFor eq sketch g → StandsFor eq from h → StandsFor eq after (joined join g h)) → Puts into after old.sketches new.sketches → AreSame old.images new.images → SessionStandsFor eq codec content new (record a { sketches = put_at into (of_both (joined join) g h) a.sketches })
+  with_both join into sketch from after (Some g) (Some h) old new a fits p q carries puts images = record {
+    sketches = put_pair (StandsFor eq) into after (joined join g h) old.sketches new.sketches a.sketches fits.sketches (carries g h p q) puts;
+    images = same_pairs (IsSavedOf eq codec content) old.images new.images a.images fits.images images;
+  }
+  with_both join into sketch from after None h old new a fits p q carries puts images = absurd p
+  with_both join into sketch from after (Some g) None old new a fits p q carries puts images = absurd q
+
+  -- a name has an image of a sketch
+  with_image : (image : List ℕ) (sketch : Sketch T) (saved : Image) (history : Option (History T)) (old new : SessionState T) (a : Assignment T) → SessionStandsFor eq codec content old a → Paired (StandsFor eq) (Some sketch) history →
+      IsWrittenBy codec content sketch saved.kind saved.bytes → Puts image saved old.images new.images → AreSame old.sketches new.sketches → SessionStandsFor eq codec content new (record a { images = put_at image history a.images })
+  with_image image sketch saved (Some h) old new a fits pair written puts sketches = record {
+    sketches = same_pairs (StandsFor eq) old.sketches new.sketches a.sketches fits.sketches sketches;
+    images = put_pair (IsSavedOf eq codec content) image saved h old.images new.images a.images fits.images (saved_stands eq codec content sketch saved.kind saved.bytes h written pair) puts;
+  }
+  with_image image sketch saved None old new a fits pair written puts sketches = absurd pair
+
+-- ---- the outcome of each action
+
+module _ {T C : Type 0} (slot : ℕ) (eq : T → T → Bool) (input : T → List (List ℕ)) (codec : Codec C) (content : T → C) where
+  -- a rejected action changed nothing. After an accepted one the session stands for what the action made of each assignment
+  abbrev pub Outcome : Action T → Reply T → SessionState T → SessionState T → Type 0
+  Outcome action reply old new =
+      ((is_refused reply ≡ true) × IsUnchanged old new)
+      ⊎ ((is_refused reply ≡ false) × ((a : Assignment T) (loaded : History T) → SessionStandsFor eq codec content old a → IsActionTold eq codec content action loaded → SessionStandsFor eq codec content new (accepted_told input a action loaded)))
 
   -- a change
-  changed_case : (Own : Sketch T → Reply T → Sketch T → Type 0) (grown : History T → History T) (name : List ℕ) (sketch after : Sketch T) (history : Option (History T)) (reply : Reply T) (old new : List (List ℕ × Sketch T)) (a : List ℕ → Option (History T)) (r : Bool) →
-      is_refused reply ≡ r → at_name name old ≡ Some sketch → a name ≡ history → Paired (StandsFor eq) (Some sketch) history → SketchesFit old a → Does eq Own grown sketch reply after → Puts name after old new →
-      SketchesFit new (cond r a (put_at name (option_map grown (a name)) a))
-  changed_case Own grown name sketch after history reply old new a true e found is pair fits does puts =
-      same_pairs (StandsFor eq) old new a fits (put_again name sketch old new found (subst (λ (s : Sketch T). Puts name s old new) (does.refused e) puts))
-  changed_case Own grown name sketch after (Some h) reply old new a false e found is pair fits does puts =
-      rw is (put_pair (StandsFor eq) name after (grown h) old new a fits (does.carries e h pair) puts)
-  changed_case Own grown name sketch after None reply old new a false e found is pair fits does puts = absurd pair
+  altered_as : (change : Change T) (name : List ℕ) (sketch after : Sketch T) (r : Bool) (reply : Reply T) (old new : SessionState T) → is_refused reply ≡ r → at_name name old.sketches ≡ Some sketch →
+      Does eq (Changes eq input change) (changed input change) sketch reply after → Puts name after old.sketches new.sketches → AreSame old.images new.images → Outcome (action.Alter name change) reply old new
+  altered_as change name sketch after true reply old new r e does puts images =
+      inl (r, record { sketches = put_again name sketch old.sketches new.sketches e (subst (λ (s : Sketch T). Puts name s old.sketches new.sketches) (does.refused r) puts); images = images })
+  altered_as change name sketch after false reply old new r e does puts images = inr (
+    r,
+    λ a loaded fits told.
+        let pair : Paired (StandsFor eq) (Some sketch) (a.sketches name) = rw e at (fits.sketches name) in
+        with_sketch eq codec content (StandsFor eq) (changed input change) name sketch after (a.sketches name) old new a fits pair (does.carries r) puts images,
+  )
 
-  on_case : (Own : Sketch T → Reply T → Sketch T → Type 0) (grown : History T → History T) (name : List ℕ) (found : Option (Sketch T)) (reply : Reply T) (old new : List (List ℕ × Sketch T)) (a : List ℕ → Option (History T)) →
-      at_name name old ≡ found → SketchesFit old a → OnSketch (Does eq Own grown) name old reply new → SketchesFit new (cond (is_refused reply) a (put_at name (option_map grown (a name)) a))
-  on_case Own grown name None reply old new a e fits on =
-      let done = rw e at on in
-      rw done.0 (same_pairs (StandsFor eq) old new a fits done.1)
-  on_case Own grown name (Some sketch) reply old new a e fits on =
-      let done = rw e at on in
-      let pair : Paired (StandsFor eq) (Some sketch) (a name) = rw e at (fits name) in
-      changed_case Own grown name sketch done.0 (a name) reply old new a (is_refused reply) refl e refl pair fits done.1 done.2
+  alters : (change : Change T) (name : List ℕ) (found : Option (Sketch T)) (reply : Reply T) (old new : SessionState T) → at_name name old.sketches ≡ found →
+      OnSketch (Does eq (Changes eq input change) (changed input change)) name old.sketches reply new.sketches → AreSame old.images new.images → Outcome (action.Alter name change) reply old new
+  alters change name None reply old new e on images = let done = rw e at on in inl (ap is_refused done.0, record { sketches = done.1; images = images })
+  alters change name (Some sketch) reply old new e on images = let done = rw e at on in altered_as change name sketch done.0 (is_refused reply) reply old new refl e done.1 done.2 images
 
-  pub change_fits : (Own : Sketch T → Reply T → Sketch T → Type 0) (grown : History T → History T) (name : List ℕ) (reply : Reply T) (old new : List (List ℕ × Sketch T)) (a : List ℕ → Option (History T)) →
-      SketchesFit old a → OnSketch (Does eq Own grown) name old reply new → SketchesFit new (cond (is_refused reply) a (put_at name (option_map grown (a name)) a))
-  change_fits Own grown name reply old new a fits on = on_case Own grown name (at_name name old) reply old new a refl fits on
+  -- a combination of two sketches
+  joined_as : (join : Join) (into other : List ℕ) (sketch from after : Sketch T) (r : Bool) (reply : Reply T) (old new : SessionState T) → is_refused reply ≡ r → at_name into old.sketches ≡ Some sketch → at_name other old.sketches ≡ Some from →
+      DoesWith eq (Joins eq join from) (joined join) from sketch reply after → Puts into after old.sketches new.sketches → AreSame old.images new.images → Outcome (action.Combine into other join) reply old new
+  joined_as join into other sketch from after true reply old new r e f does puts images =
+      inl (r, record { sketches = put_again into sketch old.sketches new.sketches e (subst (λ (s : Sketch T). Puts into s old.sketches new.sketches) (does.refused r) puts); images = images })
+  joined_as join into other sketch from after false reply old new r e f does puts images = inr (
+    r,
+    λ a loaded fits told.
+        let p : Paired (StandsFor eq) (Some sketch) (a.sketches into) = rw e at (fits.sketches into) in
+        let q : Paired (StandsFor eq) (Some from) (a.sketches other) = rw f at (fits.sketches other) in
+        with_both eq codec content join into sketch from after (a.sketches into) (a.sketches other) old new a fits p q (does.carries r) puts images,
+  )
 
-  change_same_case : (Own : Sketch T → Reply T → Sketch T → Type 0) (grown : History T → History T) (name : List ℕ) (found : Option (Sketch T)) (reply : Reply T) (old new : List (List ℕ × Sketch T)) →
-      at_name name old ≡ found → is_refused reply ≡ true → OnSketch (Does eq Own grown) name old reply new → AreSame old new
-  change_same_case Own grown name None reply old new e r on = (rw e at on).1
-  change_same_case Own grown name (Some sketch) reply old new e r on =
-      let done = rw e at on in
-      put_again name sketch old new e (subst (λ (s : Sketch T). Puts name s old new) (done.1.refused r) done.2)
-
-  -- a change that was refused
-  pub change_same : (Own : Sketch T → Reply T → Sketch T → Type 0) (grown : History T → History T) (name : List ℕ) (reply : Reply T) (old new : List (List ℕ × Sketch T)) →
-      is_refused reply ≡ true → OnSketch (Does eq Own grown) name old reply new → AreSame old new
-  change_same Own grown name reply old new r on = change_same_case Own grown name (at_name name old) reply old new refl r on
-
-  -- a join
-  joined_case : (join : Join) (into other : List ℕ) (sketch from after : Sketch T) (g h : Option (History T)) (reply : Reply T) (old new : List (List ℕ × Sketch T)) (a : List ℕ → Option (History T)) (r : Bool) →
-      is_refused reply ≡ r → at_name into old ≡ Some sketch → a into ≡ g → a other ≡ h → Paired (StandsFor eq) (Some sketch) g → Paired (StandsFor eq) (Some from) h → SketchesFit old a →
-      DoesWith eq (Joins eq join from) (joined join) from sketch reply after → Puts into after old new →
-      SketchesFit new (cond r a (put_at into (of_both (joined join) (a into) (a other)) a))
-  joined_case join into other sketch from after g h reply old new a true e found is more p q fits does puts =
-      same_pairs (StandsFor eq) old new a fits (put_again into sketch old new found (subst (λ (s : Sketch T). Puts into s old new) (does.refused e) puts))
-  joined_case join into other sketch from after (Some g) (Some h) reply old new a false e found is more p q fits does puts =
-      rw (is, more) (put_pair (StandsFor eq) into after (joined join g h) old new a fits (does.carries e g h p q) puts)
-  joined_case join into other sketch from after None h reply old new a false e found is more p q fits does puts = absurd p
-  joined_case join into other sketch from after (Some g) None reply old new a false e found is more p q fits does puts = absurd q
-
-  apart_case : (join : Join) (into other : List ℕ) (sketch from : Sketch T) (t : Bool) (reply : Reply T) (old new : List (List ℕ × Sketch T)) (a : List ℕ → Option (History T)) →
-      bytes_eq into other ≡ t → at_name into old ≡ Some sketch → at_name other old ≡ Some from → SketchesFit old a → JoinsApart eq join into other sketch from old reply new →
-      SketchesFit new (cond (is_refused reply) a (put_at into (of_both (joined join) (a into) (a other)) a))
-  apart_case join into other sketch from true reply old new a t e f fits joins =
+  joins_as : (join : Join) (into other : List ℕ) (sketch from : Sketch T) (t : Bool) (reply : Reply T) (old new : SessionState T) → bytes_eq into other ≡ t → at_name into old.sketches ≡ Some sketch → at_name other old.sketches ≡ Some from →
+      JoinsApart eq join into other sketch from old.sketches reply new.sketches → AreSame old.images new.images → Outcome (action.Combine into other join) reply old new
+  joins_as join into other sketch from true reply old new t e f joins images =
       let done = joins.itself ((bytes_eq-Decides into other).0 t) in
-      rw done.0 (same_pairs (StandsFor eq) old new a fits done.1)
-  apart_case join into other sketch from false reply old new a t e f fits joins =
+      inl (ap is_refused done.0, record { sketches = done.1; images = images })
+  joins_as join into other sketch from false reply old new t e f joins images =
       let done = joins.two (λ same. true≢false (sym ((bytes_eq-Decides into other).1 same) ∙ t)) in
-      let p : Paired (StandsFor eq) (Some sketch) (a into) = rw e at (fits into) in
-      let q : Paired (StandsFor eq) (Some from) (a other) = rw f at (fits other) in
-      joined_case join into other sketch from done.0 (a into) (a other) reply old new a (is_refused reply) refl e refl refl p q fits done.1 done.2
+      joined_as join into other sketch from done.0 (is_refused reply) reply old new refl e f done.1 done.2 images
 
-  named_case : (join : Join) (into other : List ℕ) (found more : Option (Sketch T)) (reply : Reply T) (old new : List (List ℕ × Sketch T)) (a : List ℕ → Option (History T)) →
-      at_name into old ≡ found → at_name other old ≡ more → SketchesFit old a → JoinsNamed eq join into other old reply new →
-      SketchesFit new (cond (is_refused reply) a (put_at into (of_both (joined join) (a into) (a other)) a))
-  named_case join into other None more reply old new a e f fits joins =
-      let done = rw e at joins in
-      rw done.0 (same_pairs (StandsFor eq) old new a fits done.1)
-  named_case join into other (Some sketch) None reply old new a e f fits joins =
-      let done = rw (e, f) at joins in
-      rw done.0 (same_pairs (StandsFor eq) old new a fits done.1)
-  named_case join into other (Some sketch) (Some from) reply old new a e f fits joins =
-      let done = rw (e, f) at joins in
-      apart_case join into other sketch from (bytes_eq into other) reply old new a refl e f fits done
-
-  pub join_fits : (join : Join) (into other : List ℕ) (reply : Reply T) (old new : List (List ℕ × Sketch T)) (a : List ℕ → Option (History T)) →
-      SketchesFit old a → JoinsNamed eq join into other old reply new → SketchesFit new (cond (is_refused reply) a (put_at into (of_both (joined join) (a into) (a other)) a))
-  join_fits join into other reply old new a fits joins = named_case join into other (at_name into old) (at_name other old) reply old new a refl refl fits joins
-
-  -- a join that was refused
-  apart_same : (join : Join) (into other : List ℕ) (sketch from : Sketch T) (t : Bool) (reply : Reply T) (old new : List (List ℕ × Sketch T)) →
-      bytes_eq into other ≡ t → at_name into old ≡ Some sketch → is_refused reply ≡ true → JoinsApart eq join into other sketch from old reply new → AreSame old new
-  apart_same join into other sketch from true reply old new t e r joins = (joins.itself ((bytes_eq-Decides into other).0 t)).1
-  apart_same join into other sketch from false reply old new t e r joins =
-      let done = joins.two (λ same. true≢false (sym ((bytes_eq-Decides into other).1 same) ∙ t)) in
-      put_again into sketch old new e (subst (λ (s : Sketch T). Puts into s old new) (done.1.refused r) done.2)
-
-  named_same : (join : Join) (into other : List ℕ) (found more : Option (Sketch T)) (reply : Reply T) (old new : List (List ℕ × Sketch T)) →
-      at_name into old ≡ found → at_name other old ≡ more → is_refused reply ≡ true → JoinsNamed eq join into other old reply new → AreSame old new
-  named_same join into other None more reply old new e f r joins = (rw e at joins).1
-  named_same join into other (Some sketch) None reply old new e f r joins = (rw (e, f) at joins).1
-  named_same join into other (Some sketch) (Some from) reply old new e f r joins = apart_same join into other sketch from (bytes_eq into other) reply old new refl e r (rw (e, f) at joins)
-
-  pub join_same : (join : Join) (into other : List ℕ) (reply : Reply T) (old new : List (List ℕ × Sketch T)) → is_refused reply ≡ true → JoinsNamed eq join into other old reply new → AreSame old new
-  join_same join into other reply old new r joins = named_same join into other (at_name into old) (at_name other old) reply old new refl refl r joins
+  combines : (join : Join) (into other : List ℕ) (found more : Option (Sketch T)) (reply : Reply T) (old new : SessionState T) → at_name into old.sketches ≡ found → at_name other old.sketches ≡ more →
+      JoinsNamed eq join into other old.sketches reply new.sketches → AreSame old.images new.images → Outcome (action.Combine into other join) reply old new
+  combines join into other None more reply old new e f joins images = let done = rw e at joins in inl (ap is_refused done.0, record { sketches = done.1; images = images })
+  combines join into other (Some sketch) None reply old new e f joins images = let done = rw (e, f) at joins in inl (ap is_refused done.0, record { sketches = done.1; images = images })
+  combines join into other (Some sketch) (Some from) reply old new e f joins images = joins_as join into other sketch from (bytes_eq into other) reply old new refl e f (rw (e, f) at joins) images
 
   -- a new sketch
-  made_case : (shape : Shape) (name : List ℕ) (reply : Reply T) (old new : List (List ℕ × Sketch T)) (a : List ℕ → Option (History T)) →
-      SketchesFit old a → MakesEmpty eq name shape old reply new → SketchesFit new (cond (is_refused reply) a (put_at name (Some (begun shape)) a))
-  made_case shape name reply old new a fits (inl done) = rw done.0 (put_pair (StandsFor eq) name _ (begun shape) old new a fits done.2 done.1)
-  made_case shape name reply old new a fits (inr done) = rw done.0 (same_pairs (StandsFor eq) old new a fits done.1)
+  makes : (shape : Shape) (name : List ℕ) (reply : Reply T) (old new : SessionState T) → MakesEmpty eq name shape old.sketches reply new.sketches → AreSame old.images new.images → Outcome (action.Create name shape) reply old new
+  makes shape name reply old new (inl done) images = inr (
+    ap is_refused done.0,
+    λ a loaded fits told.
+        with_sketch eq codec content (λ (u : ⊤). StandsFor eq (empty_sketch shape)) (λ h. h) name tt (empty_sketch shape) (Some (begun shape)) old new a fits done.2 (λ h stands. stands) done.1 images,
+  )
+  makes shape name reply old new (inr done) images = inl (ap is_refused done.0, record { sketches = done.1; images = images })
 
-  create_case : (shape : Shape) (name : List ℕ) (found : Option (Sketch T)) (fault : Option Fault) (reply : Reply T) (old new : List (List ℕ × Sketch T)) (a : List ℕ → Option (History T)) →
-      at_name name old ≡ found → fault_of shape ≡ fault → SketchesFit old a → Creates eq shape name old reply new → SketchesFit new (cond (is_refused reply) a (put_at name (Some (begun shape)) a))
-  create_case shape name (Some sketch) fault reply old new a e f fits creates =
-      let done = rw e at creates in
-      rw done.0 (same_pairs (StandsFor eq) old new a fits done.1)
-  create_case shape name None (Some fault) reply old new a e f fits creates =
-      let done = rw (e, f) at creates in
-      rw done.0 (same_pairs (StandsFor eq) old new a fits done.1)
-  create_case shape name None None reply old new a e f fits creates = made_case shape name reply old new a fits (rw (e, f) at creates)
+  creates : (shape : Shape) (name : List ℕ) (found : Option (Sketch T)) (fault : Option Fault) (reply : Reply T) (old new : SessionState T) → at_name name old.sketches ≡ found → fault_of shape ≡ fault →
+      Creates eq shape name old.sketches reply new.sketches → AreSame old.images new.images → Outcome (action.Create name shape) reply old new
+  creates shape name (Some sketch) fault reply old new e f step images = let done = rw e at step in inl (ap is_refused done.0, record { sketches = done.1; images = images })
+  creates shape name None (Some fault) reply old new e f step images = let done = rw (e, f) at step in inl (ap is_refused done.0, record { sketches = done.1; images = images })
+  creates shape name None None reply old new e f step images = makes shape name reply old new (rw (e, f) at step) images
 
-  pub create_fits : (shape : Shape) (name : List ℕ) (reply : Reply T) (old new : List (List ℕ × Sketch T)) (a : List ℕ → Option (History T)) →
-      SketchesFit old a → Creates eq shape name old reply new → SketchesFit new (cond (is_refused reply) a (put_at name (Some (begun shape)) a))
-  create_fits shape name reply old new a fits creates = create_case shape name (at_name name old) (fault_of shape) reply old new a refl refl fits creates
+  -- something is made of what one name has, or nothing is
+  makes_from : {V W : Type 0} (source : Option V) (taken : Option W) (Makes : V → Type 0) (action : Action T) (reply : Reply T) (old new : SessionState T) → ((value : V) → source ≡ Some value → Makes value → Outcome action reply old new) →
+      MakesFrom source taken Makes old reply new → Outcome action reply old new
+  makes_from None taken Makes action reply old new made (same, refusal) = inl (ap is_refused refusal, same)
+  makes_from (Some value) (Some other) Makes action reply old new made (same, refusal) = inl (ap is_refused refusal, same)
+  makes_from (Some value) None Makes action reply old new made done = made value refl done
 
-  -- one that was refused
-  made_same : (shape : Shape) (name : List ℕ) (reply : Reply T) (old new : List (List ℕ × Sketch T)) → is_refused reply ≡ true → MakesEmpty eq name shape old reply new → AreSame old new
-  made_same shape name reply old new r (inl done) = absurd (false≢true (sym (ap is_refused done.0) ∙ r))
-  made_same shape name reply old new r (inr done) = done.1
+  -- an image that is saved
+  writes : (name image : List ℕ) (sketch : Sketch T) (reply : Reply T) (old new : SessionState T) → at_name name old.sketches ≡ Some sketch → Writes codec content sketch image old reply new → Outcome (action.Save name image) reply old new
+  writes name image sketch reply old new e done = wrote done.sketches done.outcome
+    where
+      wrote : AreSame old.sketches new.sketches → ((saved : Image) × (reply ≡ Done) × IsWrittenBy codec content sketch saved.kind saved.bytes × Puts image saved old.images new.images) ⊎ ((e : ErrorValue) × IsWriteRefusal codec content sketch e × Refuses (refused e) old.images reply new.images) → Outcome (action.Save name image) reply old new
+      wrote sketches (inl (saved, reply_is, written, puts)) = inr (
+        ap is_refused reply_is,
+        λ a loaded fits told.
+            let pair : Paired (StandsFor eq) (Some sketch) (a.sketches name) = rw e at (fits.sketches name) in
+            with_image eq codec content image sketch saved (a.sketches name) old new a fits pair written puts sketches,
+      )
+      wrote sketches (inr (error, why, (reply_is, images))) = inl (ap is_refused reply_is, record { sketches = sketches; images = images })
 
-  created_same : (shape : Shape) (name : List ℕ) (found : Option (Sketch T)) (fault : Option Fault) (reply : Reply T) (old new : List (List ℕ × Sketch T)) → at_name name old ≡ found → fault_of shape ≡ fault → is_refused reply ≡ true → Creates eq shape name old reply new → AreSame old new
-  created_same shape name (Some sketch) fault reply old new e f r creates = (rw e at creates).1
-  created_same shape name None (Some fault) reply old new e f r creates = (rw (e, f) at creates).1
-  created_same shape name None None reply old new e f r creates = made_same shape name reply old new r (rw (e, f) at creates)
+  -- an image that is restored
+  reads : (image name : List ℕ) (saved : Image) (reply : Reply T) (old new : SessionState T) → at_name image old.images ≡ Some saved → Reads eq codec content saved name old reply new → Outcome (action.Restore image name) reply old new
+  reads image name saved reply old new e done = read done.images done.outcome
+    where
+      read : AreSame old.images new.images → ((sketch : Sketch T) × (reply ≡ Done) × IsReadFrom codec content saved.kind saved.bytes sketch × GivesBack eq codec content saved.kind saved.bytes sketch × Puts name sketch old.sketches new.sketches) ⊎ ((e : ErrorValue) × IsReadRefusal codec saved.kind saved.bytes e × Refuses (refused e) old.sketches reply new.sketches) → Outcome (action.Restore image name) reply old new
+      read images (inl (sketch, reply_is, from, back, puts)) = inr (
+        ap is_refused reply_is,
+        λ a loaded fits told.
+            let pair : Paired (IsSavedOf eq codec content) (Some saved) (a.images image) = rw e at (fits.images image) in
+            with_sketch eq codec content (IsSavedOf eq codec content) restored name saved sketch (a.images image) old new a fits pair back puts images,
+      )
+      read images (inr (error, why, (reply_is, sketches))) = inl (ap is_refused reply_is, record { sketches = sketches; images = images })
 
-  pub create_same : (shape : Shape) (name : List ℕ) (reply : Reply T) (old new : List (List ℕ × Sketch T)) → is_refused reply ≡ true → Creates eq shape name old reply new → AreSame old new
-  create_same shape name reply old new r creates = created_same shape name (at_name name old) (fault_of shape) reply old new refl refl r creates
+  -- an image that is loaded
+  loads : (kind : ImageKind) (bytes : List ℕ) (max_bytes : ℕ) (name : List ℕ) (found : Option (Sketch T)) (reply : Reply T) (old new : SessionState T) → at_name name old.sketches ≡ found → Loads slot eq codec content kind bytes max_bytes name old reply new → Outcome (action.Load name kind bytes max_bytes) reply old new
+  loads kind bytes max_bytes name (Some sketch) reply old new e step = let done = rw e at step in inl (ap is_refused done.1, done.0)
+  loads kind bytes max_bytes name None reply old new e step = let done = rw e at step in brought done.images done.outcome
+    where
+      brought : AreSame old.images new.images → ((sketch : Sketch T) × (reply ≡ Done) × IsLoaded slot eq codec content kind bytes max_bytes sketch × Puts name sketch old.sketches new.sketches) ⊎ ((e : ErrorValue) × IsLoadRefusal slot codec max_bytes kind bytes e × Refuses (refused e) old.sketches reply new.sketches) → Outcome (action.Load name kind bytes max_bytes) reply old new
+      brought images (inl (sketch, reply_is, loaded, puts)) = inr (
+        ap is_refused reply_is,
+        λ a history fits told.
+            with_sketch eq codec content (λ (u : ⊤). IsImageOf eq codec content kind bytes) restored name tt sketch (Some history) old new a fits told loaded.stands puts images,
+      )
+      brought images (inr (error, why, (reply_is, sketches))) = inl (ap is_refused reply_is, record { sketches = sketches; images = images })
+
+  -- a query
+  tells : (action : Action T) (r : Bool) (reply : Reply T) (old new : SessionState T) → is_refused reply ≡ r → IsUnchanged old new → ((a : Assignment T) (loaded : History T) → accepted_told input a action loaded ≡ a) → Outcome action reply old new
+  tells action true reply old new r same query = inl (r, same)
+  tells action false reply old new r same query = inr (r, λ a loaded fits told. subst (SessionStandsFor eq codec content new) (sym (query a loaded)) (unchanged_fits eq codec content old new a fits same))
+
+  pub outcome_of : (action : Action T) (reply : Reply T) (old new : SessionState T) → Performs slot eq input codec content old action reply new → Outcome action reply old new
+  outcome_of (action.Create name shape) reply old new step = creates shape name (at_name name old.sketches) (fault_of shape) reply old new refl refl step.0 step.1
+  outcome_of (action.Alter name change) reply old new step = alters change name (at_name name old.sketches) reply old new refl step.0 step.1
+  outcome_of (action.Combine into other join) reply old new step = combines join into other (at_name into old.sketches) (at_name other old.sketches) reply old new refl refl step.0 step.1
+  outcome_of (action.Save name image) reply old new step =
+      makes_from (at_name name old.sketches) (at_name image old.images) (λ sketch. Writes codec content sketch image old reply new) (action.Save name image) reply old new (λ sketch e done. writes name image sketch reply old new e done) step
+  outcome_of (action.Restore image name) reply old new step =
+      makes_from (at_name image old.images) (at_name name old.sketches) (λ saved. Reads eq codec content saved name old reply new) (action.Restore image name) reply old new (λ saved e done. reads image name saved reply old new e done) step
+  outcome_of (action.Load name kind bytes max_bytes) reply old new step = loads kind bytes max_bytes name (at_name name old.sketches) reply old new refl step
+  outcome_of (action.ShowImage image) reply old new step = tells (action.ShowImage image) (is_refused reply) reply old new refl step.0 (λ a loaded. refl)
+  outcome_of (action.Ask name item) reply old new step = tells (action.Ask name item) (is_refused reply) reply old new refl step.0 (λ a loaded. refl)
+  outcome_of (action.GetStatus name) reply old new step = tells (action.GetStatus name) (is_refused reply) reply old new refl step.0 (λ a loaded. refl)
+  outcome_of (action.ListRows name error_type threshold) reply old new step = tells (action.ListRows name error_type threshold) (is_refused reply) reply old new refl step.0 (λ a loaded. refl)

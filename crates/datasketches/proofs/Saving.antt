@@ -4,7 +4,6 @@ use Rattle.std.specs.Prelude.{Result, Ok, Err, ⊤, IsTrue, IfErr, IfOk, IsOk, O
 use Rattle.std.specs.Global.{Global}
 use Rattle.std.specs.declared.vec.Vec.{Vec}
 use Rattle.std.specs.Option.{MatchOption, is_some}
-use Rattle.std.proofs.lemmas.Result.{err_from_is_err_and}
 use Rattle.sketch_base.specs.Errors.{ErrorValue, invalid_argument, no_memory, refusal_of}
 use Rattle.sketch_base.specs.declared.fault.Fault.{Fault}
 use Rattle.sketch_frequencies.specs.Items.{Codec}
@@ -25,7 +24,7 @@ use Rattle.datasketches.specs.Steps.{JoinsNamed, MakesEmpty, Refuses, Performs}
 use Rattle.datasketches.specs.declared.image_kind.ImageKind.{ImageKind}
 use Rattle.datasketches.specs.Actions.{Join}
 use Rattle.datasketches.specs.declared.reply.Refusal.{Refusal}
-use Rattle.datasketches.specs.declared.reply.Refusal.TheVariants.{Call, NoSuchName, NameTaken}
+use Rattle.datasketches.specs.declared.reply.Refusal.TheVariants.{NameTaken}
 use Rattle.datasketches.specs.declared.reply.Reply.{Reply}
 use Rattle.datasketches.specs.declared.reply.Reply.TheVariants.{Done, Image as Shown, Refused}
 use Rattle.datasketches.specs.Actions.{Shape}
