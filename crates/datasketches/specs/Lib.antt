@@ -23,6 +23,7 @@ pub mod Running
 -- names of lower crates that upper crates use
 pub use Rattle.sketch_base.specs.Faults
 pub use Rattle.sketch_frequencies.specs.RowValue
+pub use Rattle.sketch_bloom.specs.Building
 pub use Rattle.sketch_countmin.specs.declared.count_min_sizes.CountMinSizes
 pub use Rattle.sketch_frequencies.specs.declared.error_type.ErrorType
 pub use Rattle.sketch_frequencies.specs.Items

@@ -21,7 +21,7 @@ use Rattle.datasketches.specs.Actions.{Shape}
 use Rattle.datasketches.specs.Actions as action
 use Rattle.datasketches.specs.CountMinSizes.{CountMinSizes}
 use Rattle.datasketches.specs.declared.image_kind.ImageKind.{ImageKind}
-use Rattle.datasketches_cli.specs.Grammar.{Spelled, bytes_of_digits, number, number_below, signed_number, report_of, plain_kind, seeded_kind, count_min_sizes, counts_of, load_of, one_word, two_words, three_words, four_words, five_words, request_of, split_words}
+use Rattle.datasketches_cli.specs.Grammar.{Spelled, bytes_of_digits, number, number_below, signed_number, report_of, plain_kind, seeded_kind, count_min_sizes, filter_sizes, counts_of, load_of, one_word, two_words, three_words, four_words, five_words, request_of, split_words}
 use Rattle.datasketches_cli.specs.Laws.{IsShownAs, LoadsWhatWasShown, DigitsMakeWhatWasShown}
 use Rattle.datasketches_cli.specs.Requests.{Request, Act}
 
@@ -200,7 +200,7 @@ request_loads (v ∷ a ∷ b ∷ c ∷ e ∷ []) d last = found_loads (λ s. s a
   (
     counts_loads action.CountU64 a b c e d,
     (
-      chained _ d (λ m. chained _ d (λ h. mapped _ d (λ s. tt) (number e)) (number_below (2 ^ 16) c)) (number b),
+      mapped _ d (λ sizes. tt) (filter_sizes b c e),
       (load_loads a (plain_kind b) c e d last, tt),
     ),
   ),

@@ -10,6 +10,7 @@ use Rattle.sketch_base.specs.Split.{words_by}
 use Rattle.sketch_base.specs.declared.separator.Separator.TheVariants.{Space}
 use Rattle.datasketches.specs.Actions.{Shape}
 use Rattle.datasketches.specs.Actions as action
+use Rattle.datasketches.specs.Building.{Request as FilterSizes}
 use Rattle.datasketches.specs.CountMinSizes.{CountMinSizes}
 use Rattle.datasketches.specs.ErrorType.{ErrorType}
 use Rattle.datasketches.specs.ErrorType.TheVariants.{NoFalseNegatives, NoFalsePositives}
@@ -67,6 +68,12 @@ abbrev pub count_min_sizes : (hashes buckets seed : List ℕ) → Option CountMi
 count_min_sizes hashes buckets seed =
     option_and_then (λ h. option_and_then (λ b. option_map (λ s. record { num_hashes = h; num_buckets = b; seed = s }) (number seed))
     (number_below (2 ^ 32) buckets)) (number_below (2 ^ 8) hashes)
+
+-- the sizes and the seed of a filter that three words spell
+abbrev pub filter_sizes : (bits hashes seed : List ℕ) → Option FilterSizes
+filter_sizes bits hashes seed =
+    option_and_then (λ b. option_and_then (λ h. option_map (λ s. record { num_bits = b; num_hashes = h; seed = s }) (number seed))
+    (number_below (2 ^ 16) hashes)) (number bits)
 
 -- the words of a verb that creates a Count-Min sketch
 abbrev pub counts_of : (CountMinSizes → Shape) → (name hashes buckets seed : List ℕ) → Spelled
@@ -134,9 +141,7 @@ four_words =
     ∷ (codes "countu", counts_of action.CountU64)
     ∷ (
       codes "bloom",
-      λ name bits hashes seed. option_and_then (λ b. option_and_then (λ h.
-          option_map (λ s. Act (action.Create name (action.Bloom (record { num_bits = b; num_hashes = h; seed = s }))))
-          (number seed)) (number_below (2 ^ 16) hashes)) (number bits),
+      λ name bits hashes seed. option_map (λ sizes. Act (action.Create name (action.Bloom sizes))) (filter_sizes bits hashes seed),
     )
     ∷ (codes "load", λ name kind max digits. load_of name (plain_kind kind) max digits) ∷ []
 

@@ -7,7 +7,7 @@ ghost use Rattle.std.specs.List.{list_all};
 ghost use Rattle.sketch_base.specs.Errors.{no_memory};
 ghost use Rattle.datasketches.specs.Actions as action;
 ghost use Rattle.datasketches.specs.Replies.{done_or, told};
-ghost use Rattle.datasketches_cli.specs.Grammar.{bytes_of_digits, count_min_sizes, load_of, plain_kind, request_of, seeded_kind};
+ghost use Rattle.datasketches_cli.specs.Grammar.{bytes_of_digits, count_min_sizes, filter_sizes, load_of, plain_kind, request_of, seeded_kind};
 ghost use Rattle.datasketches_cli.specs.Parsing.{texts_of};
 ghost use Rattle.datasketches_cli.specs.Requests.{Request};
 ghost use Rattle.datasketches_cli.specs.Serving.{Runs};
@@ -186,12 +186,7 @@ impl State {
                         .create_count_min_u64(a, count_min_sizes(b, c, d)?),
                 )
             }
-            "bloom" => {
-                let num_bits = number_of(b)?;
-                let num_hashes = number_below(c, 1 << 16)? as u16;
-                let sizes = BloomFilterBuilder::with_size(num_bits, num_hashes).seed(number_of(d)?);
-                done(self.session.create_bloom_filter(a, sizes))
-            }
+            "bloom" => { done(self.session.create_bloom_filter(a, filter_sizes(b, c, d)?)) }
             "load" => self.load(alloc, a, plain_kind(b), c, d),
             _ => None,
         }
@@ -301,6 +296,16 @@ fn count_min_sizes(num_hashes: &str, num_buckets: &str, seed: &str) -> Option<Co
         num_buckets: number_below(num_buckets, 1 << 32)? as u32,
         seed: number_of(seed)?,
     })
+}
+
+/// Parses the sizes and the seed of a filter.
+fn filter_sizes(num_bits: &str, num_hashes: &str, seed: &str) -> Option<BloomFilterBuilder>
+    ensures { result ≡ filter_sizes num_bits.now num_hashes.now seed.now }
+{
+    let num_bits = number_of(num_bits)?;
+    let num_hashes = number_below(num_hashes, 1 << 16)? as u16;
+    let seed = number_of(seed)?;
+    Some(BloomFilterBuilder::with_size(num_bits, num_hashes).seed(seed))
 }
 
 /// Parses the kind of an image that is read without a seed.
