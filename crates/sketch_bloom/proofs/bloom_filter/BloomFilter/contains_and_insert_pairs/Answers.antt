@@ -1,14 +1,14 @@
-use Rattle.std.proofs.Common.{ℕ, get_or, refl, sym, ap, subst, ◌∙◌, arith}
+use Rattle.std.proofs.Common.{ℕ, get_or, refl, sym, ap, ◌∙◌, arith}
 use Rattle.std.specs.List.{fold}
 use Rattle.std.proofs.lemmas.List.{take_all}
 use Rattle.sketch_bloom.specs.Pairs.{contains_pair, with_pair, pairs_contained}
-use Rattle.sketch_bloom.specs.State.{FilterState, IsFilterState}
+use Rattle.sketch_bloom.specs.State.{FilterState}
 use Rattle.sketch_bloom.proofs.Answering.{contained_more}
 use Rattle.sketch_bloom.proofs.Batches.{fold_more}
 use Rattle.sketch_bloom.proofs.bloom_filter.BloomFilter.contains_and_insert_pairs.Goals as goal
 
 pub pairs-init : goal.pairs-init
-pairs-init c = record { answers = refl; insertions = refl; state = subst (λ (s : FilterState). IsFilterState s) c.self.view_is c.self.invariant.state }
+pairs-init c = record { answers = refl; insertions = refl }
 
 pub pairs-preserved : goal.pairs-preserved
 pairs-preserved c =
@@ -19,7 +19,6 @@ pairs-preserved c =
       insertions = c.insert_pair.ensures.insertion
           ∙ (ap (λ (s : FilterState). with_pair s pair) c.pairs.invariant.insertions
           ∙ sym (fold_more with_pair c.args.self.now c.args.pairs.now c.pairs.i (0, 0) c.pairs-test.true));
-      state = c.insert_pair.ensures.state;
     }
 
 pub returns-clause-answers : goal.returns-clause-answers
