@@ -113,7 +113,8 @@ fn add_hashed<T: CountMinValue, R: Rehashable>(counts: &mut [T], rows: &Rows, by
     }
 }
 
-/// Does the same as `add_hashed` for an item of many bytes, which is fed again for each row.
+/// Does the same as `add_hashed` for an item of many bytes, which is fed again for each row. It takes the fields of the
+/// rows, since it is not inlined: a reference would keep its caller's rows in memory.
 #[inline(never)]
 fn add_long<T: CountMinValue, I: Hash>(
     counts: &mut [T],
@@ -197,7 +198,7 @@ fn min_hashed<T: CountMinValue, C: CellList<T>, R: Rehashable>(
     }
 }
 
-/// Does the same as `min_hashed` for an item of many bytes, which is fed again for each row.
+/// Does the same as `min_hashed` for an item of many bytes, as `add_long` adds to its cells.
 #[inline(never)]
 fn min_long<T: CountMinValue, C: CellList<T>, I: Hash>(
     counts: &C,
