@@ -60,7 +60,11 @@ impl<'a, T: CountMinValue, I: Hash> RowItem<T> for HashItem<'a, I> {
     fn add_to_rows(&self, counts: &mut [T], rows: &Rows, weight: T) {
         let hashed = RehashableItem::new(self.item);
         match hashed.short() {
-            Some(bytes) => add_hashed(counts, rows, bytes, weight),
+            Some(bytes) if !rows.buckets.is_power_of_two() => {
+                add_to_each(counts, rows, false, bytes, weight)
+            }
+            Some(bytes) if rows.seeds.len() == 4 => add_to_four(counts, rows, bytes, weight),
+            Some(bytes) => add_to_each(counts, rows, true, bytes, weight),
             None => add_long(counts, rows.seeds, rows.buckets, self.item, weight),
         }
     }
@@ -69,7 +73,11 @@ impl<'a, T: CountMinValue, I: Hash> RowItem<T> for HashItem<'a, I> {
     fn min_cell<C: CellList<T>>(&self, counts: &C, rows: &Rows) -> T {
         let hashed = RehashableItem::new(self.item);
         match hashed.short() {
-            Some(bytes) => min_hashed(counts, rows, bytes),
+            Some(bytes) if !rows.buckets.is_power_of_two() => {
+                min_of_each(counts, rows, false, bytes)
+            }
+            Some(bytes) if rows.seeds.len() == 4 => min_of_four(counts, rows, bytes),
+            Some(bytes) => min_of_each(counts, rows, true, bytes),
             None => min_long(counts, rows.seeds, rows.buckets, self.item),
         }
     }
@@ -86,35 +94,32 @@ impl<'a, T: CountMinValue> RowItem<T> for StrItem<'a> {
 
     #[inline(always)]
     fn add_to_rows(&self, counts: &mut [T], rows: &Rows, weight: T) {
-        add_hashed(counts, rows, &RehashableStr::new(self.item), weight);
+        let bytes = RehashableStr::new(self.item);
+        if !rows.buckets.is_power_of_two() {
+            add_to_each(counts, rows, false, &bytes, weight);
+        } else if rows.seeds.len() == 4 {
+            add_to_four(counts, rows, &bytes, weight);
+        } else {
+            add_to_each(counts, rows, true, &bytes, weight);
+        }
     }
 
     #[inline(always)]
     fn min_cell<C: CellList<T>>(&self, counts: &C, rows: &Rows) -> T {
-        min_hashed(counts, rows, &RehashableStr::new(self.item))
+        let bytes = RehashableStr::new(self.item);
+        if !rows.buckets.is_power_of_two() {
+            min_of_each(counts, rows, false, &bytes)
+        } else if rows.seeds.len() == 4 {
+            min_of_four(counts, rows, &bytes)
+        } else {
+            min_of_each(counts, rows, true, &bytes)
+        }
     }
 }
 
-/// Adds the weight at the bucket of hashed bytes in each row.
-#[inline(always)]
-fn add_hashed<T: CountMinValue, R: Rehashable>(counts: &mut [T], rows: &Rows, bytes: &R, weight: T)
-    requires hashable { R.can_hash bytes.now }
-    requires shape { length counts.old ≡ length rows.now.seeds.now * rows.now.buckets }
-    requires room { (k : ℕ) → unsigned_abs (cell_in (map T.number counts.old) k +ℤ T.number weight) ≤ T.greatest }
-    ensures { IsItemAdded rows.now.buckets rows.now.seeds.now (R.bytes bytes.now) (T.number weight)
-        (map T.number counts.old) (map T.number counts.new) }
-{
-    if !rows.buckets.is_power_of_two() {
-        add_to_each(counts, rows, false, bytes, weight);
-    } else if rows.seeds.len() == 4 {
-        add_to_four(counts, rows, bytes, weight);
-    } else {
-        add_to_each(counts, rows, true, bytes, weight);
-    }
-}
-
-/// Does the same as `add_hashed` for an item of many bytes, which is fed again for each row. It takes the fields of the
-/// rows, since it is not inlined: a reference would keep its caller's rows in memory.
+/// Adds the weight at the bucket of an item of many bytes in each row. The item is fed again for each row.
+///
+/// It takes the fields of the rows, since it is not inlined: a reference would keep its caller's rows in memory.
 #[inline(never)]
 fn add_long<T: CountMinValue, I: Hash>(
     counts: &mut [T],
@@ -135,7 +140,7 @@ fn add_long<T: CountMinValue, I: Hash>(
     add_to_each(counts, &rows, buckets.is_power_of_two(), &item, weight);
 }
 
-/// Does the same as `add_hashed` for four rows and a power of two of buckets.
+/// Adds the weight at the bucket of hashed bytes in each of four rows. The number of buckets is a power of two.
 #[inline(always)]
 fn add_to_four<T: CountMinValue, R: Rehashable>(counts: &mut [T], rows: &Rows, bytes: &R, weight: T)
     requires power { IsTrue (is_power_of_two rows.now.buckets) }
@@ -156,7 +161,7 @@ fn add_to_four<T: CountMinValue, R: Rehashable>(counts: &mut [T], rows: &Rows, b
     add_at(counts, fourth, weight);
 }
 
-/// Does the same as `add_hashed`, row by row. `masked` requires a power of two of buckets.
+/// Adds the weight at the bucket of hashed bytes in each row. `masked` requires a power of two of buckets.
 #[inline(always)]
 fn add_to_each<T: CountMinValue, R: Rehashable>(
     counts: &mut [T],
@@ -178,27 +183,7 @@ fn add_to_each<T: CountMinValue, R: Rehashable>(
     }
 }
 
-/// Returns the minimum of the cells of hashed bytes.
-#[inline(always)]
-fn min_hashed<T: CountMinValue, C: CellList<T>, R: Rehashable>(
-    counts: &C,
-    rows: &Rows,
-    bytes: &R,
-) -> T
-    requires hashable { R.can_hash bytes.now }
-    requires shape { length (C.list counts.now) ≡ length rows.now.seeds.now * rows.now.buckets }
-    ensures { IsItemMin rows.now.buckets rows.now.seeds.now (R.bytes bytes.now) (C.list counts.now) (T.number result) }
-{
-    if !rows.buckets.is_power_of_two() {
-        min_of_each(counts, rows, false, bytes)
-    } else if rows.seeds.len() == 4 {
-        min_of_four(counts, rows, bytes)
-    } else {
-        min_of_each(counts, rows, true, bytes)
-    }
-}
-
-/// Does the same as `min_hashed` for an item of many bytes, as `add_long` adds to its cells.
+/// Returns the minimum of the cells of an item of many bytes, which is fed again for each row.
 #[inline(never)]
 fn min_long<T: CountMinValue, C: CellList<T>, I: Hash>(
     counts: &C,
@@ -217,7 +202,7 @@ fn min_long<T: CountMinValue, C: CellList<T>, I: Hash>(
     min_of_each(counts, &rows, buckets.is_power_of_two(), &item)
 }
 
-/// Does the same as `min_hashed` for four rows and a power of two of buckets.
+/// Returns the minimum of the cells of hashed bytes in four rows. The number of buckets is a power of two.
 #[inline(always)]
 fn min_of_four<T: CountMinValue, C: CellList<T>, R: Rehashable>(
     counts: &C,
@@ -240,7 +225,7 @@ fn min_of_four<T: CountMinValue, C: CellList<T>, R: Rehashable>(
     three.min(counts.cell(fourth))
 }
 
-/// Does the same as `min_hashed`, row by row. `masked` requires a power of two of buckets.
+/// Returns the minimum of the cells of hashed bytes. `masked` requires a power of two of buckets.
 #[inline(always)]
 fn min_of_each<T: CountMinValue, C: CellList<T>, R: Rehashable>(
     counts: &C,
