@@ -19,21 +19,27 @@ use sketch_base::{Divisor, Rehashable, RehashableItem, RehashableStr, murmur3_of
 use std::hash::Hash;
 
 /// An item, by the bytes that are hashed for each row.
+///
+/// Its methods take the fields of [`Rows`] one by one, so that a call that is not inlined passes them in registers.
 pub trait RowItem<T: CountMinValue> {
     // The bytes that the item's `Hash` feeds.
     ghost input: { Self → List ℕ };
 
     /// Adds the weight at the item's bucket of each row.
-    fn add_to_rows(&self, counts: &mut [T], rows: &Rows, weight: T)
-        requires shape { length counts.old ≡ length rows.now.seeds.now * rows.now.buckets }
+    fn add_to_rows(&self, counts: &mut [T], buckets: Divisor, seeds: &[u64], weight: T)
+        requires some { 0 < length seeds.now }
+        requires fits { length seeds.now * buckets < 2 ^ 64 }
+        requires shape { length counts.old ≡ length seeds.now * buckets }
         requires room { (k : ℕ) → unsigned_abs (cell_in (map T.number counts.old) k +ℤ T.number weight) ≤ T.greatest }
-        ensures { IsItemAdded rows.now.buckets rows.now.seeds.now (input self.now) (T.number weight)
+        ensures { IsItemAdded buckets seeds.now (input self.now) (T.number weight)
             (map T.number counts.old) (map T.number counts.new) };
 
     /// Returns the minimum of the item's cells.
-    fn min_cell<C: CellList<T>>(&self, counts: &C, rows: &Rows) -> T
-        requires { length (C.list counts.now) ≡ length rows.now.seeds.now * rows.now.buckets }
-        ensures { IsItemMin rows.now.buckets rows.now.seeds.now (input self.now) (C.list counts.now) (T.number result) };
+    fn min_cell<C: CellList<T>>(&self, counts: &C, buckets: Divisor, seeds: &[u64]) -> T
+        requires some { 0 < length seeds.now }
+        requires fits { length seeds.now * buckets < 2 ^ 64 }
+        requires shape { length (C.list counts.now) ≡ length seeds.now * buckets }
+        ensures { IsItemMin buckets seeds.now (input self.now) (C.list counts.now) (T.number result) };
 }
 
 /// An item of any type that can be hashed. It is fed again for each hash.
@@ -57,28 +63,30 @@ impl<'a, T: CountMinValue, I: Hash> RowItem<T> for HashItem<'a, I> {
     ghost input = { λ row. fed_bytes I.hash_input row.item.now };
 
     #[inline(always)]
-    fn add_to_rows(&self, counts: &mut [T], rows: &Rows, weight: T) {
+    fn add_to_rows(&self, counts: &mut [T], buckets: Divisor, seeds: &[u64], weight: T) {
+        let rows = Rows { seeds, buckets };
         let hashed = RehashableItem::new(self.item);
         match hashed.short() {
-            Some(bytes) if !rows.buckets.is_power_of_two() => {
-                add_to_each(counts, rows, false, bytes, weight)
+            Some(bytes) if !buckets.is_power_of_two() => {
+                add_to_each(counts, &rows, false, bytes, weight)
             }
-            Some(bytes) if rows.seeds.len() == 4 => add_to_four(counts, rows, bytes, weight),
-            Some(bytes) => add_to_each(counts, rows, true, bytes, weight),
-            None => add_long(counts, rows.seeds, rows.buckets, self.item, weight),
+            Some(bytes) if seeds.len() == 4 => add_to_four(counts, &rows, bytes, weight),
+            Some(bytes) => add_to_each(counts, &rows, true, bytes, weight),
+            None => add_long(counts, buckets, seeds, self.item, weight),
         }
     }
 
     #[inline(always)]
-    fn min_cell<C: CellList<T>>(&self, counts: &C, rows: &Rows) -> T {
+    fn min_cell<C: CellList<T>>(&self, counts: &C, buckets: Divisor, seeds: &[u64]) -> T {
+        let rows = Rows { seeds, buckets };
         let hashed = RehashableItem::new(self.item);
         match hashed.short() {
-            Some(bytes) if !rows.buckets.is_power_of_two() => {
-                min_of_each(counts, rows, false, bytes)
+            Some(bytes) if !buckets.is_power_of_two() => {
+                min_of_each(counts, &rows, false, bytes)
             }
-            Some(bytes) if rows.seeds.len() == 4 => min_of_four(counts, rows, bytes),
-            Some(bytes) => min_of_each(counts, rows, true, bytes),
-            None => min_long(counts, rows.seeds, rows.buckets, self.item),
+            Some(bytes) if seeds.len() == 4 => min_of_four(counts, &rows, bytes),
+            Some(bytes) => min_of_each(counts, &rows, true, bytes),
+            None => min_long(counts, buckets, seeds, self.item),
         }
     }
 }
@@ -93,38 +101,38 @@ impl<'a, T: CountMinValue> RowItem<T> for StrItem<'a> {
     ghost input = { λ row. fed_bytes fed.str row.item.now };
 
     #[inline(always)]
-    fn add_to_rows(&self, counts: &mut [T], rows: &Rows, weight: T) {
+    fn add_to_rows(&self, counts: &mut [T], buckets: Divisor, seeds: &[u64], weight: T) {
+        let rows = Rows { seeds, buckets };
         let bytes = RehashableStr::new(self.item);
-        if !rows.buckets.is_power_of_two() {
-            add_to_each(counts, rows, false, &bytes, weight);
-        } else if rows.seeds.len() == 4 {
-            add_to_four(counts, rows, &bytes, weight);
+        if !buckets.is_power_of_two() {
+            add_to_each(counts, &rows, false, &bytes, weight);
+        } else if seeds.len() == 4 {
+            add_to_four(counts, &rows, &bytes, weight);
         } else {
-            add_to_each(counts, rows, true, &bytes, weight);
+            add_to_each(counts, &rows, true, &bytes, weight);
         }
     }
 
     #[inline(always)]
-    fn min_cell<C: CellList<T>>(&self, counts: &C, rows: &Rows) -> T {
+    fn min_cell<C: CellList<T>>(&self, counts: &C, buckets: Divisor, seeds: &[u64]) -> T {
+        let rows = Rows { seeds, buckets };
         let bytes = RehashableStr::new(self.item);
-        if !rows.buckets.is_power_of_two() {
-            min_of_each(counts, rows, false, &bytes)
-        } else if rows.seeds.len() == 4 {
-            min_of_four(counts, rows, &bytes)
+        if !buckets.is_power_of_two() {
+            min_of_each(counts, &rows, false, &bytes)
+        } else if seeds.len() == 4 {
+            min_of_four(counts, &rows, &bytes)
         } else {
-            min_of_each(counts, rows, true, &bytes)
+            min_of_each(counts, &rows, true, &bytes)
         }
     }
 }
 
 /// Adds the weight at the bucket of an item of many bytes in each row. The item is fed again for each row.
-///
-/// It takes the fields of the rows, since it is not inlined: a reference would keep its caller's rows in memory.
 #[inline(never)]
 fn add_long<T: CountMinValue, I: Hash>(
     counts: &mut [T],
-    seeds: &[u64],
     buckets: Divisor,
+    seeds: &[u64],
     item: &I,
     weight: T,
 )
@@ -187,8 +195,8 @@ fn add_to_each<T: CountMinValue, R: Rehashable>(
 #[inline(never)]
 fn min_long<T: CountMinValue, C: CellList<T>, I: Hash>(
     counts: &C,
-    seeds: &[u64],
     buckets: Divisor,
+    seeds: &[u64],
     item: &I,
 ) -> T
     requires some { 0 < length seeds.now }
