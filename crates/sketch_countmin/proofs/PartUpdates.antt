@@ -1,12 +1,10 @@
 -- The items of a text, counted one after another.
-use Rattle.std.proofs.Common.{◌≡◌, ℕ, ◌+◌, ◌-◌, ◌<◌, ◌≤◌, Bool, eqb, map, take, true, false, cond, List, [], ◌∷◌, ◌++◌, length, append_assoc, ℤ, pos, ◌+ℤ◌, refl, sym, ap, ◌∙◌, subst, arith}
+use Rattle.std.proofs.Common.{inl, inr, ◌≡◌, ℕ, ◌+◌, ◌-◌, ◌<◌, ◌≤◌, Bool, map, take, true, false, cond, List, [], ◌∷◌, ◌++◌, length, append_assoc, ℤ, pos, ◌+ℤ◌, refl, sym, ap, ◌∙◌, subst, arith}
 use Rattle.std.specs.Prelude.{◌==◌, count_by}
-use Rattle.std.proofs.lemmas.Bool.{false≢true}
-use Rattle.std.proofs.lemmas.Bool.Decides.{nat_tests}
+use Rattle.std.proofs.lemmas.Bool.{cases_lt, false≢true}
 use Rattle.std.proofs.lemmas.Int.{ints}
-use Rattle.std.proofs.lemmas.List.{length_push, length-append, take_all}
+use Rattle.std.proofs.lemmas.List.{length_push, length-append, length-map, take_all}
 use Rattle.std.proofs.lemmas.List.Sums.{sum_by_push}
-use Rattle.sketch_base.specs.Split.{with_word}
 use Rattle.sketch_countmin.specs.Buckets.{bucket_of}
 use Rattle.sketch_countmin.specs.Rows.{cell_at}
 use Rattle.sketch_countmin.specs.State.{CountState, Counts, CountsAll}
@@ -70,20 +68,24 @@ take_front : {A : Type 0} (xs ys : List A) → take (length xs) (xs ++ ys) ≡ x
 take_front [] ys = refl
 take_front (x ∷ xs) ys = ap (λ l. x ∷ l) (take_front xs ys)
 
--- all items are counted, and the total had room for them
-pub counted_all : (old new : CountState) (items rest : List (List ℕ)) (greatest : ℕ) → HasCounted old items rest new → rest ≡ [] → new.total ≤ greatest
-    → CountsAll old (take (greatest - old.total) items) new × (old.total + length items ≤ greatest)
-counted_all old new items rest greatest so none fits =
+-- all parts are counted, and the total had room for them
+pub counted_all : (f : List ℕ → List ℕ) (old new : CountState) (parts rest : List (List ℕ)) (greatest : ℕ) → HasCounted old (map f parts) rest new → rest ≡ [] → new.total ≤ greatest
+    → CountsAll old (take (greatest - old.total) (map f parts)) new × (old.total + length parts ≤ greatest)
+counted_all f old new parts rest greatest so none fits =
+    let items : List (List ℕ) = map f parts in
     let whole : items ≡ so.before = so.parts ∙ (ap (λ l. so.before ++ l) none ∙ nothing_more so.before) in
-    let fit : old.total + length items ≤ greatest = omega (arith, so.counted.total, ap length whole) in
-    let room : length items ≤ greatest - old.total = omega arith in
+    let fit : old.total + length parts ≤ greatest = omega (arith, so.counted.total, ap length whole, length-map parts f) in
+    let room : length items ≤ greatest - old.total = omega (arith, length-map parts f) in
     (subst (λ xs. CountsAll old xs new) (sym (take_all (greatest - old.total) items room ∙ whole)) so.counted, fit)
 
--- the items that the total has room for are counted, and there is one more
-pub counted_stop : (old mid : CountState) (items rest after : List (List ℕ)) (bytes : List ℕ) (greatest : ℕ) → HasCounted old items rest mid → rest ≡ bytes ∷ after → mid.total ≤ greatest → greatest < mid.total + 1
-    → CountsAll old (take (greatest - old.total) items) mid × (greatest < old.total + length items)
-counted_stop old mid items rest after bytes greatest so next fits over =
-    let parts : items ≡ so.before ++ bytes ∷ after = so.parts ∙ ap (λ l. so.before ++ l) next in
+-- the parts that the total has room for are counted, and there is one more
+pub counted_stop : (f : List ℕ → List ℕ) (old mid new : CountState) (parts rest after : List (List ℕ)) (bytes : List ℕ) (greatest : ℕ) → HasCounted old (map f parts) rest mid → rest ≡ bytes ∷ after
+    → mid.total ≤ greatest → (mid.total + 1 ≤ greatest → false ≡ true) → new ≡ mid
+    → CountsAll old (take (greatest - old.total) (map f parts)) new × (greatest < old.total + length parts)
+counted_stop f old mid new parts rest after bytes greatest so next fits full same =
+    let items : List (List ℕ) = map f parts in
+    let over : greatest < mid.total + 1 = elim (cases_lt greatest (mid.total + 1)) [ inl lt ↦ lt | inr le ↦ absurd (false≢true (full le)) ] in
+    let split : items ≡ so.before ++ bytes ∷ after = so.parts ∙ ap (λ l. so.before ++ l) next in
     let room : greatest - old.total ≡ length so.before = omega (arith, so.counted.total) in
-    let front : take (greatest - old.total) items ≡ so.before = ap (λ (n : ℕ). take n items) room ∙ (ap (take (length so.before)) parts ∙ take_front so.before (bytes ∷ after)) in
-    (subst (λ xs. CountsAll old xs mid) (sym front) so.counted, omega (arith, so.counted.total, ap length parts, length-append so.before (bytes ∷ after)))
+    let front : take (greatest - old.total) items ≡ so.before = ap (λ (n : ℕ). take n items) room ∙ (ap (take (length so.before)) split ∙ take_front so.before (bytes ∷ after)) in
+    (rw same (subst (λ xs. CountsAll old xs mid) (sym front) so.counted), omega (arith, so.counted.total, ap length split, length-append so.before (bytes ∷ after), length-map parts f))

@@ -20,7 +20,7 @@ use crate::count_min_value::CountMinValue;
 use crate::item_cells::{HashItem, RowItem};
 use crate::limits::{MAX_TABLE_ENTRIES, MIN_NUM_BUCKETS};
 use crate::margin::with_margin;
-use crate::rows::{Rows, row_seeds};
+use crate::rows::row_seeds;
 use crate::unsigned_count_min_value::UnsignedCountMinValue;
 use sketch_base::{DEFAULT_UPDATE_SEED, Divisor, Error, ErrorKind, Fault, compute_seed_hash};
 use std::alloc::{AllocError, Global};
@@ -267,11 +267,7 @@ impl<T: CountMinValue> CountMinSketch<T> {
         if weight.to_number() == 0 {
             return Ok(());
         }
-        let rows = Rows {
-            seeds: &self.row_seeds,
-            buckets: self.buckets,
-        };
-        item.add_to_rows(&mut self.counts, &rows, weight);
+        item.add_to_rows(&mut self.counts, self.buckets, &self.row_seeds, weight);
         self.total = total;
         Ok(())
     }
@@ -333,11 +329,7 @@ impl<T: CountMinValue> CountMinSketch<T> {
             → IsMin self.now.hashes (others_share self.now.buckets self.now.seed h (R.input item.now))
             (T.number result -ℤ own_value h (R.input item.now)) }
     {
-        let rows = Rows {
-            seeds: &self.row_seeds,
-            buckets: self.buckets,
-        };
-        item.min_cell(&self.counts.as_slice(), &rows)
+        item.min_cell(&self.counts.as_slice(), self.buckets, &self.row_seeds)
     }
 
     /// Returns the estimate. It is no lower bound of the item's true weight: collisions can raise it above that.

@@ -18,7 +18,6 @@ use crate::image::{read_preamble, read_total};
 use crate::item_cells::{HashItem, RowItem, StrItem};
 use crate::limits::MAX_TABLE_ENTRIES;
 use crate::margin::with_margin;
-use crate::rows::Rows;
 use sketch_base::{DEFAULT_UPDATE_SEED, Divisor, Error, murmur3_of_u64};
 use std::hash::Hash;
 use std::marker::Model;
@@ -239,11 +238,8 @@ impl<'a, T: CountMinValue> CountMinView<'a, T> {
             return T::ZERO;
         }
         let cells = ByteCells::new(self.bytes, self.total);
-        let rows = Rows {
-            seeds: &self.row_seeds[..self.num_hashes as usize],
-            buckets: self.buckets,
-        };
-        item.min_cell(&cells, &rows)
+        let row_seeds = &self.row_seeds[..self.num_hashes as usize];
+        item.min_cell(&cells, self.buckets, row_seeds)
     }
 
     /// Returns the estimate plus a margin, or the maximum of `T` if this exceeds it, as

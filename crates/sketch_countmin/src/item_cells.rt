@@ -19,21 +19,27 @@ use sketch_base::{Divisor, Rehashable, RehashableItem, RehashableStr, murmur3_of
 use std::hash::Hash;
 
 /// An item, by the bytes that are hashed for each row.
+///
+/// Its methods take the fields of [`Rows`] one by one, so that a call that is not inlined passes them in registers.
 pub trait RowItem<T: CountMinValue> {
     // The bytes that the item's `Hash` feeds.
     ghost input: { Self → List ℕ };
 
     /// Adds the weight at the item's bucket of each row.
-    fn add_to_rows(&self, counts: &mut [T], rows: &Rows, weight: T)
-        requires shape { length counts.old ≡ length rows.now.seeds.now * rows.now.buckets }
+    fn add_to_rows(&self, counts: &mut [T], buckets: Divisor, seeds: &[u64], weight: T)
+        requires some { 0 < length seeds.now }
+        requires fits { length seeds.now * buckets < 2 ^ 64 }
+        requires shape { length counts.old ≡ length seeds.now * buckets }
         requires room { (k : ℕ) → unsigned_abs (cell_in (map T.number counts.old) k +ℤ T.number weight) ≤ T.greatest }
-        ensures { IsItemAdded rows.now.buckets rows.now.seeds.now (input self.now) (T.number weight)
+        ensures { IsItemAdded buckets seeds.now (input self.now) (T.number weight)
             (map T.number counts.old) (map T.number counts.new) };
 
     /// Returns the minimum of the item's cells.
-    fn min_cell<C: CellList<T>>(&self, counts: &C, rows: &Rows) -> T
-        requires { length (C.list counts.now) ≡ length rows.now.seeds.now * rows.now.buckets }
-        ensures { IsItemMin rows.now.buckets rows.now.seeds.now (input self.now) (C.list counts.now) (T.number result) };
+    fn min_cell<C: CellList<T>>(&self, counts: &C, buckets: Divisor, seeds: &[u64]) -> T
+        requires some { 0 < length seeds.now }
+        requires fits { length seeds.now * buckets < 2 ^ 64 }
+        requires shape { length (C.list counts.now) ≡ length seeds.now * buckets }
+        ensures { IsItemMin buckets seeds.now (input self.now) (C.list counts.now) (T.number result) };
 }
 
 /// An item of any type that can be hashed. It is fed again for each hash.
@@ -57,20 +63,30 @@ impl<'a, T: CountMinValue, I: Hash> RowItem<T> for HashItem<'a, I> {
     ghost input = { λ row. fed_bytes I.hash_input row.item.now };
 
     #[inline(always)]
-    fn add_to_rows(&self, counts: &mut [T], rows: &Rows, weight: T) {
+    fn add_to_rows(&self, counts: &mut [T], buckets: Divisor, seeds: &[u64], weight: T) {
+        let rows = Rows { seeds, buckets };
         let hashed = RehashableItem::new(self.item);
         match hashed.short() {
-            Some(bytes) => add_hashed(counts, rows, bytes, weight),
-            None => add_long(counts, rows.seeds, rows.buckets, self.item, weight),
+            Some(bytes) if !buckets.is_power_of_two() => {
+                add_to_each(counts, &rows, false, bytes, weight)
+            }
+            Some(bytes) if seeds.len() == 4 => add_to_four(counts, &rows, bytes, weight),
+            Some(bytes) => add_to_each(counts, &rows, true, bytes, weight),
+            None => add_long(counts, buckets, seeds, self.item, weight),
         }
     }
 
     #[inline(always)]
-    fn min_cell<C: CellList<T>>(&self, counts: &C, rows: &Rows) -> T {
+    fn min_cell<C: CellList<T>>(&self, counts: &C, buckets: Divisor, seeds: &[u64]) -> T {
+        let rows = Rows { seeds, buckets };
         let hashed = RehashableItem::new(self.item);
         match hashed.short() {
-            Some(bytes) => min_hashed(counts, rows, bytes),
-            None => min_long(counts, rows.seeds, rows.buckets, self.item),
+            Some(bytes) if !buckets.is_power_of_two() => {
+                min_of_each(counts, &rows, false, bytes)
+            }
+            Some(bytes) if seeds.len() == 4 => min_of_four(counts, &rows, bytes),
+            Some(bytes) => min_of_each(counts, &rows, true, bytes),
+            None => min_long(counts, buckets, seeds, self.item),
         }
     }
 }
@@ -85,40 +101,38 @@ impl<'a, T: CountMinValue> RowItem<T> for StrItem<'a> {
     ghost input = { λ row. fed_bytes fed.str row.item.now };
 
     #[inline(always)]
-    fn add_to_rows(&self, counts: &mut [T], rows: &Rows, weight: T) {
-        add_hashed(counts, rows, &RehashableStr::new(self.item), weight);
+    fn add_to_rows(&self, counts: &mut [T], buckets: Divisor, seeds: &[u64], weight: T) {
+        let rows = Rows { seeds, buckets };
+        let bytes = RehashableStr::new(self.item);
+        if !buckets.is_power_of_two() {
+            add_to_each(counts, &rows, false, &bytes, weight);
+        } else if seeds.len() == 4 {
+            add_to_four(counts, &rows, &bytes, weight);
+        } else {
+            add_to_each(counts, &rows, true, &bytes, weight);
+        }
     }
 
     #[inline(always)]
-    fn min_cell<C: CellList<T>>(&self, counts: &C, rows: &Rows) -> T {
-        min_hashed(counts, rows, &RehashableStr::new(self.item))
+    fn min_cell<C: CellList<T>>(&self, counts: &C, buckets: Divisor, seeds: &[u64]) -> T {
+        let rows = Rows { seeds, buckets };
+        let bytes = RehashableStr::new(self.item);
+        if !buckets.is_power_of_two() {
+            min_of_each(counts, &rows, false, &bytes)
+        } else if seeds.len() == 4 {
+            min_of_four(counts, &rows, &bytes)
+        } else {
+            min_of_each(counts, &rows, true, &bytes)
+        }
     }
 }
 
-/// Adds the weight at the bucket of hashed bytes in each row.
-#[inline(always)]
-fn add_hashed<T: CountMinValue, R: Rehashable>(counts: &mut [T], rows: &Rows, bytes: &R, weight: T)
-    requires hashable { R.can_hash bytes.now }
-    requires shape { length counts.old ≡ length rows.now.seeds.now * rows.now.buckets }
-    requires room { (k : ℕ) → unsigned_abs (cell_in (map T.number counts.old) k +ℤ T.number weight) ≤ T.greatest }
-    ensures { IsItemAdded rows.now.buckets rows.now.seeds.now (R.bytes bytes.now) (T.number weight)
-        (map T.number counts.old) (map T.number counts.new) }
-{
-    if !rows.buckets.is_power_of_two() {
-        add_to_each(counts, rows, false, bytes, weight);
-    } else if rows.seeds.len() == 4 {
-        add_to_four(counts, rows, bytes, weight);
-    } else {
-        add_to_each(counts, rows, true, bytes, weight);
-    }
-}
-
-/// Does the same as `add_hashed` for an item of many bytes, which is fed again for each row.
+/// Adds the weight at the bucket of an item of many bytes in each row. The item is fed again for each row.
 #[inline(never)]
 fn add_long<T: CountMinValue, I: Hash>(
     counts: &mut [T],
-    seeds: &[u64],
     buckets: Divisor,
+    seeds: &[u64],
     item: &I,
     weight: T,
 )
@@ -134,7 +148,7 @@ fn add_long<T: CountMinValue, I: Hash>(
     add_to_each(counts, &rows, buckets.is_power_of_two(), &item, weight);
 }
 
-/// Does the same as `add_hashed` for four rows and a power of two of buckets.
+/// Adds the weight at the bucket of hashed bytes in each of four rows. The number of buckets is a power of two.
 #[inline(always)]
 fn add_to_four<T: CountMinValue, R: Rehashable>(counts: &mut [T], rows: &Rows, bytes: &R, weight: T)
     requires power { IsTrue (is_power_of_two rows.now.buckets) }
@@ -155,7 +169,7 @@ fn add_to_four<T: CountMinValue, R: Rehashable>(counts: &mut [T], rows: &Rows, b
     add_at(counts, fourth, weight);
 }
 
-/// Does the same as `add_hashed`, row by row. `masked` requires a power of two of buckets.
+/// Adds the weight at the bucket of hashed bytes in each row. `masked` requires a power of two of buckets.
 #[inline(always)]
 fn add_to_each<T: CountMinValue, R: Rehashable>(
     counts: &mut [T],
@@ -177,32 +191,12 @@ fn add_to_each<T: CountMinValue, R: Rehashable>(
     }
 }
 
-/// Returns the minimum of the cells of hashed bytes.
-#[inline(always)]
-fn min_hashed<T: CountMinValue, C: CellList<T>, R: Rehashable>(
-    counts: &C,
-    rows: &Rows,
-    bytes: &R,
-) -> T
-    requires hashable { R.can_hash bytes.now }
-    requires shape { length (C.list counts.now) ≡ length rows.now.seeds.now * rows.now.buckets }
-    ensures { IsItemMin rows.now.buckets rows.now.seeds.now (R.bytes bytes.now) (C.list counts.now) (T.number result) }
-{
-    if !rows.buckets.is_power_of_two() {
-        min_of_each(counts, rows, false, bytes)
-    } else if rows.seeds.len() == 4 {
-        min_of_four(counts, rows, bytes)
-    } else {
-        min_of_each(counts, rows, true, bytes)
-    }
-}
-
-/// Does the same as `min_hashed` for an item of many bytes, which is fed again for each row.
+/// Returns the minimum of the cells of an item of many bytes, which is fed again for each row.
 #[inline(never)]
 fn min_long<T: CountMinValue, C: CellList<T>, I: Hash>(
     counts: &C,
-    seeds: &[u64],
     buckets: Divisor,
+    seeds: &[u64],
     item: &I,
 ) -> T
     requires some { 0 < length seeds.now }
@@ -216,7 +210,7 @@ fn min_long<T: CountMinValue, C: CellList<T>, I: Hash>(
     min_of_each(counts, &rows, buckets.is_power_of_two(), &item)
 }
 
-/// Does the same as `min_hashed` for four rows and a power of two of buckets.
+/// Returns the minimum of the cells of hashed bytes in four rows. The number of buckets is a power of two.
 #[inline(always)]
 fn min_of_four<T: CountMinValue, C: CellList<T>, R: Rehashable>(
     counts: &C,
@@ -239,7 +233,7 @@ fn min_of_four<T: CountMinValue, C: CellList<T>, R: Rehashable>(
     three.min(counts.cell(fourth))
 }
 
-/// Does the same as `min_hashed`, row by row. `masked` requires a power of two of buckets.
+/// Returns the minimum of the cells of hashed bytes. `masked` requires a power of two of buckets.
 #[inline(always)]
 fn min_of_each<T: CountMinValue, C: CellList<T>, R: Rehashable>(
     counts: &C,

@@ -2,7 +2,6 @@ use Rattle.std.proofs.Common.{arith, subst, sym, ap, ◌∙◌, ◌≡◌, ℕ, 
 use Rattle.sketch_countmin.specs.State.{CountState, empty_state}
 use Rattle.sketch_countmin.specs.History.CountHistory.{New}
 use Rattle.sketch_countmin.specs.Stands.{StandsFor}
-use Rattle.sketch_countmin.specs.Table.{IsTableShape}
 use Rattle.sketch_countmin.proofs.Tables.{is_state, shape_is, empty_is, empty_value}
 use Rattle.sketch_countmin.proofs.Standing.{stands_empty}
 use Rattle.sketch_countmin.proofs.count_min_sketch.CountMinSketch.empty.Given as given

@@ -25,5 +25,5 @@ returns-clause-raised g c =
     let buckets : 0 < c.args.self.now.buckets = subst (λ (s : CountState). 0 < s.buckets) c.self.view_is (omega (arith, c.self.invariant.some_buckets)) in
     λ h stands exact. raised_by_others c.args.self.now h (g.R.RowItem.input c.args.item.now) (g.T.CountMinValue.number c.min_cell.result) buckets (returns-clause-least g c) stands exact
 
-pub min_cell-requires : goal.min_cell-requires
-min_cell-requires g c = length-map c.as_slice.result.now g.T.CountMinValue.number ∙ lent_shape g.T.CountMinValue.number c.self.inside.buckets c.self.inside.counts.items _ c.self.inside.row_seeds.items _ c.as_slice.ensures.value c.deref.ensures.value c.self.invariant.size
+pub min_cell-requires-clause-shape : goal.min_cell-requires-clause-shape
+min_cell-requires-clause-shape g c = length-map c.as_slice.result.now g.T.CountMinValue.number ∙ lent_shape g.T.CountMinValue.number c.self.inside.buckets c.self.inside.counts.items _ c.self.inside.row_seeds.items _ c.as_slice.ensures.value c.deref.ensures.value c.self.invariant.size

@@ -1,10 +1,8 @@
-use Rattle.std.proofs.Common.{ℕ, List, inl, inr, rules, ◌≡◌, ◌+◌, ◌-◌, ◌<◌, ◌≤◌, [], ap, length, map, take, subst, sym, arith}
+use Rattle.std.proofs.Common.{rules, ◌+◌, ◌-◌, ◌<◌, ◌≤◌, ap, length, map, take, subst, arith}
 use Rattle.std.specs.Hash as fed
-use Rattle.std.proofs.lemmas.Bool.{cases_lt, false≢true}
-use Rattle.std.proofs.lemmas.List.{length-map}
 use Rattle.sketch_base.specs.Hashes.{fed_bytes}
 use Rattle.sketch_countmin.specs.Parts.{TakesPart}
-use Rattle.sketch_countmin.specs.State.{CountState, CountsAll}
+use Rattle.sketch_countmin.specs.State.{CountsAll}
 use Rattle.sketch_countmin.proofs.BatchUpdates.{stands_all}
 use Rattle.sketch_countmin.proofs.PartUpdates.{counted_none, counted_more, counted_all, counted_stop}
 use Rattle.sketch_countmin.proofs.Tables.{state_shown}
@@ -32,12 +30,9 @@ each-preserved g c =
 stopped : (g : given.Over) (c : After-invalid_argument g) → CountsAll c.args.self.now (take (g.T.CountMinValue.greatest - c.args.self.now.total) (map (fed_bytes fed.str) (g.P.Parts.parts c.args.text.now))) c.update_str.new.self × (g.T.CountMinValue.greatest < c.args.self.now.total + length (g.P.Parts.parts c.args.text.now))
 stopped g c =
     let f = fed_bytes fed.str in
-    let over : g.T.CountMinValue.greatest < c.each.self.total + 1 =
-    elim (cases_lt g.T.CountMinValue.greatest (c.each.self.total + 1)) [ inl lt ↦ lt | inr le ↦ absurd (false≢true (c.in_default-update_str.ensures.succeeds le)) ] in
     let next = ap (map f) (subst (λ r. TakesPart g.P.Parts.parts c.each.rest.now r) c.in-Some.is c.next.ensures).0 in
-    let found = counted_stop c.args.self.now c.each.self (map f (g.P.Parts.parts c.args.text.now)) (map f (g.P.Parts.parts c.each.rest.now)) (map f (g.P.Parts.parts c.in-Some.after.now)) (f c.in-Some.part.now) g.T.CountMinValue.greatest c.each.invariant.1 next c.each.invariant.2.fits over in
-    let long : length (map f (g.P.Parts.parts c.args.text.now)) ≡ length (g.P.Parts.parts c.args.text.now) = length-map (g.P.Parts.parts c.args.text.now) f in
-    (subst (λ (s : CountState). CountsAll c.args.self.now (take (g.T.CountMinValue.greatest - c.args.self.now.total) (map f (g.P.Parts.parts c.args.text.now))) s) (sym c.in_default-update_str.ensures.err) found.0, omega (arith, found.1, long))
+    counted_stop f c.args.self.now c.each.self c.update_str.new.self (g.P.Parts.parts c.args.text.now) (map f (g.P.Parts.parts c.each.rest.now)) (map f (g.P.Parts.parts c.in-Some.after.now)) (f c.in-Some.part.now) g.T.CountMinValue.greatest
+    c.each.invariant.1 next c.each.invariant.2.fits c.in_default-update_str.ensures.succeeds c.in_default-update_str.ensures.err
 
 pub returns-in_default-update_str-clause-counted : goal.returns-in_default-update_str-clause-counted
 returns-in_default-update_str-clause-counted g c = (stopped g (goal.at.returns-in_default-update_str-clause-counted g c).After-invalid_argument).0
@@ -52,10 +47,7 @@ returns-in_default-update_str-clause-succeeds g c = let over = (stopped g (goal.
 ended : (g : given.Over) (c : In_default g) → CountsAll c.args.self.now (take (g.T.CountMinValue.greatest - c.args.self.now.total) (map (fed_bytes fed.str) (g.P.Parts.parts c.args.text.now))) c.each.self × (c.args.self.now.total + length (g.P.Parts.parts c.args.text.now) ≤ g.T.CountMinValue.greatest)
 ended g c =
     let f = fed_bytes fed.str in
-    let none = ap (map f) c.in_default.ensures in
-    let found = counted_all c.args.self.now c.each.self (map f (g.P.Parts.parts c.args.text.now)) (map f (g.P.Parts.parts c.each.rest.now)) g.T.CountMinValue.greatest c.each.invariant.1 none c.each.invariant.2.fits in
-    let long : length (map f (g.P.Parts.parts c.args.text.now)) ≡ length (g.P.Parts.parts c.args.text.now) = length-map (g.P.Parts.parts c.args.text.now) f in
-    (found.0, omega (arith, found.1, long))
+    counted_all f c.args.self.now c.each.self (g.P.Parts.parts c.args.text.now) (map f (g.P.Parts.parts c.each.rest.now)) g.T.CountMinValue.greatest c.each.invariant.1 (ap (map f) c.in_default.ensures) c.each.invariant.2.fits
 
 pub returns-clause-counted : goal.returns-clause-counted
 returns-clause-counted g c = (ended g (goal.at.returns-clause-counted g c).In_default).0

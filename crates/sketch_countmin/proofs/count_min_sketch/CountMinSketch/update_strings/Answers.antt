@@ -1,10 +1,9 @@
-use Rattle.std.proofs.Common.{inl, inr, ◌≡◌, ◌+◌, ◌-◌, ◌<◌, ◌≤◌, length, map, take, drop, subst, sym, arith}
+use Rattle.std.proofs.Common.{◌+◌, ◌-◌, ◌<◌, ◌≤◌, length, map, take, drop, arith}
 use Rattle.std.specs.Hash as fed
 use Rattle.std.proofs.Math.ListN.{drop_of_length-le}
-use Rattle.std.proofs.lemmas.Bool.{cases_lt, false≢true}
 use Rattle.std.proofs.lemmas.List.{length-map}
 use Rattle.sketch_base.specs.Hashes.{fed_bytes}
-use Rattle.sketch_countmin.specs.State.{CountState, CountsAll}
+use Rattle.sketch_countmin.specs.State.{CountsAll}
 use Rattle.sketch_countmin.proofs.BatchUpdates.{stands_all}
 use Rattle.sketch_countmin.proofs.PartUpdates.{counted_none, counted_more, counted_all, counted_stop}
 use Rattle.sketch_countmin.proofs.StringUpdates.{next_string_is}
@@ -37,10 +36,8 @@ ended : (g : given.Over) (c : After-each g) → let strings = g.S.Strings.list c
 ended g c =
     let f = fed_bytes fed.str in
     let strings = g.S.Strings.list c.args.strings.now in
-    let long : length (map f strings) ≡ length strings = length-map strings f in
-    let here : length (map f strings) ≤ c.each.i = omega arith in
-    let found = counted_all c.args.self.now c.each.self (map f strings) (drop c.each.i (map f strings)) g.T.CountMinValue.greatest c.each.invariant.counted (drop_of_length-le (map f strings) here) c.each.invariant.state.fits in
-    (found.0, omega (arith, found.1, long))
+    let here : length (map f strings) ≤ c.each.i = omega (arith, length-map strings f) in
+    counted_all f c.args.self.now c.each.self strings (drop c.each.i (map f strings)) g.T.CountMinValue.greatest c.each.invariant.counted (drop_of_length-le (map f strings) here) c.each.invariant.state.fits
 
 pub returns-clause-counted : goal.returns-clause-counted
 returns-clause-counted g c = (ended g (goal.at.returns-clause-counted g c).After-each).0
@@ -59,12 +56,9 @@ stopped g c =
     let strings = g.S.Strings.list c.args.strings.now in
     let i = c.each.i in
     let there : i < length strings = omega arith in
-    let over : g.T.CountMinValue.greatest < c.each.self.total + 1 =
-    elim (cases_lt g.T.CountMinValue.greatest (c.each.self.total + 1)) [ inl lt ↦ lt | inr le ↦ absurd (false≢true (c.in_default.ensures.succeeds le)) ] in
     let next = next_string_is strings f i c.at.result.now there c.at.ensures in
-    let found = counted_stop c.args.self.now c.each.self (map f strings) (drop i (map f strings)) (drop (i + 1) (map f strings)) (f c.at.result.now) g.T.CountMinValue.greatest c.each.invariant.counted next c.each.invariant.state.fits over in
-    let long : length (map f strings) ≡ length strings = length-map strings f in
-    (subst (λ (s : CountState). CountsAll c.args.self.now (take (g.T.CountMinValue.greatest - c.args.self.now.total) (map f strings)) s) (sym c.in_default.ensures.err) found.0, omega (arith, found.1, long))
+    counted_stop f c.args.self.now c.each.self c.update_str.new.self strings (drop i (map f strings)) (drop (i + 1) (map f strings)) (f c.at.result.now) g.T.CountMinValue.greatest
+    c.each.invariant.counted next c.each.invariant.state.fits c.in_default.ensures.succeeds c.in_default.ensures.err
 
 pub returns-in_default-clause-counted : goal.returns-in_default-clause-counted
 returns-in_default-clause-counted g c = (stopped g (goal.at.returns-in_default-clause-counted g c).After-invalid_argument).0

@@ -1,4 +1,4 @@
-use Rattle.std.proofs.Common.{◌≡◌, ◌<◌, ◌*◌, ℕ, take, length, ap, ◌∙◌, arith}
+use Rattle.std.proofs.Common.{◌≡◌, take, length, ◌∙◌, arith}
 use Rattle.std.proofs.lemmas.List.{length-take-le, get_or-take}
 use Rattle.sketch_countmin.specs.Table.{IsTableShape}
 use Rattle.sketch_countmin.proofs.Tables.{is_state, shape_is}
