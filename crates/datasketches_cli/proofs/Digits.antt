@@ -1,6 +1,6 @@
 -- The digits that a run shows for an image, and the bytes that they make.
 use Rattle.std.proofs.Common.{◌≡◌, ℕ, zero, suc, ◌-◌, ◌/◌, ◌%◌, ◌<◌, Bool, true, false, cond, List, [], ◌∷◌, ◌++◌, length, get_or, drop, Option, Some, None, Result, Ok, Err, inl, inr, refl, sym, ◌∙◌, ap, subst, arith, length-append}
-use Rattle.std.specs.Prelude.{codes, ◌||◌, ◌^◌, IsSome}
+use Rattle.std.specs.Prelude.{codes, ◌||◌, IsSome}
 use Rattle.std.specs.Char.{is_ascii_hexdigit}
 use Rattle.std.specs.Int.{is_in_range}
 use Rattle.std.specs.Map.{lookup}
@@ -21,7 +21,7 @@ use Rattle.datasketches.specs.Actions.{Shape}
 use Rattle.datasketches.specs.Actions as action
 use Rattle.datasketches.specs.CountMinSizes.{CountMinSizes}
 use Rattle.datasketches.specs.declared.image_kind.ImageKind.{ImageKind}
-use Rattle.datasketches_cli.specs.Grammar.{Spelled, bytes_of_digits, number, number_below, signed_number, report_of, plain_kind, seeded_kind, count_min_sizes, filter_sizes, counts_of, load_of, one_word, two_words, three_words, four_words, five_words, request_of, split_words}
+use Rattle.datasketches_cli.specs.Grammar.{Spelled, bytes_of_digits, number, signed_number, report_of, plain_kind, seeded_kind, count_min_sizes, filter_sizes, counts_of, load_of, one_word, two_words, three_words, four_words, five_words, request_of, split_words}
 use Rattle.datasketches_cli.specs.Laws.{IsShownAs, LoadsWhatWasShown, DigitsMakeWhatWasShown}
 use Rattle.datasketches_cli.specs.Requests.{Request, Act}
 

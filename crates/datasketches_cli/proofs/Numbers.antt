@@ -6,7 +6,7 @@ use Rattle.std.specs.List.{slice_get}
 use Rattle.std.specs.Result.{OkIff, result_ok}
 use Rattle.std.specs.Str.{all_ascii_digits}
 use Rattle.std.specs.Str.Parse.{ParsesUnsigned, ParsesSigned, digits_value}
-use Rattle.std.proofs.lemmas.Bool.{cond-false, eqb-true, eqb-false, false≢true, ltb-true}
+use Rattle.std.proofs.lemmas.Bool.{cond-false, eqb-true, eqb-false, false≢true}
 use Rattle.std.proofs.lemmas.Bool.Decides.{nat_tests}
 use Rattle.std.proofs.lemmas.Str.Parse.{IsNumeralModel, numerals_by_value, tells_all_ascii_digits, parse_plain, parse_signed_minus, parse_signed_plain}
 use Rattle.datasketches_cli.specs.Grammar.{number_below, signed_number}
