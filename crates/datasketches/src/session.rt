@@ -315,8 +315,12 @@ impl<T: FrequentItemValue + Clone + Drop> Session<T> {
     ///
     /// # Errors
     ///
-    /// Calls on two sketches return `NoSuchName` if a name has no sketch, `SameName` if both names are the same, `WrongKind` if
-    /// the kinds differ or do not support the call, and the error of the sketch's own call.
+    /// Calls on two sketches return the first of these that applies:
+    ///
+    /// - `NoSuchName` if a name has no sketch;
+    /// - `SameName` if both names are the same;
+    /// - `WrongKind` if the kinds differ or do not support the call;
+    /// - the error of the sketch's own call.
     pub fn merge(&mut self, into: &str, other: &str) -> Result<(), Refusal>
         requires clones { (x y : T) → T.is_clone x y → IsTrue (T.eq x y) }
         ensures { Performed (option_bytes T.row) T.eq T.hash_input T.codec T.content
