@@ -54,7 +54,11 @@ pub extern "C" fn ds_count_min_u64_new(
         num_buckets,
         seed,
     };
-    put_made(alloc, handle, CountMinSketch::<u64>::with_sizes(alloc, sizes))
+    put_made(
+        alloc,
+        handle,
+        CountMinSketch::<u64>::with_sizes(alloc, sizes),
+    )
 }
 
 /// Puts an empty Count-Min sketch with weights in `i64` into the handle, and frees what the handle had. The sketch has
@@ -87,7 +91,11 @@ pub extern "C" fn ds_count_min_i64_new(
         num_buckets,
         seed,
     };
-    put_made(alloc, handle, CountMinSketch::<i64>::with_sizes(alloc, sizes))
+    put_made(
+        alloc,
+        handle,
+        CountMinSketch::<i64>::with_sizes(alloc, sizes),
+    )
 }
 
 /// Adds the other sketch's cells and total. The other sketch stays as it was.

@@ -58,7 +58,11 @@ pub extern "C" fn ds_frequent_items_string_new_with_key(
         max_map_size,
         sample_size,
     };
-    put_made(alloc, handle, FrequentItemsSketch::<String>::with_sizes(alloc, sizes, key))
+    put_made(
+        alloc,
+        handle,
+        FrequentItemsSketch::<String>::with_sizes(alloc, sizes, key),
+    )
 }
 
 /// Puts an empty sketch of frequent numbers into the handle, and frees what the handle had. Its table may grow to
@@ -93,7 +97,11 @@ pub extern "C" fn ds_frequent_items_u64_new_with_key(
         max_map_size,
         sample_size,
     };
-    put_made(alloc, handle, FrequentItemsSketch::<u64>::with_sizes(alloc, sizes, key))
+    put_made(
+        alloc,
+        handle,
+        FrequentItemsSketch::<u64>::with_sizes(alloc, sizes, key),
+    )
 }
 
 /// Puts an empty sketch of frequent numbers into the handle, and frees what the handle had. Its table may grow to
@@ -128,7 +136,11 @@ pub extern "C" fn ds_frequent_items_i64_new_with_key(
         max_map_size,
         sample_size,
     };
-    put_made(alloc, handle, FrequentItemsSketch::<i64>::with_sizes(alloc, sizes, key))
+    put_made(
+        alloc,
+        handle,
+        FrequentItemsSketch::<i64>::with_sizes(alloc, sizes, key),
+    )
 }
 
 /// Merges the other sketch into this one, which then stands for both streams and keeps its own sizes. The other sketch
