@@ -1,39 +1,17 @@
 -- Lines that are taken from what was read, and more that is read.
-use Rattle.std.proofs.Common.{◌≡◌, ◌≢◌, ℕ, zero, suc, ◌+◌, ◌-◌, ◌<◌, ◌≤◌, Bool, true, false, not, eqb, List, [], ◌∷◌, ◌++◌, length, get_or, take, drop, Option, None, Some, ⊎_elim, append_assoc, append-nil, refl, sym, ◌∙◌, ap, subst, arith, length-drop}
+use Rattle.std.proofs.Common.{◌≡◌, ◌≢◌, ℕ, ◌+◌, ◌-◌, ◌<◌, ◌≤◌, Bool, true, false, not, eqb, List, [], ◌∷◌, ◌++◌, length, take, drop, Option, None, Some, ⊎_elim, append_assoc, append-nil, refl, sym, ◌∙◌, ap, subst, arith, length-drop}
 use Rattle.std.specs.Io.BufRead.{take_through, drop_through}
 use Rattle.std.specs.Io.KnownBytes.{prepend_known}
-use Rattle.std.specs.List.{Contains, position_or_len, slice_range}
+use Rattle.std.specs.List.{Contains, position_or_len, slice_range, before_first}
 use Rattle.std.specs.Option.{IfSome}
 use Rattle.std.proofs.lemmas.Bool.{cases_lt, eqb-true, eqb-false, ne_eqb}
-use Rattle.std.proofs.lemmas.List.{drop-take, drop-drop, get_or_default, length-take-le, take-take}
+use Rattle.std.proofs.lemmas.List.{drop-take, drop-drop, length-take-le, take-take}
+use Rattle.std.proofs.lemmas.List.Elements.{All-append}
 use Rattle.std.proofs.lemmas.List.Sums.{passes_at_first, fails_before_first, prefix_len-le-length}
 use Rattle.datasketches_cli.specs.Reading.{HasNoFeed, TakesFront, TakesLine, Fills}
+use Rattle.datasketches_cli.proofs.Lines.{is_feed, first_feed, before_feed, no_feed, split_at, through_front, through_all, through_first, through_take}
 
--- ---- the first line feed in a list
-
-abbrev is_feed : ℕ → Bool
-is_feed byte = eqb byte 10
-
--- a place before which no byte is a line feed, and which is one
-abbrev IsFirstFeed : List ℕ → ℕ → Type 0
-IsFirstFeed xs at = (at < length xs) × (get_or xs at 0 ≡ 10) × ((k : ℕ) → k < at → get_or xs k 0 ≢ 10)
-
-no_feed : (xs : List ℕ) → ((k : ℕ) → k < length xs → get_or xs k 0 ≢ 10) → HasNoFeed xs
-no_feed [] h = tt
-no_feed (x ∷ xs) h = (h 0 (omega arith), no_feed xs (λ k l. h (suc k) (omega arith)))
-
--- the bytes before it, it, and the bytes after it
-split_at : (xs : List ℕ) (at : ℕ) → IsFirstFeed xs at → HasNoFeed (take at xs) × (xs ≡ take at xs ++ 10 ∷ drop (at + 1) xs) × (take (at + 1) xs ≡ take at xs ++ 10 ∷ [])
-split_at [] at (lt, e, h) = absurd (omega arith)
-split_at (x ∷ xs) zero (lt, e, h) = (tt, ap (λ (n : ℕ). n ∷ xs) e, ap (λ (n : ℕ). n ∷ []) e)
-split_at (x ∷ xs) (suc n) (lt, e, h) =
-    let rest = split_at xs n (omega arith, e, λ k l. h (suc k) (omega arith)) in
-    let more : suc n + 1 ≡ suc (n + 1) = omega arith in
-    ((h 0 (omega arith), rest.0), rw more (ap (λ (l : List ℕ). x ∷ l) rest.1), rw more (ap (λ (l : List ℕ). x ∷ l) rest.2))
-
--- the first line feed of a list that has one
-first_feed : (xs : List ℕ) → position_or_len is_feed xs < length xs → IsFirstFeed xs (position_or_len is_feed xs)
-first_feed xs less = (less, eqb-true _ 10 (passes_at_first is_feed xs 0 less), λ k l. eqb-false _ 10 (fails_before_first is_feed xs k 0 l))
+-- ---- the first line feed of what was read
 
 pub from_contains : (xs : List ℕ) → Contains xs 10 → position_or_len is_feed xs < length xs
 from_contains xs (k, less, is) = ⊎_elim
@@ -44,8 +22,8 @@ from_contains xs (k, less, is) = ⊎_elim
 pub contains_from : (xs : List ℕ) → position_or_len is_feed xs < length xs → Contains xs 10
 contains_from xs less = (position_or_len is_feed xs, less, eqb-true _ 10 (passes_at_first is_feed xs 10 less))
 
-none_from : (xs : List ℕ) → ¬ Contains xs 10 → HasNoFeed xs
-none_from xs none = no_feed xs (λ k l is. none (k, l, get_or_default xs k 10 0 l ∙ is))
+none_before : (xs : List ℕ) → ¬ Contains xs 10 → length xs ≤ first_feed xs
+none_before xs none = ⊎_elim (λ l. absurd (none (contains_from xs l))) (λ ge. ge) (cases_lt (first_feed xs) (length xs))
 
 -- what stays unread
 later_range : (xs : List ℕ) (a b n : ℕ) → a + n ≤ b → drop n (slice_range xs a b) ≡ slice_range xs (a + n) b
@@ -54,29 +32,14 @@ later_range xs a b n le =
     ap (λ (k : ℕ). drop n (take k (drop a xs))) count ∙ drop-take n (b - (a + n)) (drop a xs)
     ∙ ap (take (b - (a + n))) (drop-drop n a xs ∙ ap (λ (k : ℕ). drop k xs) (omega arith))
 
-through_front : (front rest : List ℕ) → HasNoFeed front → (take_through 10 (front ++ 10 ∷ rest) ≡ front ++ 10 ∷ []) × (drop_through 10 (front ++ 10 ∷ rest) ≡ rest)
-through_front [] rest h = (refl, refl)
-through_front (x ∷ xs) rest (ne, h) =
-    let more = through_front xs rest h in
-    let test : eqb x 10 ≡ false = ne_eqb x 10 ne in
-    (rw test (ap (λ (l : List ℕ). x ∷ l) more.0), rw test more.1)
-
--- the line with its end is the list through its first line feed
-through_first : (xs : List ℕ) → position_or_len is_feed xs < length xs → (take_through 10 xs ≡ take (position_or_len is_feed xs + 1) xs) × (drop_through 10 xs ≡ drop (position_or_len is_feed xs + 1) xs)
-through_first xs less =
-    let at : ℕ = position_or_len is_feed xs in
-    let (pure, cut, same) = split_at xs at (first_feed xs less) in
-    let read = through_front (take at xs) (drop (at + 1) xs) pure in
-    (ap (take_through 10) cut ∙ read.0 ∙ sym same, ap (drop_through 10) cut ∙ read.1)
-
--- the same of what was read and not handed on
+-- the line with its end, of what was read and not handed on
 pub line_range : (items : List ℕ) (a b n : ℕ) → b ≤ length items → a ≤ b → n ≡ a + position_or_len is_feed (slice_range items a b) → Contains (slice_range items a b) 10 → slice_range items a (n + 1) ≡ take_through 10 (slice_range items a b)
 line_range items a b n within le e has =
     let xs : List ℕ = slice_range items a b in
     let less : position_or_len is_feed xs < length xs = from_contains xs has in
     let len : length xs ≡ b - a = length-take-le (b - a) (drop a items) (omega (arith, length-drop a items)) in
     let count : (n + 1) - a ≡ position_or_len is_feed xs + 1 = omega arith in
-    ap (λ (k : ℕ). take k (drop a items)) count ∙ sym (take-take (position_or_len is_feed xs + 1) (b - a) (drop a items) (omega arith)) ∙ sym (through_first xs less).0
+    ap (λ (k : ℕ). take k (drop a items)) count ∙ sym (take-take (position_or_len is_feed xs + 1) (b - a) (drop a items) (omega arith)) ∙ sym (through_take xs less)
 
 pub rest_range : (items : List ℕ) (a b n : ℕ) → b ≤ length items → a ≤ b → n ≡ a + position_or_len is_feed (slice_range items a b) → Contains (slice_range items a b) 10 → (n + 1 ≤ b) × (slice_range items (n + 1) b ≡ drop_through 10 (slice_range items a b))
 rest_range items a b n within le e has =
@@ -100,35 +63,23 @@ feed_at_end items a b n within le e none =
     let len : length xs ≡ b - a = length-take-le (b - a) (drop a items) (omega (arith, length-drop a items)) in
     let zero_left : b - b ≡ 0 = omega arith in
     let empty : position_or_len is_feed (slice_range items b b) ≡ 0 = ap (λ (k : ℕ). position_or_len is_feed (take k (drop b items))) zero_left in
-    let end : length xs ≤ position_or_len is_feed xs = ⊎_elim (λ l. absurd (none (contains_from xs l))) (λ ge. ge) (cases_lt (position_or_len is_feed xs) (length xs)) in
+    let end : length xs ≤ first_feed xs = none_before xs none in
     omega (arith, prefix_len-le-length (λ (x : ℕ). not (is_feed x)) xs)
 
 -- what was read goes through its first line feed
 pub takes_some : (was held holds : List ℕ) → Contains was 10 → holds ≡ held ++ take_through 10 was → TakesFront true was (drop_through 10 was) held holds
 takes_some was held holds has grown =
-    let at : ℕ = position_or_len is_feed was in
-    let (pure, cut, same) = split_at was at (first_feed was (from_contains was has)) in
-    let line = through_first was (from_contains was has) in
-    (take at was, pure, cut ∙ ap (λ (l : List ℕ). take at was ++ 10 ∷ l) (sym line.1), grown ∙ ap (λ (l : List ℕ). held ++ l) (line.0 ∙ same))
+    let less : first_feed was < length was = from_contains was has in
+    let line = through_first was less in
+    (before_first is_feed was, before_feed was, split_at was less ∙ ap (λ (l : List ℕ). before_first is_feed was ++ 10 ∷ l) (sym line.1), grown ∙ ap (λ (l : List ℕ). held ++ l) line.0)
 
 -- all that was read goes
 pub takes_all : (items was held holds : List ℕ) (a b : ℕ) → slice_range items a b ≡ was → ¬ Contains was 10 → holds ≡ held ++ slice_range items a b → TakesFront false was (slice_range items b b) held holds
 takes_all items was held holds a b e none grown =
     let zero_left : b - b ≡ 0 = omega arith in
-    (none_from was none, ap (λ (k : ℕ). take k (drop b items)) zero_left, grown ∙ ap (λ (l : List ℕ). held ++ l) e)
+    (no_feed was (none_before was none), ap (λ (k : ℕ). take k (drop b items)) zero_left, grown ∙ ap (λ (l : List ℕ). held ++ l) e)
 
--- ---- the lines of a whole input
-
-through_all : (xs : List ℕ) → HasNoFeed xs → (take_through 10 xs ≡ xs) × (drop_through 10 xs ≡ [])
-through_all [] h = (refl, refl)
-through_all (x ∷ xs) (ne, h) =
-    let more = through_all xs h in
-    let test : eqb x 10 ≡ false = ne_eqb x 10 ne in
-    (rw test (ap (λ (l : List ℕ). x ∷ l) more.0), rw test more.1)
-
-no_feed_append : (xs ys : List ℕ) → HasNoFeed xs → HasNoFeed ys → HasNoFeed (xs ++ ys)
-no_feed_append [] ys h k = k
-no_feed_append (x ∷ xs) ys (ne, h) k = (ne, no_feed_append xs ys h k)
+-- ---- a line of the whole input
 
 some_not_none : (xs : List ℕ) (y : ℕ) (ys : List ℕ) → xs ++ y ∷ ys ≢ []
 some_not_none [] y ys e = cc
@@ -142,7 +93,7 @@ Begins was is line = IfSome was (λ bytes. (rest : List ℕ) × (is ≡ Some res
 
 pub begins : (was : Option (List ℕ)) → Begins was was []
 begins None = tt
-begins (Some bytes) = (bytes, refl, refl, tt)
+begins (Some bytes) = (bytes, refl, refl, before_feed [])
 
 -- the line is whole, with its line feed
 pub taken : (was left : Option (List ℕ)) (s s' held holds : List ℕ) (ended : Bool) → Begins was (prepend_known s left) held → TakesFront ended s s' held holds → ended ≡ true → TakesLine true was (prepend_known s' left) holds
@@ -153,7 +104,7 @@ taken (Some bytes) (Some xs) s s' held holds ended (rest, is, split, clean) t e 
     let same : s ++ xs ≡ rest = cc in
     let behind : s ++ xs ≡ front ++ 10 ∷ (s' ++ xs) = ap (λ (l : List ℕ). l ++ xs) cut ∙ append_assoc front (10 ∷ s') xs in
     let whole : (held ++ front) ++ 10 ∷ (s' ++ xs) ≡ bytes = append_assoc held front (10 ∷ (s' ++ xs)) ∙ ap (λ (l : List ℕ). held ++ l) (sym behind ∙ same) ∙ sym split in
-    let read = through_front (held ++ front) (s' ++ xs) (no_feed_append held front clean pure) in
+    let read = through_front (held ++ front) (s' ++ xs) (All-append (λ byte. byte ≢ 10) held front clean pure) in
     let told : holds ≡ (held ++ front) ++ 10 ∷ [] = grown ∙ sym (append_assoc held front (10 ∷ [])) in (
       λ none. some_not_none (held ++ front) 10 (s' ++ xs) (whole ∙ none),
       told ∙ sym read.0 ∙ ap (take_through 10) whole,
@@ -192,7 +143,7 @@ over (Some bytes) (Some xs) (Some ys) s s' s'' held holds ended more empty befor
     let last : xs ≡ [] = gave ∙ ap (λ (l : List ℕ). l ++ ys) nothing ∙ gone in
     let whole : bytes ≡ holds = split ∙ ap (λ (l : List ℕ). held ++ l) (sym same ∙ ap (λ (l : List ℕ). s ++ l) last ∙ append-nil s) ∙ sym grown in
     let rest' : s'' ++ ys ≡ [] = sym gave ∙ last in
-    ends bytes (s'' ++ ys) holds empty whole rest' (subst HasNoFeed (sym grown) (no_feed_append held s clean pure)) k
+    ends bytes (s'' ++ ys) holds empty whole rest' (subst HasNoFeed (sym grown) (All-append (λ byte. byte ≢ 10) held s clean pure)) k
 
 -- more was read
 pub goes_on : (was left left' : Option (List ℕ)) (s s' s'' held holds : List ℕ) (ended more : Bool) (before now : ℕ) → Begins was (prepend_known s left) held → TakesFront ended s s' held holds → ended ≡ false → Fills more left s'' left' before now → Begins was (prepend_known s'' left') holds
@@ -205,5 +156,5 @@ goes_on (Some bytes) (Some xs) (Some ys) s s' s'' held holds ended more before n
       s'' ++ ys,
       refl,
       split ∙ ap (λ (l : List ℕ). held ++ l) (sym same) ∙ sym (append_assoc held s xs) ∙ (λ i. sym grown i ++ gave i),
-      subst HasNoFeed (sym grown) (no_feed_append held s clean pure),
+      subst HasNoFeed (sym grown) (All-append (λ byte. byte ≢ 10) held s clean pure),
     )

@@ -6,9 +6,10 @@ use Rattle.datasketches_cli.specs.Asking.{Says, IsBad}
 use Rattle.datasketches_cli.specs.Grammar.{Spelled, split_words, request_of}
 use Rattle.datasketches_cli.specs.Parsing.{texts_of}
 use Rattle.datasketches_cli.specs.Requests.{Request}
-use Rattle.datasketches_cli.specs.Serving.{Runs}
+use Rattle.datasketches_cli.specs.Serving.{Runs, answer_by}
 use Rattle.datasketches_cli.specs.Steps.{ServingStep}
 use Rattle.datasketches_cli.specs.declared.reply.Answer.{Answer}
+use Rattle.datasketches_cli.specs.declared.reply.Ran.{Ran}
 use Rattle.datasketches_cli.specs.declared.state.State.{State}
 
 -- the first seven words of a line spell what all of them spell, since at most five words follow a verb
@@ -51,29 +52,29 @@ of_six P (x ∷ xs) d e f g h i some few p = of_five (λ l. P (x.now ∷ l)) xs 
 
 -- ---- the outcome of a line
 
-ran : (E : Type 0) (spelled : Spelled) (old new : State) (answer : Answer) → Runs {E = E} spelled old (Some (Ok answer)) new → (request : Request) × (spelled ≡ Some request) × ServingStep old request answer new
-ran E (Some request) old new answer step = (request, refl, step)
-ran E None old new answer none = absurd none
+requested : (E : Type 0) (spelled : Spelled) (old new : State) (answer : Answer) (ran : Ran) → Runs {E = E} spelled old answer (Some (Ok ran)) new → (request : Request) × (spelled ≡ Some request) × ServingStep old request (answer_by answer ran) new
+requested E (Some request) old new answer ran step = (request, refl, step)
+requested E None old new answer ran none = absurd none
 
 -- the words of a line are a request
-pub says_request : (E : Type 0) (line text : List ℕ) (words : List (Bor (List ℕ))) (old new : State) (answer : Answer) → text ≡ line → IsUtf8 line → texts_of words ≡ take 7 (split_words text) → Runs {E = E} (request_of (texts_of words)) old (Some (Ok answer)) new
-    → (request : Request) × Says line request × ServingStep old request answer new
-says_request E line text words old new answer same utf8 is runs =
-    let (request, spelled, step) = ran E (request_of (texts_of words)) old new answer runs in
+pub says_request : (E : Type 0) (line text : List ℕ) (words : List (Bor (List ℕ))) (old new : State) (answer : Answer) (ran : Ran) → text ≡ line → IsUtf8 line → texts_of words ≡ take 7 (split_words text) → Runs {E = E} (request_of (texts_of words)) old answer (Some (Ok ran)) new
+    → (request : Request) × Says line request × ServingStep old request (answer_by answer ran) new
+says_request E line text words old new answer ran same utf8 is runs =
+    let (request, spelled, step) = requested E (request_of (texts_of words)) old new answer ran runs in
     (request, (utf8, ap (λ l. request_of (split_words l)) (sym same) ∙ sym (first_seven (split_words text)) ∙ ap request_of (sym is) ∙ spelled), step)
 
-idle : (E : Type 0) (spelled : Spelled) (old new : State) → Runs {E = E} spelled old None new → (spelled ≡ None) × (new ≡ old)
-idle E None old new same = (refl, same)
-idle E (Some request) old new none = absurd none
+idle : (E : Type 0) (spelled : Spelled) (old new : State) (answer : Answer) → Runs {E = E} spelled old answer None new → (spelled ≡ None) × (new ≡ old)
+idle E None old new answer same = (refl, same)
+idle E (Some request) old new answer none = absurd none
 
 not_empty : (words : List (Bor (List ℕ))) (empty : Bool) → empty ≡ false → empty ≡ eqb (length words) 0 → ¬ (texts_of words ≡ [])
 not_empty [] empty some tested e = cc
 not_empty (x ∷ xs) empty some tested e = omega (arith, ap length e)
 
 -- the words of a line are no request
-pub says_none : (E : Type 0) (line text : List ℕ) (words : List (Bor (List ℕ))) (empty : Bool) (old new : State) → text ≡ line → empty ≡ false → empty ≡ eqb (length words) 0 → texts_of words ≡ take 7 (split_words text) → Runs {E = E} (request_of (texts_of words)) old None new
+pub says_none : (E : Type 0) (line text : List ℕ) (words : List (Bor (List ℕ))) (empty : Bool) (old new : State) (answer : Answer) → text ≡ line → empty ≡ false → empty ≡ eqb (length words) 0 → texts_of words ≡ take 7 (split_words text) → Runs {E = E} (request_of (texts_of words)) old answer None new
     → IsBad line × (new ≡ old)
-says_none E line text words empty old new same some tested is runs =
-    let (none, stays) = idle E (request_of (texts_of words)) old new runs in
+says_none E line text words empty old new answer same some tested is runs =
+    let (none, stays) = idle E (request_of (texts_of words)) old new answer runs in
     let spells : request_of (split_words line) ≡ None = ap (λ l. request_of (split_words l)) (sym same) ∙ sym (first_seven (split_words text)) ∙ ap request_of (sym is) ∙ none in
     ((λ blank. not_empty words empty some tested (is ∙ ap (λ (l : List ℕ). take 7 (split_words l)) same ∙ ap (take 7) blank.1), λ request says. cc (spells, says.1)), stays)

@@ -99,7 +99,7 @@ all_read (Some input) is now held holds holds' gathered line state before (rest,
 
 -- the same but for what is gathered
 abbrev pub with_replies : Responder → Text → Responder
-with_replies old replies = record { alloc = old.alloc; keys = old.keys; state = old.state; replies = replies }
+with_replies old replies = record { alloc = old.alloc; keys = old.keys; state = old.state; answer = old.answer; replies = replies }
 
 -- a turn with a line that is not bad
 pub turns : (was is now held mid holds : Option (List ℕ)) (old new : Responder) (left : Text) (before : ℕ) (found : Option LineOutcome) (became : LineOutcome) →

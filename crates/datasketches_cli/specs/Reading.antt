@@ -1,13 +1,12 @@
 -- How lines are taken from the bytes that were read, and more is read.
-use Rattle.std.specs.Prelude.{◌≡◌, ◌≢◌, ◌⊎◌, ℕ, Bool, true, false, List, [], ◌∷◌, ◌++◌, Option, Some, IfSome}
+use Rattle.std.specs.Prelude.{◌≡◌, ◌≢◌, ◌⊎◌, ℕ, Bool, true, false, List, [], ◌∷◌, ◌++◌, Option, Some, IfSome, All}
 use Rattle.std.specs.Io.BufRead.{take_through, drop_through}
 use Rattle.std.specs.Io.KnownBytes.{Consumes, IsAtEnd}
 use Rattle.datasketches_cli.specs.Counts.{HasGrown}
 
 -- no byte is a line feed
 abbrev pub HasNoFeed : List ℕ → Type 0
-HasNoFeed [] = Unit {0}
-HasNoFeed (byte ∷ bytes) = (byte ≢ 10) × HasNoFeed bytes
+HasNoFeed bytes = All (λ byte. byte ≢ 10) bytes
 
 -- bytes moved from the input to the end of what is held: through the first line feed, or all of them if there is none
 abbrev pub TakesFront : Bool → List ℕ → List ℕ → List ℕ → List ℕ → Type 0

@@ -3,6 +3,7 @@ use Rattle.std.specs.Prelude.{◌≡◌, ℕ, true, List, [], ◌++◌, Option, 
 use Rattle.std.specs.Io.BufRead.{strip_last}
 use Rattle.std.specs.Io.KnownBytes.{Appends, IsAtEnd}
 use Rattle.std.specs.String.{string_bytes}
+use Rattle.datasketches.specs.Replies.{done_or}
 use Rattle.datasketches_cli.specs.Asking.{Says, IsBad}
 use Rattle.datasketches_cli.specs.Grammar.{Spelled, IsBlank}
 use Rattle.datasketches_cli.specs.declared.responder.Responder.{Responder}
@@ -13,6 +14,9 @@ use Rattle.datasketches_cli.specs.declared.serve.Ended.TheVariants.{All}
 use Rattle.datasketches_cli.specs.Reading.{TakesLine}
 use Rattle.datasketches_cli.specs.Requests.{Request}
 use Rattle.datasketches_cli.specs.declared.reply.Answer.{Answer}
+use Rattle.datasketches_cli.specs.declared.reply.Answer.TheVariants.{Replied}
+use Rattle.datasketches_cli.specs.declared.reply.Ran.{Ran}
+use Rattle.datasketches_cli.specs.declared.reply.Ran.TheVariants.{Done, Told}
 use Rattle.datasketches_cli.specs.declared.state.State.{State}
 use Rattle.datasketches_cli.specs.Steps.{ServingStep}
 use Rattle.datasketches_cli.specs.Transcript.{answer_line, Serves}
@@ -31,12 +35,17 @@ HasAnswered request old new =
 abbrev pub IsIdle : Responder → Responder → Type 0
 IsIdle old new = (new.state ≡ old.state) × (string_bytes new.replies ≡ string_bytes old.replies)
 
--- the spelled request was run, with this answer, if memory did not run out; or there is none, and nothing was done
-abbrev pub Runs : {E : Type 0} → Spelled → State → Option (Result Answer E) → State → Type 0
-Runs (Some request) old (Some (Ok answer)) new = ServingStep old request answer new
-Runs (Some request) old (Some (Err e)) new = ⊤
-Runs None old None new = new ≡ old
-Runs _ old _ new = ⊥
+-- the `Answer` to a request that was run, given the one that was set if it is a query
+abbrev pub answer_by : Answer → Ran → Answer
+answer_by told (Done outcome) = Replied (done_or outcome)
+answer_by told Told = told
+
+-- the spelled request was run, and has this answer, if memory did not run out; or there is none, and nothing was done
+abbrev pub Runs : {E : Type 0} → Spelled → State → Answer → Option (Result Ran E) → State → Type 0
+Runs (Some request) old answer (Some (Ok ran)) new = ServingStep old request (answer_by answer ran) new
+Runs (Some request) old answer (Some (Err e)) new = ⊤
+Runs None old answer None new = new ≡ old
+Runs _ old answer _ new = ⊥
 
 -- the outcome of the line
 abbrev pub IsAnswered : List ℕ → Responder → Responder → LineOutcome → Type 0

@@ -3,10 +3,11 @@ ghost use Rattle.std.specs.Prelude.{◌≡◌, ◌++◌, OnOk, string_bytes, cod
 ghost use Rattle.hex.specs.Hex.{encode_lower};
 ghost use Rattle.std.specs.List.{flat_map};
 ghost use Rattle.datasketches_cli.specs.Printing.{report_text, reply_text, status_text, row_text};
+ghost use Rattle.datasketches_cli.specs.Serving.{answer_by};
 ghost use Rattle.datasketches_cli.specs.Transcript.{answer_line};
 
 use datasketches::frequencies::Row;
-use datasketches::{Reply, Status};
+use datasketches::{Refusal, Reply, Status};
 use heavy_windows::Report;
 use std::alloc::{AllocError, Global};
 use std::fmt::Write;
@@ -20,9 +21,41 @@ pub enum Answer {
     Reported(Report<String>),
 }
 
-/// Writes the line of an answer.
+/// The outcome of a request that was run.
+pub enum Ran {
+    /// The request was done or rejected.
+    Done(Result<(), Refusal>),
+    /// The answer to the request was set.
+    Told,
+}
+
+/// Writes the line of the answer to a request, given its outcome and the answer that was set, if any.
 #[inline(always)]
-pub fn write_answer(alloc: Global, out: &mut String, answer: &Answer) -> Result<(), AllocError>
+pub fn write_outcome(
+    alloc: Global,
+    out: &mut String,
+    ran: Ran,
+    answer: &Answer,
+) -> Result<(), AllocError>
+    ensures { OnOk result (string_bytes out.new ≡ string_bytes out.old ++ answer_line (answer_by answer.now ran)) }
+{
+    match ran {
+        Ran::Done(Ok(())) => out.push_str("ok\n"),
+        Ran::Done(Err(refusal)) => write_refusal(out, refusal),
+        Ran::Told => write_answer(alloc, out, answer),
+    }
+}
+
+/// Writes the line of a rejection.
+fn write_refusal(out: &mut String, refusal: Refusal) -> Result<(), AllocError>
+    ensures { OnOk result (string_bytes out.new
+        ≡ string_bytes out.old ++ answer_line (Answer.Replied (Reply.Refused refusal))) }
+{
+    writeln!(out, "refused {}", refusal.name())
+}
+
+/// Writes the line of an answer.
+fn write_answer(alloc: Global, out: &mut String, answer: &Answer) -> Result<(), AllocError>
     ensures { OnOk result (string_bytes out.new ≡ string_bytes out.old ++ answer_line answer.now) }
 {
     match answer {
@@ -46,7 +79,6 @@ fn write_report(out: &mut String, report: &Report<String>) -> Result<(), AllocEr
 }
 
 /// Writes the line of a reply.
-#[inline(always)]
 fn write_reply(alloc: Global, out: &mut String, reply: &Reply<String>) -> Result<(), AllocError>
     ensures { OnOk result (string_bytes out.new ≡ string_bytes out.old ++ (reply_text reply.now ++ codes "\n")) }
 {

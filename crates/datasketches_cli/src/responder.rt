@@ -5,8 +5,9 @@ ghost use Rattle.datasketches_cli.specs.Steps.{nothing_served};
 
 use crate::keys::Keys;
 use crate::parse::words::{MAX_WORDS, first_words};
-use crate::reply::write_answer;
+use crate::reply::{Answer, write_outcome};
 use crate::state::State;
+use datasketches::Reply;
 use std::alloc::{AllocError, Global};
 
 /// The outcome of a line.
@@ -27,6 +28,8 @@ pub struct Responder {
     pub(crate) keys: Keys,
     /// The session and the windows.
     pub(crate) state: State,
+    /// The answer to the last query.
+    answer: Answer,
     /// The replies that were gathered and are not written yet.
     pub replies: String,
 }
@@ -42,6 +45,7 @@ impl Responder {
             alloc,
             keys,
             state,
+            answer: Answer::Replied(Reply::Done),
             replies: String::new(alloc),
         }
     }
@@ -59,9 +63,12 @@ impl Responder {
         if words.is_empty() {
             return Ok(LineOutcome::Blank);
         }
-        match self.state.run(self.alloc, &self.keys, words) {
-            Some(Ok(answer)) => {
-                write_answer(self.alloc, &mut self.replies, &answer)?;
+        match self
+            .state
+            .run(self.alloc, &self.keys, words, &mut self.answer)
+        {
+            Some(Ok(ran)) => {
+                write_outcome(self.alloc, &mut self.replies, ran, &self.answer)?;
                 Ok(LineOutcome::Answered)
             }
             Some(Err(e)) => Err(e),

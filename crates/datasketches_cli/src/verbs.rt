@@ -15,33 +15,34 @@ ghost use Rattle.datasketches_cli.specs.Serving.{Runs};
 use crate::keys::Keys;
 use crate::parse::number::{number_below, number_of, signed_number};
 use crate::parse::words::report_of;
-use crate::reply::Answer;
+use crate::reply::{Answer, Ran};
 use crate::state::{State, add, open, report, turn};
 use datasketches::bloom::BloomFilterBuilder;
 use datasketches::countmin::CountMinSizes;
 use datasketches::error::Fault;
-use datasketches::frequencies::FrequentItemsSizes;
+use datasketches::frequencies::{ErrorType, FrequentItemsSizes};
 use datasketches::{ImageKind, Refusal, Reply};
 use hex::FromHexError;
 use std::alloc::{AllocError, Global};
 
 impl State {
-    /// Runs the request of a line's words.
+    /// Runs the request of a line's words, and sets its answer if it is a query.
     ///
-    /// Returns its answer, or `None` if the words are no request. `AllocError` if memory runs out outside the call.
+    /// Returns `None` if the words are no request, and `AllocError` if memory runs out outside the call.
     #[inline(always)]
     pub fn run(
         &mut self,
         alloc: Global,
         keys: &Keys,
         words: &[&str],
-    ) -> Option<Result<Answer, AllocError>>
-        ensures { Runs (request_of (texts_of words.now)) self.old result self.new }
+        answer: &mut Answer,
+    ) -> Option<Result<Ran, AllocError>>
+        ensures { Runs (request_of (texts_of words.now)) self.old answer.new result self.new }
     {
         match words {
-            [verb, a] => self.run_one(verb, a),
-            [verb, a, b] => self.run_two(alloc, keys, verb, a, b),
-            [verb, a, b, c] => self.run_three(alloc, verb, a, b, c),
+            [verb, a] => self.run_one(answer, verb, a),
+            [verb, a, b] => self.run_two(answer, alloc, keys, verb, a, b),
+            [verb, a, b, c] => self.run_three(answer, alloc, verb, a, b, c),
             [verb, a, b, c, d] => self.run_four(alloc, verb, a, b, c, d),
             [verb, a, b, c, d, e] => self.run_five(alloc, verb, a, b, c, d, e),
             _ => None,
@@ -49,18 +50,23 @@ impl State {
     }
 
     /// Runs the request of a verb and one word.
-    fn run_one(&mut self, verb: &str, a: &str) -> Option<Result<Answer, AllocError>>
-        ensures { Runs (request_of (verb.now ∷ a.now ∷ [])) self.old result self.new }
+    fn run_one(
+        &mut self,
+        answer: &mut Answer,
+        verb: &str,
+        a: &str,
+    ) -> Option<Result<Ran, AllocError>>
+        ensures { Runs (request_of (verb.now ∷ a.now ∷ [])) self.old answer.new result self.new }
     {
         match verb {
             "reset" => done(self.session.reset(a)),
             "halve" => done(self.session.halve(a)),
             "image" => match self.session.image(a) {
-                Ok(bytes) => replied(Ok(Reply::Image(bytes))),
+                Ok(bytes) => replied(answer, Ok(Reply::Image(bytes))),
                 Err(refusal) => done(Err(refusal)),
             },
             "status" => match self.session.status(a) {
-                Ok(status) => replied(Ok(Reply::Status(status))),
+                Ok(status) => replied(answer, Ok(Reply::Status(status))),
                 Err(refusal) => done(Err(refusal)),
             },
             "hturn" => done(turn(&mut self.windows, number_of(a)?)),
@@ -72,17 +78,18 @@ impl State {
     #[inline(always)]
     fn run_two(
         &mut self,
+        answer: &mut Answer,
         alloc: Global,
         keys: &Keys,
         verb: &str,
         a: &str,
         b: &str,
-    ) -> Option<Result<Answer, AllocError>>
-        ensures { Runs (request_of (verb.now ∷ a.now ∷ b.now ∷ [])) self.old result self.new }
+    ) -> Option<Result<Ran, AllocError>>
+        ensures { Runs (request_of (verb.now ∷ a.now ∷ b.now ∷ [])) self.old answer.new result self.new }
     {
         match verb {
             "insert" => done(self.session.insert(a, b)),
-            "ask" => replied(self.session.ask(a, b)),
+            "ask" => self.ask(answer, a, b),
             "frequent" => {
                 let max_map_size = number_of(b)? as usize;
                 done(self.session.create_frequent_items(a, max_map_size))
@@ -106,13 +113,14 @@ impl State {
     #[inline(always)]
     fn run_three(
         &mut self,
+        answer: &mut Answer,
         alloc: Global,
         verb: &str,
         a: &str,
         b: &str,
         c: &str,
-    ) -> Option<Result<Answer, AllocError>>
-        ensures { Runs (request_of (verb.now ∷ a.now ∷ b.now ∷ c.now ∷ [])) self.old result self.new }
+    ) -> Option<Result<Ran, AllocError>>
+        ensures { Runs (request_of (verb.now ∷ a.now ∷ b.now ∷ c.now ∷ [])) self.old answer.new result self.new }
     {
         match verb {
             "add" => self.add(alloc, a, number_of(b)?, c),
@@ -134,13 +142,7 @@ impl State {
                 let denominator = number_of(c)?;
                 done(self.session.decay(a, numerator, denominator))
             }
-            "rows" => {
-                let error_type = report_of(b)?;
-                match self.session.rows(a, error_type, number_of(c)?) {
-                    Ok(rows) => replied(Ok(Reply::Rows(rows))),
-                    Err(refusal) => done(Err(refusal)),
-                }
-            }
+            "rows" => self.rows(answer, a, report_of(b)?, number_of(c)?),
             "hadd" => {
                 let tenant = number_of(a)?;
                 let weight = number_of(b)?;
@@ -151,11 +153,7 @@ impl State {
             }
             "hreport" => {
                 let tenant = number_of(a)?;
-                let error_type = report_of(b)?;
-                match report(&self.windows, tenant, error_type, number_of(c)?) {
-                    Ok(report) => Some(Ok(Answer::Reported(report))),
-                    Err(refusal) => done(Err(refusal)),
-                }
+                self.report(answer, tenant, report_of(b)?, number_of(c)?)
             }
             _ => None,
         }
@@ -170,8 +168,8 @@ impl State {
         b: &str,
         c: &str,
         d: &str,
-    ) -> Option<Result<Answer, AllocError>>
-        ensures { Runs (request_of (verb.now ∷ a.now ∷ b.now ∷ c.now ∷ d.now ∷ [])) self.old result self.new }
+    ) -> Option<Result<Ran, AllocError>>
+        ensures { (answer : Answer) → Runs (request_of (verb.now ∷ a.now ∷ b.now ∷ c.now ∷ d.now ∷ [])) self.old answer result self.new }
     {
         match verb {
             "counti" => {
@@ -202,8 +200,8 @@ impl State {
         c: &str,
         d: &str,
         e: &str,
-    ) -> Option<Result<Answer, AllocError>>
-        ensures { Runs (request_of (verb.now ∷ a.now ∷ b.now ∷ c.now ∷ d.now ∷ e.now ∷ [])) self.old result self.new }
+    ) -> Option<Result<Ran, AllocError>>
+        ensures { (answer : Answer) → Runs (request_of (verb.now ∷ a.now ∷ b.now ∷ c.now ∷ d.now ∷ e.now ∷ [])) self.old answer result self.new }
     {
         match verb {
             "load" => {
@@ -211,6 +209,48 @@ impl State {
                 self.load(alloc, a, seeded_kind(b, seed), c, e)
             }
             _ => None,
+        }
+    }
+
+    /// Sets the answer to what a sketch returns of an item.
+    fn ask(&self, answer: &mut Answer, name: &str, item: &str) -> Option<Result<Ran, AllocError>>
+        ensures { Runs (Some (Request.Act (action.Ask name.now item.now))) self.now answer.new result self.now }
+    {
+        replied(answer, self.session.ask(name, item))
+    }
+
+    /// Sets the answer to the frequent items of a sketch.
+    fn rows(
+        &self,
+        answer: &mut Answer,
+        name: &str,
+        error_type: ErrorType,
+        threshold: u64,
+    ) -> Option<Result<Ran, AllocError>>
+        ensures { Runs (Some (Request.Act (action.ListRows name.now error_type threshold))) self.now answer.new result self.now }
+    {
+        match self.session.rows(name, error_type, threshold) {
+            Ok(rows) => replied(answer, Ok(Reply::Rows(rows))),
+            Err(refusal) => done(Err(refusal)),
+        }
+    }
+
+    /// Sets the answer to a report on a tenant's windows.
+    fn report(
+        &self,
+        answer: &mut Answer,
+        tenant: u64,
+        error_type: ErrorType,
+        threshold: u64,
+    ) -> Option<Result<Ran, AllocError>>
+        ensures { Runs (Some (Request.ReportOf tenant error_type threshold)) self.now answer.new result self.now }
+    {
+        match report(&self.windows, tenant, error_type, threshold) {
+            Ok(report) => {
+                *answer = Answer::Reported(report);
+                Some(Ok(Ran::Told))
+            }
+            Err(refusal) => done(Err(refusal)),
         }
     }
 
@@ -222,8 +262,8 @@ impl State {
         name: &str,
         weight: u64,
         item: &str,
-    ) -> Option<Result<Answer, AllocError>>
-        ensures { Runs (Some (Request.Act (action.Alter name.now (action.Add item.now weight)))) self.old result self.new }
+    ) -> Option<Result<Ran, AllocError>>
+        ensures { (answer : Answer) → Runs (Some (Request.Act (action.Alter name.now (action.Add item.now weight)))) self.old answer result self.new }
     {
         let outcome = self.session.add_by_key(name, item, weight);
         if is_out_of_memory(&outcome) {
@@ -244,8 +284,8 @@ impl State {
         kind: Option<ImageKind>,
         max_bytes: &str,
         digits: &str,
-    ) -> Option<Result<Answer, AllocError>>
-        ensures { Runs (load_of name.now kind max_bytes.now digits.now) self.old result self.new }
+    ) -> Option<Result<Ran, AllocError>>
+        ensures { (answer : Answer) → Runs (load_of name.now kind max_bytes.now digits.now) self.old answer result self.new }
     {
         let kind = kind?;
         let max_bytes = number_of(max_bytes)? as usize;
@@ -257,23 +297,28 @@ impl State {
     }
 }
 
-/// Returns the answer to a request that was done or rejected.
+/// Returns the outcome of a request that was done or rejected.
 #[inline(always)]
-fn done(outcome: Result<(), Refusal>) -> Option<Result<Answer, AllocError>>
-    ensures { result ≡ Some (Ok (Answer.Replied (done_or outcome))) }
+fn done(outcome: Result<(), Refusal>) -> Option<Result<Ran, AllocError>>
+    ensures { result ≡ Some (Ok (Ran.Done outcome)) }
 {
-    Some(Ok(Answer::Replied(Reply::from_outcome(outcome))))
+    Some(Ok(Ran::Done(outcome)))
 }
 
-/// Returns the answer to a request that was replied to or rejected.
+/// Sets the answer to a request that was replied to or rejected.
 #[inline(always)]
-fn replied(given: Result<Reply<String>, Refusal>) -> Option<Result<Answer, AllocError>>
-    ensures { result ≡ Some (Ok (Answer.Replied (told given))) }
+fn replied(
+    answer: &mut Answer,
+    given: Result<Reply<String>, Refusal>,
+) -> Option<Result<Ran, AllocError>>
+    ensures result { result ≡ Some (Ok Ran.Told) }
+    ensures answer { answer.new ≡ Answer.Replied (told given) }
 {
-    match given {
-        Ok(reply) => Some(Ok(Answer::Replied(reply))),
-        Err(refusal) => Some(Ok(Answer::Replied(Reply::Refused(refusal)))),
-    }
+    *answer = match given {
+        Ok(reply) => Answer::Replied(reply),
+        Err(refusal) => Answer::Replied(Reply::Refused(refusal)),
+    };
+    Some(Ok(Ran::Told))
 }
 
 /// Returns whether a call ran out of memory.

@@ -15,8 +15,8 @@ returns-in_ok-weight-in-adds c =
     let did : DidWith c.args.c.now (λ x. Alter c.args.a.now (AddSigned x c.in_ok-weight-in-adds.weight)) c.args.self.now.session (done_or c.add_signed.result) c.add_signed.new.self = (x, same, rw weight at ((c.add_signed.ensures x named).step)) in
     search (rules, did)
 
-pub returns-in-Ok-from_str : goal.returns-in-Ok-from_str
-returns-in-Ok-from_str c =
-    let did : (x : Text) × (string_bytes x ≡ c.args.c.now) × OfWindows (AddsTo c.in_ok-tenant-in-hadd.tenant c.in_ok-weight-in-hadd.weight x) c.args.self.now (done_or c.add-in-Ok-from_str.result) (record { session = c.args.self.now.session; windows = c.add-in-Ok-from_str.new.windows })
-    = (c.in-Ok-from_str.item, c.in-Ok-from_str.ensures.ok, (_, c.add-in-Ok-from_str.ensures, refl, refl)) in
+pub returns-in-Ok : goal.returns-in-Ok
+returns-in-Ok c =
+    let did : (x : Text) × (string_bytes x ≡ c.args.c.now) × OfWindows (AddsTo c.in_ok-tenant-in-hadd.tenant c.in_ok-weight-in-hadd.weight x) c.args.self.now (done_or c.add-in-Ok.result) (record { session = c.args.self.now.session; windows = c.add-in-Ok.new.windows })
+    = (c.in-Ok.item, c.in-Ok.ensures.ok, (_, c.add-in-Ok.ensures, refl, refl)) in
     search (rules, did)
