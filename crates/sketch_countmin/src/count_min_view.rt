@@ -12,12 +12,12 @@ ghost use Rattle.sketch_countmin.specs.State.{CountState, IsCountState, IsMin, I
 ghost use Rattle.sketch_countmin.specs.View.{view_at, view_fault};
 
 use crate::cell_list::ByteCells;
-use crate::count_min_sketch::bucket_count;
 use crate::count_min_value::CountMinValue;
 use crate::image::{read_preamble, read_total};
 use crate::item_cells::{HashItem, RowItem, StrItem};
 use crate::limits::MAX_TABLE_ENTRIES;
 use crate::margin::with_margin;
+use crate::rows::bucket_count;
 use sketch_base::{DEFAULT_UPDATE_SEED, Divisor, Error, murmur3_of_u64};
 use std::hash::Hash;
 use std::marker::Model;

@@ -13,6 +13,7 @@ mod count_min_sketch;
 mod count_min_value;
 mod count_min_view;
 mod fraction;
+mod grid;
 mod image;
 mod item_cells;
 pub mod laws;
