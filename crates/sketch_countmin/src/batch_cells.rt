@@ -4,7 +4,7 @@
 ghost use Rattle.std.specs.Prelude.{◌≡◌, ℕ, ◌+◌, ◌*◌, ◌<◌, ◌≤◌, [], map, length, slice_index, slice_index_or, pos, unsigned_abs, IsTrue};
 ghost use Rattle.std.specs.Int.{is_power_of_two};
 ghost use Rattle.sketch_base.specs.Hashes.{fed_bytes};
-ghost use Rattle.sketch_countmin.specs.Cells.{cell_in, flat_at, RowCounted, RowsCounted, IsLesser};
+ghost use Rattle.sketch_countmin.specs.Cells.{flat_at, RowCounted, IsLesser};
 ghost use Rattle.sketch_countmin.specs.Buckets.{bucket_by, buckets_by};
 ghost use Rattle.sketch_countmin.specs.Items.{IsItemMin};
 
@@ -14,23 +14,14 @@ use crate::item_cells::HashItem;
 use crate::rows::Rows;
 use std::hash::Hash;
 
-/// Adds 1 at each item's bucket of each row.
-#[inline]
-pub fn count_in_rows<T: CountMinValue, I: Hash>(counts: &mut [T], rows: &Rows, items: &[I])
-    requires shape { length counts.old ≡ length rows.now.seeds.now * rows.now.buckets }
-    requires room { (k : ℕ) → unsigned_abs (cell_in (map T.number counts.old) k) + length items.now ≤ T.greatest }
-    ensures { RowsCounted rows.now.buckets (λ r. bucket_by rows.now.buckets (slice_index rows.now.seeds.now r))
-        (map (fed_bytes I.hash_input) items.now)
-        (length rows.now.seeds.now) (map T.number counts.old) (map T.number counts.new) }
-{
-    for row in 0..rows.seeds.len() {
-        count_in_row(counts, rows, row, items);
-    }
-}
-
 /// Adds 1 at each item's bucket of one row.
 #[inline]
-fn count_in_row<T: CountMinValue, I: Hash>(counts: &mut [T], rows: &Rows, row: usize, items: &[I])
+pub fn count_in_row<T: CountMinValue, I: Hash>(
+    counts: &mut [T],
+    rows: &Rows,
+    row: usize,
+    items: &[I],
+)
     requires row { row < length rows.now.seeds.now }
     requires shape { length counts.old ≡ length rows.now.seeds.now * rows.now.buckets }
     requires room { (b : ℕ) → b < rows.now.buckets

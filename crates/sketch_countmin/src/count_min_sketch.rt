@@ -262,7 +262,7 @@ impl<T: CountMinValue> CountMinSketch<T> {
         if weight.to_number() == 0 {
             return Ok(());
         }
-        self.grid.add(item, weight);
+        item.add_to(&mut self.grid, weight);
         self.total = total;
         Ok(())
     }

@@ -1,20 +1,20 @@
 //! The grid of a sketch: a row of cells for each hash.
-ghost use Rattle.std.specs.Prelude.{◌≡◌, ℕ, ◌+◌, ◌*◌, ◌<◌, ◌≤◌, ◌↔◌, [], IsTrue, IfOk, length, map, pos, ◌+ℤ◌, ◌≤ℤ◌, unsigned_abs, slice_index, slice_index_or};
+ghost use Rattle.std.specs.Prelude.{◌≡◌, ℕ, ◌+◌, ◌*◌, ◌<◌, ◌≤◌, ◌↔◌, [], IsTrue, IfOk, length, map, pos, ◌+ℤ◌, ◌≤ℤ◌, unsigned_abs, slice_index_or};
+ghost use Rattle.std.specs.Int.{is_power_of_two};
 ghost use Rattle.sketch_base.specs.Hashes.{fed_bytes};
-ghost use Rattle.sketch_countmin.specs.Buckets.{bucket_by};
-ghost use Rattle.sketch_countmin.specs.Cells.{cell_in, RowsCounted};
-ghost use Rattle.sketch_countmin.specs.Grid.{IsGrid, IsGridOf, KeepsShape};
-ghost use Rattle.sketch_countmin.specs.Items.{IsItemAdded, IsItemMin};
+ghost use Rattle.sketch_countmin.specs.Cells.{cell_in, flat_at};
+ghost use Rattle.sketch_countmin.specs.Grid.{IsGridOf, KeepsShape, AddsItem, CountsInRow, CountsInRows};
+ghost use Rattle.sketch_countmin.specs.Items.{IsItemMin};
 ghost use Rattle.sketch_countmin.specs.Values.{scaled, halved};
 
-use crate::batch_cells::{count_in_rows, min_cells};
+use crate::batch_cells::{count_in_row, min_cells};
 use crate::cells::{add_all, halve_all, same_cells, scale_all};
 use crate::count_min_value::CountMinValue;
-use crate::item_cells::RowItem;
+use crate::item_cells::{RowItem, add_to_each, add_to_four};
 use crate::limits::{MAX_TABLE_ENTRIES, MIN_NUM_BUCKETS};
 use crate::rows::{Rows, bucket_count, row_seeds};
 use crate::unsigned_count_min_value::UnsignedCountMinValue;
-use sketch_base::Divisor;
+use sketch_base::{Divisor, Rehashable};
 use std::alloc::{AllocError, Global};
 use std::hash::Hash;
 use std::marker::Model;
@@ -97,32 +97,63 @@ impl<T: CountMinValue> Grid<T> {
         *self.counts.allocator()
     }
 
-    /// Adds the weight to the item's cell in each row.
+    /// Adds the weight at the bucket of hashed bytes in each of four rows. The number of buckets is a power of two.
     #[inline(always)]
-    pub fn add<R: RowItem<T>>(&mut self, item: &R, weight: T)
+    pub fn add_to_four<R: Rehashable>(&mut self, bytes: &R, weight: T)
+        requires power { IsTrue (is_power_of_two self.old.buckets) }
+        requires hashable { R.can_hash bytes.now }
+        requires four { length self.old.row_seeds ≡ 4 }
         requires room { (k : ℕ) → unsigned_abs (cell_in self.old.cells k +ℤ T.number weight) ≤ T.greatest }
-        ensures added { IsItemAdded self.old.buckets self.old.row_seeds (R.input item.now) (T.number weight)
-            self.old.cells self.new.cells }
-        ensures shape { KeepsShape self.old self.new }
-    {
-        item.add_to_rows(&mut self.counts, self.buckets, &self.row_seeds, weight);
-    }
-
-    /// Adds 1 to each item's cell in each row.
-    #[inline(always)]
-    pub fn count_each<I: Hash>(&mut self, items: &[I])
-        requires room { (k : ℕ) → unsigned_abs (cell_in self.old.cells k) + length items.now ≤ T.greatest }
-        ensures counted { RowsCounted self.old.buckets
-            (λ r. bucket_by self.old.buckets (slice_index self.old.row_seeds r))
-            (map (fed_bytes I.hash_input) items.now)
-            (length self.old.row_seeds) self.old.cells self.new.cells }
-        ensures shape { KeepsShape self.old self.new }
+        ensures { AddsItem (R.bytes bytes.now) (T.number weight) self.old self.new }
     {
         let rows = Rows {
             seeds: &self.row_seeds,
             buckets: self.buckets,
         };
-        count_in_rows(&mut self.counts, &rows, items);
+        add_to_four(&mut self.counts, &rows, bytes, weight);
+    }
+
+    /// Adds the weight at the bucket of hashed bytes in each row. `masked` requires a power of two of buckets.
+    #[inline(always)]
+    pub fn add_to_each<R: Rehashable>(&mut self, masked: bool, bytes: &R, weight: T)
+        requires masked { IsTrue masked → IsTrue (is_power_of_two self.old.buckets) }
+        requires hashable { R.can_hash bytes.now }
+        requires room { (k : ℕ) → unsigned_abs (cell_in self.old.cells k +ℤ T.number weight) ≤ T.greatest }
+        ensures { AddsItem (R.bytes bytes.now) (T.number weight) self.old self.new }
+    {
+        let rows = Rows {
+            seeds: &self.row_seeds,
+            buckets: self.buckets,
+        };
+        add_to_each(&mut self.counts, &rows, masked, bytes, weight);
+    }
+
+    /// Adds 1 to each item's cell in each row.
+    #[inline]
+    pub fn count_each<I: Hash>(&mut self, items: &[I])
+        requires room { (k : ℕ) → unsigned_abs (cell_in self.old.cells k) + length items.now ≤ T.greatest }
+        ensures { CountsInRows (map (fed_bytes I.hash_input) items.now) (length self.old.row_seeds)
+            self.old self.new }
+    {
+        // The label is for the prover.
+        'rows: for row in 0..self.row_seeds.len() {
+            self.count_in_row(row, items);
+        }
+    }
+
+    /// Adds 1 to each item's cell in one row.
+    #[inline]
+    fn count_in_row<I: Hash>(&mut self, row: usize, items: &[I])
+        requires row { row < length self.old.row_seeds }
+        requires room { (b : ℕ) → b < self.old.buckets
+            → unsigned_abs (flat_at self.old.buckets self.old.cells row b) + length items.now ≤ T.greatest }
+        ensures { CountsInRow (map (fed_bytes I.hash_input) items.now) row self.old self.new }
+    {
+        let rows = Rows {
+            seeds: &self.row_seeds,
+            buckets: self.buckets,
+        };
+        count_in_row(&mut self.counts, &rows, row, items);
     }
 
     /// Returns the minimum of the item's cells.
@@ -134,7 +165,7 @@ impl<T: CountMinValue> Grid<T> {
     }
 
     /// Writes the minimum of each item's cells.
-    #[inline(always)]
+    #[inline]
     pub fn min_cells<I: Hash>(&self, items: &[I], least: &mut [T])
         requires same { length least.old ≡ length items.now }
         ensures { (i : ℕ) → i < length items.now → IsItemMin self.now.buckets self.now.row_seeds

@@ -9,11 +9,13 @@ ghost use Rattle.std.specs.Prelude.{◌≡◌, ℕ, ◌*◌, ◌^◌, ◌<◌, �
 ghost use Rattle.std.specs.Int.{is_power_of_two};
 ghost use Rattle.sketch_base.specs.Hashes.{fed_bytes};
 ghost use Rattle.sketch_countmin.specs.Cells.{cell_in};
+ghost use Rattle.sketch_countmin.specs.Grid.{AddsItem};
 ghost use Rattle.sketch_countmin.specs.Items.{IsItemAdded, IsItemMin};
 
 use crate::cell_list::CellList;
 use crate::cells::add_at;
 use crate::count_min_value::CountMinValue;
+use crate::grid::Grid;
 use crate::rows::Rows;
 use sketch_base::{Divisor, Rehashable, RehashableItem, RehashableStr, murmur3_of};
 use std::hash::Hash;
@@ -26,13 +28,9 @@ pub trait RowItem<T: CountMinValue> {
     ghost input: { Self → List ℕ };
 
     /// Adds the weight at the item's bucket of each row.
-    fn add_to_rows(&self, counts: &mut [T], buckets: Divisor, seeds: &[u64], weight: T)
-        requires some { 0 < length seeds.now }
-        requires fits { length seeds.now * buckets < 2 ^ 64 }
-        requires shape { length counts.old ≡ length seeds.now * buckets }
-        requires room { (k : ℕ) → unsigned_abs (cell_in (map T.number counts.old) k +ℤ T.number weight) ≤ T.greatest }
-        ensures { IsItemAdded buckets seeds.now (input self.now) (T.number weight)
-            (map T.number counts.old) (map T.number counts.new) };
+    fn add_to(&self, grid: &mut Grid<T>, weight: T)
+        requires { (k : ℕ) → unsigned_abs (cell_in grid.old.cells k +ℤ T.number weight) ≤ T.greatest }
+        ensures { AddsItem (input self.now) (T.number weight) grid.old grid.new };
 
     /// Returns the minimum of the item's cells.
     fn min_cell<C: CellList<T>>(&self, counts: &C, buckets: Divisor, seeds: &[u64]) -> T
@@ -63,16 +61,15 @@ impl<'a, T: CountMinValue, I: Hash> RowItem<T> for HashItem<'a, I> {
     ghost input = { λ row. fed_bytes I.hash_input row.item.now };
 
     #[inline(always)]
-    fn add_to_rows(&self, counts: &mut [T], buckets: Divisor, seeds: &[u64], weight: T) {
-        let rows = Rows { seeds, buckets };
+    fn add_to(&self, grid: &mut Grid<T>, weight: T) {
         let hashed = RehashableItem::new(self.item);
         match hashed.short() {
-            Some(bytes) if !buckets.is_power_of_two() => {
-                add_to_each(counts, &rows, false, bytes, weight)
+            Some(bytes) if !grid.buckets().is_power_of_two() => {
+                grid.add_to_each(false, bytes, weight)
             }
-            Some(bytes) if seeds.len() == 4 => add_to_four(counts, &rows, bytes, weight),
-            Some(bytes) => add_to_each(counts, &rows, true, bytes, weight),
-            None => add_long(counts, buckets, seeds, self.item, weight),
+            Some(bytes) if grid.num_rows() == 4 => grid.add_to_four(bytes, weight),
+            Some(bytes) => grid.add_to_each(true, bytes, weight),
+            None => add_long(grid, self.item, weight),
         }
     }
 
@@ -101,15 +98,14 @@ impl<'a, T: CountMinValue> RowItem<T> for StrItem<'a> {
     ghost input = { λ row. fed_bytes fed.str row.item.now };
 
     #[inline(always)]
-    fn add_to_rows(&self, counts: &mut [T], buckets: Divisor, seeds: &[u64], weight: T) {
-        let rows = Rows { seeds, buckets };
+    fn add_to(&self, grid: &mut Grid<T>, weight: T) {
         let bytes = RehashableStr::new(self.item);
-        if !buckets.is_power_of_two() {
-            add_to_each(counts, &rows, false, &bytes, weight);
-        } else if seeds.len() == 4 {
-            add_to_four(counts, &rows, &bytes, weight);
+        if !grid.buckets().is_power_of_two() {
+            grid.add_to_each(false, &bytes, weight);
+        } else if grid.num_rows() == 4 {
+            grid.add_to_four(&bytes, weight);
         } else {
-            add_to_each(counts, &rows, true, &bytes, weight);
+            grid.add_to_each(true, &bytes, weight);
         }
     }
 
@@ -129,28 +125,22 @@ impl<'a, T: CountMinValue> RowItem<T> for StrItem<'a> {
 
 /// Adds the weight at the bucket of an item of many bytes in each row. The item is fed again for each row.
 #[inline(never)]
-fn add_long<T: CountMinValue, I: Hash>(
-    counts: &mut [T],
-    buckets: Divisor,
-    seeds: &[u64],
-    item: &I,
-    weight: T,
-)
-    requires some { 0 < length seeds.now }
-    requires fits { length seeds.now * buckets < 2 ^ 64 }
-    requires shape { length counts.old ≡ length seeds.now * buckets }
-    requires room { (k : ℕ) → unsigned_abs (cell_in (map T.number counts.old) k +ℤ T.number weight) ≤ T.greatest }
-    ensures { IsItemAdded buckets seeds.now (fed_bytes I.hash_input item.now) (T.number weight)
-        (map T.number counts.old) (map T.number counts.new) }
+fn add_long<T: CountMinValue, I: Hash>(grid: &mut Grid<T>, item: &I, weight: T)
+    requires { (k : ℕ) → unsigned_abs (cell_in grid.old.cells k +ℤ T.number weight) ≤ T.greatest }
+    ensures { AddsItem (fed_bytes I.hash_input item.now) (T.number weight) grid.old grid.new }
 {
-    let rows = Rows { seeds, buckets };
-    let item = HashItem { item };
-    add_to_each(counts, &rows, buckets.is_power_of_two(), &item, weight);
+    let masked = grid.buckets().is_power_of_two();
+    grid.add_to_each(masked, &HashItem { item }, weight);
 }
 
 /// Adds the weight at the bucket of hashed bytes in each of four rows. The number of buckets is a power of two.
 #[inline(always)]
-fn add_to_four<T: CountMinValue, R: Rehashable>(counts: &mut [T], rows: &Rows, bytes: &R, weight: T)
+pub fn add_to_four<T: CountMinValue, R: Rehashable>(
+    counts: &mut [T],
+    rows: &Rows,
+    bytes: &R,
+    weight: T,
+)
     requires power { IsTrue (is_power_of_two rows.now.buckets) }
     requires hashable { R.can_hash bytes.now }
     requires four { length rows.now.seeds.now ≡ 4 }
@@ -171,7 +161,7 @@ fn add_to_four<T: CountMinValue, R: Rehashable>(counts: &mut [T], rows: &Rows, b
 
 /// Adds the weight at the bucket of hashed bytes in each row. `masked` requires a power of two of buckets.
 #[inline(always)]
-fn add_to_each<T: CountMinValue, R: Rehashable>(
+pub fn add_to_each<T: CountMinValue, R: Rehashable>(
     counts: &mut [T],
     rows: &Rows,
     masked: bool,

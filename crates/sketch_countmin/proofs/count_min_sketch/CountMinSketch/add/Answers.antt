@@ -8,46 +8,46 @@ use Rattle.sketch_countmin.proofs.Updates.{room_here, updated, counts_here, unco
 use Rattle.sketch_countmin.proofs.Standing.{stands_counted}
 use Rattle.sketch_countmin.proofs.count_min_sketch.CountMinSketch.add.Given as given
 use Rattle.sketch_countmin.proofs.count_min_sketch.CountMinSketch.add.Goals as goal
-use Rattle.sketch_countmin.proofs.count_min_sketch.CountMinSketch.add.Goals.{After-add}
+use Rattle.sketch_countmin.proofs.count_min_sketch.CountMinSketch.add.Goals.{After-add_to}
 
 -- the new total, by the old one of the parts
 total_sum : (s u : CountState) (w t : ℤ) → s ≡ u → t ≡ pos (u.total + unsigned_abs w) → t ≡ pos (s.total + unsigned_abs w)
 total_sum s u w t e h = h ∙ ap (λ (v : CountState). pos (v.total + unsigned_abs w)) (sym e)
 
 -- the total has the weight added
-sum : (g : given.Over) (c : After-add g) → let number = g.T.CountMinValue.number in number c.in_ok-total.total ≡ pos (unsigned_abs (number c.self.inside.total) + unsigned_abs (number c.args.weight))
+sum : (g : given.Over) (c : After-add_to g) → let number = g.T.CountMinValue.number in number c.in_ok-total.total ≡ pos (unsigned_abs (number c.self.inside.total) + unsigned_abs (number c.args.weight))
 sum g c = total_sum _ _ (g.T.CountMinValue.number c.args.weight) _ c.self.view_is c.in_ok-total.ensures.sum
 
-fits : (g : given.Over) (c : After-add g) → unsigned_abs (g.T.CountMinValue.number c.in_ok-total.total) ≤ g.T.CountMinValue.greatest
+fits : (g : given.Over) (c : After-add_to g) → unsigned_abs (g.T.CountMinValue.number c.in_ok-total.total) ≤ g.T.CountMinValue.greatest
 fits g c = omega (arith, ints, c.in_ok-total.ensures.sum, c.in_ok-total.ensures.fits)
 
-pub add-requires : goal.add-requires
-add-requires g c =
+pub add_to-requires : goal.add_to-requires
+add_to-requires g c =
     let number = g.T.CountMinValue.number in
     let i = c.self.inside in
     let w : ℤ = number c.args.weight in
     let t : ℤ = number c.in_ok-total.total in
     let sum : t ≡ pos (unsigned_abs (number i.total) + unsigned_abs w) = total_sum _ _ w t c.self.view_is c.in_ok-total.ensures.sum in
     let fits : unsigned_abs t ≤ g.T.CountMinValue.greatest = omega (arith, ints, c.in_ok-total.ensures.sum, c.in_ok-total.ensures.fits) in
-    record { room = room_here _ _ _ _ (number i.total) t i.grid.cells w c.self.invariant sum fits }
+    room_here _ _ _ _ (number i.total) t i.grid.cells w c.self.invariant sum fits
 
 pub invariant_of-self : goal.invariant_of-self
 invariant_of-self g c =
     let number = g.T.CountMinValue.number in
     let i = c.self.inside in
-    let now = (goal.at.invariant_of-self g c).After-add in
-    rw (c.add.ensures.shape.row_seeds, c.add.ensures.shape.buckets)
-    (updated _ _ _ _ (number i.total) (number c.in_ok-total.total) i.grid.cells _ _ (number c.args.weight) c.self.invariant c.add.ensures.added c.add.ensures.shape.size (sum g now) (fits g now))
+    let now = (goal.at.invariant_of-self g c).After-add_to in
+    rw (c.add_to.ensures.shape.row_seeds, c.add_to.ensures.shape.buckets)
+    (updated _ _ _ _ (number i.total) (number c.in_ok-total.total) i.grid.cells _ _ (number c.args.weight) c.self.invariant c.add_to.ensures.added c.add_to.ensures.shape.size (sum g now) (fits g now))
 
 pub returns-clause-counted : goal.returns-clause-counted
 returns-clause-counted g c =
     let number = g.T.CountMinValue.number in
     let i = c.self.inside in
     let bytes : List ℕ = g.R.RowItem.input c.args.item.now in
-    let now = (goal.at.returns-clause-counted g c).After-add in
-    rw (c.add.ensures.shape.row_seeds, c.add.ensures.shape.buckets)
-    (subst (λ (s : CountState). Counts s bytes (number c.args.weight) (state_of i.grid.row_seeds i.grid.buckets i.seed (number c.in_ok-total.total) c.add.new.self.cells)) c.self.view_is
-    (counts_here _ _ _ _ (number i.total) (number c.in_ok-total.total) i.grid.cells _ bytes (number c.args.weight) c.self.invariant c.add.ensures.added (ap unsigned_abs (sum g now))))
+    let now = (goal.at.returns-clause-counted g c).After-add_to in
+    rw (c.add_to.ensures.shape.row_seeds, c.add_to.ensures.shape.buckets)
+    (subst (λ (s : CountState). Counts s bytes (number c.args.weight) (state_of i.grid.row_seeds i.grid.buckets i.seed (number c.in_ok-total.total) c.add_to.new.grid.cells)) c.self.view_is
+    (counts_here _ _ _ _ (number i.total) (number c.in_ok-total.total) i.grid.cells _ bytes (number c.args.weight) c.self.invariant c.add_to.ensures.added (ap unsigned_abs (sum g now))))
 
 pub returns-clause-state : goal.returns-clause-state
 returns-clause-state g c = is_state _ _ _ _ _ _ (invariant_of-self g c)
