@@ -239,7 +239,7 @@ impl<'a, T: CountMinValue> CountMinView<'a, T> {
         }
         let cells = ByteCells::new(self.bytes, self.total);
         let row_seeds = &self.row_seeds[..self.num_hashes as usize];
-        item.min_cell(&cells, self.buckets, row_seeds)
+        item.min_cell(cells, self.buckets, row_seeds)
     }
 
     /// Returns the estimate plus a margin, or the maximum of `T` if this exceeds it, as

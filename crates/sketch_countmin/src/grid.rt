@@ -1,17 +1,18 @@
 //! The grid of a sketch: a row of cells for each hash.
-ghost use Rattle.std.specs.Prelude.{◌≡◌, ℕ, ◌+◌, ◌*◌, ◌<◌, ◌≤◌, ◌↔◌, [], IsTrue, IfOk, length, map, pos, ◌+ℤ◌, ◌≤ℤ◌, unsigned_abs, slice_index_or};
+ghost use Rattle.std.specs.Prelude.{◌≡◌, ℕ, ◌+◌, ◌*◌, ◌<◌, ◌≤◌, ◌↔◌, [], IsTrue, IfOk, length, map, pos, ◌+ℤ◌, ◌≤ℤ◌, unsigned_abs, slice_index, slice_index_or};
 ghost use Rattle.std.specs.Int.{is_power_of_two};
 ghost use Rattle.sketch_base.specs.Hashes.{fed_bytes};
-ghost use Rattle.sketch_countmin.specs.Cells.{cell_in, flat_at};
+ghost use Rattle.sketch_countmin.specs.Buckets.{bucket_by};
+ghost use Rattle.sketch_countmin.specs.Cells.{cell_in, flat_at, RowCounted};
 ghost use Rattle.sketch_countmin.specs.Grid.{IsGridOf, KeepsShape, AddsItem, CountsInRow, CountsInRows};
-ghost use Rattle.sketch_countmin.specs.Items.{IsItemMin};
+ghost use Rattle.sketch_countmin.specs.Items.{IsItemAdded, IsItemMin};
 ghost use Rattle.sketch_countmin.specs.Values.{scaled, halved};
 
-use crate::batch_cells::{count_in_row, min_cells};
-use crate::cells::{add_all, halve_all, same_cells, scale_all};
+use crate::cells::{add_all, add_at, halve_all, same_cells, scale_all};
 use crate::count_min_value::CountMinValue;
-use crate::item_cells::{RowItem, add_to_each, add_to_four};
+use crate::item_cells::{HashItem, RowItem};
 use crate::limits::{MAX_TABLE_ENTRIES, MIN_NUM_BUCKETS};
+use crate::row_cells::RowCells;
 use crate::rows::{Rows, bucket_count, row_seeds};
 use crate::unsigned_count_min_value::UnsignedCountMinValue;
 use sketch_base::{Divisor, Rehashable};
@@ -161,7 +162,7 @@ impl<T: CountMinValue> Grid<T> {
     pub fn min_cell<R: RowItem<T>>(&self, item: &R) -> T
         ensures { IsItemMin self.now.buckets self.now.row_seeds (R.input item.now) self.now.cells (T.number result) }
     {
-        item.min_cell(&self.counts.as_slice(), self.buckets, &self.row_seeds)
+        item.min_cell(self.counts.as_slice(), self.buckets, &self.row_seeds)
     }
 
     /// Writes the minimum of each item's cells.
@@ -172,11 +173,8 @@ impl<T: CountMinValue> Grid<T> {
             (slice_index_or (map (fed_bytes I.hash_input) items.now) i [])
             self.now.cells (slice_index_or (map T.number least.new) i (pos 0)) }
     {
-        let rows = Rows {
-            seeds: &self.row_seeds,
-            buckets: self.buckets,
-        };
-        min_cells(&self.counts, &rows, items, least);
+        let cells = RowCells::new(self.counts.as_slice(), self.buckets, &self.row_seeds);
+        cells.min_cells(items, least);
     }
 
     /// Adds the cells of another grid, index by index.
@@ -234,5 +232,66 @@ impl<T: CountMinValue> Clone for Grid<T> {
             row_seeds,
             counts,
         })
+    }
+}
+
+/// Adds the weight at the bucket of hashed bytes in each of four rows. The number of buckets is a power of two.
+#[inline(always)]
+fn add_to_four<T: CountMinValue, R: Rehashable>(counts: &mut [T], rows: &Rows, bytes: &R, weight: T)
+    requires power { IsTrue (is_power_of_two rows.now.buckets) }
+    requires hashable { R.can_hash bytes.now }
+    requires four { length rows.now.seeds.now ≡ 4 }
+    requires shape { length counts.old ≡ length rows.now.seeds.now * rows.now.buckets }
+    requires room { (k : ℕ) → unsigned_abs (cell_in (map T.number counts.old) k +ℤ T.number weight) ≤ T.greatest }
+    ensures { IsItemAdded rows.now.buckets rows.now.seeds.now (R.bytes bytes.now) (T.number weight)
+        (map T.number counts.old) (map T.number counts.new) }
+{
+    let first = rows.index(true, bytes, 0);
+    let second = rows.index(true, bytes, 1);
+    let third = rows.index(true, bytes, 2);
+    let fourth = rows.index(true, bytes, 3);
+    add_at(counts, first, weight);
+    add_at(counts, second, weight);
+    add_at(counts, third, weight);
+    add_at(counts, fourth, weight);
+}
+
+/// Adds the weight at the bucket of hashed bytes in each row. `masked` requires a power of two of buckets.
+#[inline(always)]
+fn add_to_each<T: CountMinValue, R: Rehashable>(
+    counts: &mut [T],
+    rows: &Rows,
+    masked: bool,
+    bytes: &R,
+    weight: T,
+)
+    requires masked { IsTrue masked → IsTrue (is_power_of_two rows.now.buckets) }
+    requires hashable { R.can_hash bytes.now }
+    requires shape { length counts.old ≡ length rows.now.seeds.now * rows.now.buckets }
+    requires room { (k : ℕ) → unsigned_abs (cell_in (map T.number counts.old) k +ℤ T.number weight) ≤ T.greatest }
+    ensures { IsItemAdded rows.now.buckets rows.now.seeds.now (R.bytes bytes.now) (T.number weight)
+        (map T.number counts.old) (map T.number counts.new) }
+{
+    for row in 0..rows.seeds.len() {
+        let index = rows.index(masked, bytes, row);
+        add_at(counts, index, weight);
+    }
+}
+
+/// Adds 1 at each item's bucket of one row.
+#[inline]
+fn count_in_row<T: CountMinValue, I: Hash>(counts: &mut [T], rows: &Rows, row: usize, items: &[I])
+    requires row { row < length rows.now.seeds.now }
+    requires shape { length counts.old ≡ length rows.now.seeds.now * rows.now.buckets }
+    requires room { (b : ℕ) → b < rows.now.buckets
+        → unsigned_abs (flat_at rows.now.buckets (map T.number counts.old) row b) + length items.now ≤ T.greatest }
+    ensures { RowCounted rows.now.buckets (bucket_by rows.now.buckets (slice_index rows.now.seeds.now row))
+        (map (fed_bytes I.hash_input) items.now) row (map T.number counts.old) (map T.number counts.new) }
+{
+    let masked = rows.buckets.is_power_of_two();
+    let seed = rows.seeds[row];
+    for item in items {
+        let index = rows.index_by_seed(masked, &HashItem { item }, row, seed);
+        add_at(counts, index, T::ONE);
     }
 }

@@ -5,7 +5,6 @@
 //! and read from one.
 #![tactic(auto)]
 
-mod batch_cells;
 mod cell_list;
 mod cells;
 mod count_min_sizes;
@@ -21,6 +20,7 @@ mod limits;
 mod margin;
 mod number_types;
 mod parts;
+mod row_cells;
 mod rows;
 mod sizes;
 mod unsigned_count_min_value;

@@ -3,7 +3,7 @@ use Rattle.sketch_countmin.specs.Buckets.{buckets_by}
 use Rattle.sketch_countmin.specs.Cells.{RowsAdded}
 use Rattle.sketch_countmin.proofs.Places.{within, room_behind, row_added}
 use Rattle.sketch_countmin.proofs.RowSteps.{rows_none}
-use Rattle.sketch_countmin.proofs.item_cells.add_to_each.Goals as goal
+use Rattle.sketch_countmin.proofs.grid.add_to_each.Goals as goal
 
 pub loop-row-init : goal.loop-row-init
 loop-row-init g c = rows_none _ _ _ _

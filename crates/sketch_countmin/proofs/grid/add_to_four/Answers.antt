@@ -3,7 +3,7 @@ use Rattle.sketch_countmin.specs.Buckets.{buckets_by}
 use Rattle.sketch_countmin.specs.Cells.{RowsAdded}
 use Rattle.sketch_countmin.proofs.Places.{within, room_stays, row_added}
 use Rattle.sketch_countmin.proofs.RowSteps.{rows_none}
-use Rattle.sketch_countmin.proofs.item_cells.add_to_four.Goals as goal
+use Rattle.sketch_countmin.proofs.grid.add_to_four.Goals as goal
 
 pub add_at-requires-clause-bounds : goal.add_at-requires-clause-bounds
 add_at-requires-clause-bounds g c = within _ _ _ c.index-first.ensures.inside c.requires.shape

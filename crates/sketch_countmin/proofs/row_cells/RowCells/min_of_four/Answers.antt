@@ -2,14 +2,14 @@ use Rattle.std.proofs.Common.{sym, subst, ℕ}
 use Rattle.sketch_countmin.specs.Buckets.{buckets_by}
 use Rattle.sketch_countmin.specs.Cells.{IsMinOf}
 use Rattle.sketch_countmin.proofs.RowSteps.{least_first, least_more}
-use Rattle.sketch_countmin.proofs.item_cells.min_of_four.Goals as goal
+use Rattle.sketch_countmin.proofs.row_cells.RowCells.min_of_four.Goals as goal
 
 pub returns : goal.returns
 returns g c =
     let num = g.T.CountMinValue.number in
-    let d : ℕ = c.args.rows.now.buckets in
-    let cells = g.C.CellList.list c.args.counts.now in
-    let bucket = buckets_by d c.args.rows.now.seeds.now (g.R.Rehashable.bytes c.args.bytes.now) in
+    let d : ℕ = c.args.self.now.rows.buckets in
+    let cells = g.C.CellList.list c.args.self.now.cells in
+    let bucket = buckets_by d c.args.self.now.rows.seeds.now (g.R.Rehashable.bytes c.args.bytes.now) in
     let more = least_more num g.T.Ord.cmp d bucket in
     let ordered = g.met.T.CountMinValue.ordered in
     let one : IsMinOf d cells bucket 1 (num c.cell-one.result) = least_first num d bucket cells c.index-first.result c.cell-one.result c.index-first.ensures.index c.cell-one.ensures in

@@ -6,7 +6,7 @@ use Rattle.sketch_countmin.proofs.RowSteps.{read_cell, lesser_here}
 use Rattle.sketch_countmin.proofs.RowCounts.{read_item}
 use Rattle.sketch_countmin.proofs.Estimates.{estimates_more, behind_stay}
 use borrow.Author.Rules.{scaled_Fits}
-use Rattle.sketch_countmin.proofs.batch_cells.lesser_cells.Goals as goal
+use Rattle.sketch_countmin.proofs.row_cells.RowCells.lesser_cells.Goals as goal
 
 pub loop-i-init : goal.loop-i-init
 loop-i-init g c = record { done = λ j lt. absurd (omega arith); rest = λ j _. refl }
@@ -15,8 +15,8 @@ pub loop-i-preserved : goal.loop-i-preserved
 loop-i-preserved g c =
     let number = g.T.CountMinValue.number in
     let fed = fed_bytes g.I.Hash.hash_input in
-    let rows = c.args.rows.now in
-    let cell = λ (bytes : List ℕ). flat_at rows.buckets (map number c.args.counts.now) c.args.row (buckets_by rows.buckets rows.seeds.now bytes c.args.row) in
+    let rows = c.args.self.now.rows in
+    let cell = λ (bytes : List ℕ). flat_at rows.buckets (g.C.CellList.list c.args.self.now.cells) c.args.row (buckets_by rows.buckets rows.seeds.now bytes c.args.row) in
     let n : ℕ = c.loop-i.i in
     let more : n < length c.loop-i.least = omega (arith, c.loop-i-test.true, c.loop-i.auto.least, c.requires.same) in
     let old : number c.index-least-i.result ≡ get_or (map number c.args.least.now) n (pos 0) =

@@ -5,9 +5,9 @@ use Rattle.sketch_base.specs.Hashes.{fed_bytes}
 use Rattle.sketch_countmin.specs.Buckets.{bucket_by}
 use Rattle.sketch_countmin.specs.Cells.{RowCounted}
 use Rattle.sketch_countmin.proofs.RowCounts.{row_start, row_counted, room_in_row, read_item}
-use Rattle.sketch_countmin.proofs.batch_cells.count_in_row.Given as given
-use Rattle.sketch_countmin.proofs.batch_cells.count_in_row.Goals as goal
-use Rattle.sketch_countmin.proofs.batch_cells.count_in_row.Goals.{After-ONE}
+use Rattle.sketch_countmin.proofs.grid.count_in_row.Given as given
+use Rattle.sketch_countmin.proofs.grid.count_in_row.Goals as goal
+use Rattle.sketch_countmin.proofs.grid.count_in_row.Goals.{After-ONE}
 
 -- the bytes of all items
 abbrev fed : (g : given.Over) → After-ONE g → List (List ℕ)
