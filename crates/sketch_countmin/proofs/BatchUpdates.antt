@@ -61,14 +61,6 @@ stands_all old new items h step s = record {
 
 -- ---- what the cells say
 
--- what a loop did over the lists that it was lent, it did to the sketch's own
-pub rows_counted_own : {T : Type 0} (number : T → ℤ) (d : ℕ) (items : List (List ℕ)) (row_seeds seeds : List ℕ) (cells before after : List T) → seeds ≡ row_seeds → before ≡ cells
-    → RowsCounted d (λ r. bucket_by d (slice_index seeds r)) items (length seeds) (map number before) (map number after)
-    → RowsCounted d (λ r. bucket_by d (slice_index row_seeds r)) items (length row_seeds) (map number cells) (map number after)
-rows_counted_own number d items row_seeds seeds cells before after se be h =
-    subst (λ (l : List ℕ). RowsCounted d (λ r. bucket_by d (slice_index l r)) items (length l) (map number cells) (map number after)) se
-    (subst (λ (l : List _). RowsCounted d (λ r. bucket_by d (slice_index seeds r)) items (length seeds) (map number l) (map number after)) be h)
-
 -- the parts are those of a sketch again
 pub all_counted : (greatest : ℕ) (row_seeds : List ℕ) (d seed : ℕ) (t t' : ℤ) (old new : List ℤ) (bucket : ℕ → List ℕ → ℕ) (items : List (List ℕ))
     → IsTable greatest row_seeds d seed t old → RowsCounted d bucket items (length row_seeds) old new → length new ≡ length old

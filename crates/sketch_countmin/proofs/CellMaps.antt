@@ -1,6 +1,6 @@
 -- What one function of each cell leaves.
 use Rattle.std.proofs.Common.{◌≡◌, ℕ, ◌+◌, ◌<◌, ◌≤◌, ◌++◌, List, [], ◌∷◌, length, get_or, set, take, drop, map, ℤ, pos, refl, sym, ap, ◌∙◌, arith, zero, suc}
-use Rattle.std.proofs.lemmas.List.{map-set, length-map, take_at, take_all, drop_all, append-nil}
+use Rattle.std.proofs.lemmas.List.{map-set, length-map, take_all, drop_all, append-nil}
 use Rattle.sketch_countmin.proofs.RowSteps.{read_cell}
 
 -- the first i elements are mapped: what is read next
@@ -32,9 +32,3 @@ mapped_all number f initial i end =
     let old : List ℤ = map number initial in
     let long : length old ≤ i = omega (arith, length-map initial number, end) in
     ap (λ (rest : List ℤ). map f (take i old) ++ rest) (drop_all i old long) ∙ (append-nil (map f (take i old)) ∙ ap (map f) (take_all i old long))
-
--- what a loop did to the cells that it was lent, it did to the sketch's own
-pub mapped_own : {T : Type 0} (number : T → ℤ) (f : ℤ → ℤ) (items before after : List T) (len : ℕ) → length after ≡ len → before ≡ items → map number after ≡ map f (map number before)
-    → map number (take len (after ++ drop (length after) items)) ≡ map f (map number items)
-mapped_own number f items before after len long same done =
-    ap (map number) (take_at after (drop (length after) items) len long) ∙ (done ∙ ap (λ (xs : List _). map f (map number xs)) same)

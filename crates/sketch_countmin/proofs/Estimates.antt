@@ -20,14 +20,6 @@ pub bucket_below : (d seed r : ℕ) (bytes : List ℕ) → 0 < d → bucket_of d
 unfolding bucket_of
 bucket_below d seed r bytes p = mod_below (murmur3_x64_128 bytes (row_seed r seed)).0 d p
 
--- what a loop found over the lists that it was lent holds of the sketch's own
-pub least_own : {T : Type 0} (number : T → ℤ) (d : ℕ) (bytes : List ℕ) (row_seeds seeds : List ℕ) (items lent : List T) (z : ℤ) → seeds ≡ row_seeds → lent ≡ items
-    → IsMinOf d (map number lent) (λ r. bucket_by d (slice_index seeds r) bytes) (length seeds) z
-    → IsMinOf d (map number items) (λ r. bucket_by d (slice_index row_seeds r) bytes) (length row_seeds) z
-least_own number d bytes row_seeds seeds items lent z se le h =
-    subst (λ (l : List ℕ). IsMinOf d (map number items) (λ r. bucket_by d (slice_index l r) bytes) (length l) z) se
-    (subst (λ (l : List _). IsMinOf d (map number l) (λ r. bucket_by d (slice_index seeds r) bytes) (length seeds) z) le h)
-
 -- the least cell that the rows' seeds lead to is the item's least cell
 pub least_here : (greatest : ℕ) (row_seeds : List ℕ) (d seed : ℕ) (t : ℤ) (cells : List ℤ) (bytes : List ℕ) (z : ℤ) → IsTable greatest row_seeds d seed t cells
     → IsMinOf d cells (λ r. bucket_by d (slice_index row_seeds r) bytes) (length row_seeds) z → IsMinCell (state_of row_seeds d seed t cells) bytes z

@@ -1,5 +1,5 @@
 -- The length of what is written for a sketch, and that each of its cells is in the range of its type.
-use Rattle.std.proofs.Common.{◌≡◌, ◌≢◌, ℕ, zero, suc, ◌+◌, ◌*◌, ◌≤◌, ◌==◌, Bool, true, false, List, ◌++◌, All, length, map, get_or, ℤ, pos, negsuc, unsigned_abs, ◌≤ℤ◌, ◌+ℤ◌, refl, sym, ap, subst, ◌∙◌, arith, length-append, eq-eqb, eqb-true}
+use Rattle.std.proofs.Common.{◌≡◌, ◌≢◌, ℕ, zero, suc, ◌+◌, ◌*◌, ◌<◌, ◌≤◌, ◌==◌, Bool, true, false, List, ◌++◌, All, length, map, get_or, ℤ, pos, negsuc, unsigned_abs, ◌≤ℤ◌, ◌+ℤ◌, refl, sym, ap, subst, ◌∙◌, arith, length-append, eq-eqb, eqb-true}
 use Rattle.std.specs.Prelude.{if◌then◌else◌}
 use Rattle.std.specs.List.{flat_map}
 use Rattle.std.proofs.lemmas.Bool.{false≢true}
@@ -48,14 +48,17 @@ module _ {T : Type 0} (number : T → ℤ) (zero : T) (least : ℤ) (greatest : 
       subst (InRange least greatest) same (sums_fit x zero (subst (λ (z : ℤ). unsigned_abs z ≤ greatest) (sym same) small))
 
   -- so is each cell of a sketch
-  pub cells_in_range : (seeds : List ℕ) (d seed : ℕ) (total : ℤ) (counts : List T) → IsTable greatest seeds d seed total (map number counts) → All (InRange least greatest) (map number counts)
-  cells_in_range seeds d seed total counts table =
-      All-from_get_or (InRange least greatest) (map number counts) (pos 0) (λ k lt.
-      let is : get_or (map number counts) k (pos 0) ≡ number (get_or counts k zero) = get_or-map number counts k zero (pos 0) (omega (arith, lt, length-map counts number)) in
-      subst (InRange least greatest) (sym is) (in_range (get_or counts k zero) (subst (λ (z : ℤ). unsigned_abs z ≤ greatest) is (omega (arith, table.bounded k, table.fits)))))
+  pub cells_in_range : (seeds : List ℕ) (d seed : ℕ) (total : ℤ) (cells : List ℤ) (counts : List T) → map number counts ≡ cells → IsTable greatest seeds d seed total cells → All (InRange least greatest) cells
+  cells_in_range seeds d seed total cells counts are table = subst (All (InRange least greatest)) are (All-from_get_or (InRange least greatest) (map number counts) (pos 0) each)
+    where
+      each : (k : ℕ) → k < length (map number counts) → InRange least greatest (get_or (map number counts) k (pos 0))
+      each k lt =
+          let is : get_or (map number counts) k (pos 0) ≡ number (get_or counts k zero) = get_or-map number counts k zero (pos 0) (omega (arith, lt, length-map counts number)) in
+          let small : unsigned_abs (get_or (map number counts) k (pos 0)) ≤ greatest = subst (λ (zs : List ℤ). unsigned_abs (get_or zs k (pos 0)) ≤ greatest) (sym are) (omega (arith, table.bounded k, table.fits)) in
+          subst (InRange least greatest) (sym is) (in_range (get_or counts k zero) (subst (λ (z : ℤ). unsigned_abs z ≤ greatest) is small))
 
   -- so there is an image of each sketch
-  pub some_image : (seeds : List ℕ) (d seed : ℕ) (total : ℤ) (counts : List T) → least ≤ℤ pos 0 → IsTable greatest seeds d seed total (map number counts)
-      → (image : List ℕ) × IsSpelled least greatest image (state_of seeds d seed total (map number counts))
-  some_image seeds d seed total counts low table =
-      some_image_of least greatest seeds d seed total (map number counts) low table (cells_in_range seeds d seed total counts table)
+  pub some_image : (seeds : List ℕ) (d seed : ℕ) (total : ℤ) (cells : List ℤ) (counts : List T) → map number counts ≡ cells → least ≤ℤ pos 0 → IsTable greatest seeds d seed total cells
+      → (image : List ℕ) × IsSpelled least greatest image (state_of seeds d seed total cells)
+  some_image seeds d seed total cells counts are low table =
+      some_image_of least greatest seeds d seed total cells low table (cells_in_range seeds d seed total cells counts are table)

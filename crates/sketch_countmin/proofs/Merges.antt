@@ -1,5 +1,5 @@
 -- What a merge leaves.
-use Rattle.std.proofs.Common.{◌≡◌, ℕ, ◌+◌, ◌*◌, ◌≤◌, List, length, get_or, map, ℤ, pos, ◌+ℤ◌, unsigned_abs, refl, sym, ap, ◌∙◌, subst, arith}
+use Rattle.std.proofs.Common.{◌≡◌, ℕ, ◌+◌, ◌*◌, ◌≤◌, List, length, get_or, ℤ, pos, ◌+ℤ◌, unsigned_abs, refl, sym, ap, ◌∙◌, subst, arith}
 use Rattle.sketch_countmin.specs.Rows.{cell_at, rows_of}
 use Rattle.sketch_countmin.specs.State.{CountState, SameShape, Joins}
 use Rattle.sketch_countmin.specs.Table.{IsTable, state_of}
@@ -9,14 +9,6 @@ use Rattle.sketch_countmin.proofs.Updates.{abs_sum}
 -- each cell is the sum of two
 pub record AllAdded (old other new : List ℤ) : Type 0 where
   pub cells : (k : ℕ) → get_or new k (pos 0) ≡ get_or old k (pos 0) +ℤ get_or other k (pos 0)
-
--- what a loop did over the lists that it was lent, it did to the sketches' own
-pub all_added_own : {T : Type 0} (number : T → ℤ) (items before after others other : List T) → before ≡ items → other ≡ others
-    → ((k : ℕ) → get_or (map number after) k (pos 0) ≡ get_or (map number before) k (pos 0) +ℤ get_or (map number other) k (pos 0))
-    → AllAdded (map number items) (map number others) (map number after)
-all_added_own number items before after others other be oe h =
-    subst (λ (l : List _). AllAdded (map number l) (map number others) (map number after)) be
-    (subst (λ (l : List _). AllAdded (map number before) (map number l) (map number after)) oe (record { cells = h }))
 
 -- the parts are those of a sketch again
 pub merged : (greatest : ℕ) (row_seeds : List ℕ) (d seed : ℕ) (t t' u : ℤ) (old other new : List ℤ)
@@ -28,11 +20,11 @@ merged greatest row_seeds d seed t t' u old other new i bound h long sum fits =
     (λ k. rw (h.cells k) (omega (arith, abs_sum (get_or old k (pos 0)) (get_or other k (pos 0)), i.bounded k, bound k, total)))
 
 -- there is room in each cell for another's, where there is room in the total
-pub room_for_other : (greatest : ℕ) (row_seeds : List ℕ) (d seed : ℕ) (t t' u : ℤ) (cells lent others other : List ℤ) → IsTable greatest row_seeds d seed t cells → lent ≡ cells
-    → ((k : ℕ) → unsigned_abs (get_or others k (pos 0)) ≤ unsigned_abs u) → other ≡ others
-    → t' ≡ pos (unsigned_abs t + unsigned_abs u) → unsigned_abs t' ≤ greatest → (k : ℕ) → unsigned_abs (get_or lent k (pos 0) +ℤ get_or other k (pos 0)) ≤ greatest
-room_for_other greatest row_seeds d seed t t' u cells lent others other i e bound oe sum fits k =
-    rw (e, oe) (omega (arith, abs_sum (get_or cells k (pos 0)) (get_or others k (pos 0)), i.bounded k, bound k, ap unsigned_abs sum, fits))
+pub room_for_other : (greatest : ℕ) (row_seeds : List ℕ) (d seed : ℕ) (t t' u : ℤ) (cells others : List ℤ) → IsTable greatest row_seeds d seed t cells
+    → ((k : ℕ) → unsigned_abs (get_or others k (pos 0)) ≤ unsigned_abs u)
+    → t' ≡ pos (unsigned_abs t + unsigned_abs u) → unsigned_abs t' ≤ greatest → (k : ℕ) → unsigned_abs (get_or cells k (pos 0) +ℤ get_or others k (pos 0)) ≤ greatest
+room_for_other greatest row_seeds d seed t t' u cells others i bound sum fits k =
+    omega (arith, abs_sum (get_or cells k (pos 0)) (get_or others k (pos 0)), i.bounded k, bound k, ap unsigned_abs sum, fits)
 
 -- and the sketch that they make has both
 pub joins_here : (row_seeds others : List ℕ) (d e seed seed' : ℕ) (t t' u : ℤ) (old other new : List ℤ) → SameShape (state_of row_seeds d seed t old) (state_of others e seed' u other)

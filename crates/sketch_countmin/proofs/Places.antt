@@ -66,17 +66,12 @@ cells_all_added number n old new other h end k =
     (λ (le : n ≤ k). h.rest k le ∙ (plus_zero (get_or old k (pos 0)) ∙ ap (λ (z : ℤ). get_or old k (pos 0) +ℤ z) (sym (get_or_past (map number other) k (pos 0) (omega (arith, le, end, length-map other number))))))
     (cases_lt k n)
 
--- ---- the parts of a sketch, as a loop over them sees them
-
--- there are as many cells as rows and buckets say
-pub lent_shape : {T : Type 0} (number : T → ℤ) (d : ℕ) (items lent : List T) (row_seeds seeds : List ℕ) → lent ≡ items → seeds ≡ row_seeds → length (map number items) ≡ length row_seeds * d → length lent ≡ length seeds * d
-lent_shape number d items lent row_seeds seeds same same_seeds size = ap length same ∙ (sym (length-map items number) ∙ (size ∙ ap (λ (l : List ℕ). length l * d) (sym same_seeds)))
+-- ---- the parts of a sketch
 
 -- two tables of one shape have as many cells
-pub lent_same : {T : Type 0} (number : T → ℤ) (m n d e : ℕ) (items lent others other : List T) → lent ≡ items → other ≡ others → length (map number items) ≡ m * d → length (map number others) ≡ n * e → m ≡ n → d ≡ e → length lent ≡ length other
-lent_same number m n d e items lent others other same same_others size size_others rows width =
-    ap length same ∙ (sym (length-map items number) ∙ (size ∙ (ap (λ (k : ℕ). k * d) rows ∙ (ap (λ (k : ℕ). n * k) width ∙ (sym size_others ∙ (length-map others number ∙ ap length (sym same_others)))))))
+pub same_size : (m n d e : ℕ) (cells others : List ℤ) → length cells ≡ m * d → length others ≡ n * e → m ≡ n → d ≡ e → length cells ≡ length others
+same_size m n d e cells others size size_others rows width = size ∙ (ap (λ (k : ℕ). k * d) rows ∙ (ap (λ (k : ℕ). n * k) width ∙ sym size_others))
 
 -- there is room for items in each cell where there is in the total
-pub room_for_items : (most n t s : ℕ) (cells lent : List ℤ) → lent ≡ cells → ((k : ℕ) → unsigned_abs (get_or cells k (pos 0)) ≤ t) → t ≡ s → s + n ≤ most → (k : ℕ) → unsigned_abs (get_or lent k (pos 0)) + n ≤ most
-room_for_items most n t s cells lent same bounded total room k = rw same (omega (arith, bounded k, total, room))
+pub room_for_items : (most n t s : ℕ) (cells : List ℤ) → ((k : ℕ) → unsigned_abs (get_or cells k (pos 0)) ≤ t) → t ≡ s → s + n ≤ most → (k : ℕ) → unsigned_abs (get_or cells k (pos 0)) + n ≤ most
+room_for_items most n t s cells bounded total room k = omega (arith, bounded k, total, room)

@@ -1,10 +1,12 @@
 -- Items that are counted by 1 in a row, and row after row.
 use Rattle.std.proofs.Common.{◌≡◌, ◌≢◌, ℕ, ◌+◌, ◌*◌, ◌<◌, ◌≤◌, Bool, true, false, eqb, List, [], take, map, length, get_or, set, ℤ, pos, ◌+ℤ◌, unsigned_abs, refl, sym, ap, ◌∙◌, subst, arith, get_or-set_other, get_or-set_same, below_more}
-use Rattle.std.specs.Prelude.{◌==◌, count_by}
+use Rattle.std.specs.Prelude.{◌==◌, count_by, slice_index}
 use Rattle.std.proofs.lemmas.Int.{ints}
 use Rattle.std.proofs.lemmas.Bool.{eqb-true, eqb-false}
 use Rattle.std.proofs.lemmas.List.{length-take-le, get_or-map}
 use Rattle.std.proofs.lemmas.List.Sums.{count_by-le-length, count_by_more_yes, count_by_more_no}
+use Rattle.sketch_countmin.specs.Buckets.{bucket_by}
+use Rattle.sketch_countmin.specs.Grid.{GridState, CountsInRow, CountsInRows}
 use Rattle.sketch_countmin.specs.Cells.{flat_at, RowCounted, RowsCounted}
 use Rattle.sketch_countmin.proofs.RowSteps.{plus_zero, inside}
 
@@ -74,4 +76,13 @@ rows_counted d bucket items n old mid new h row = record {
       (λ r lt b p. row.before (r * d + b) (inside d n r b (n * d) refl lt p) ∙ h.done r lt b p)
       (λ b p. row.done b p ∙ ap (λ (z : ℤ). z +ℤ held (bucket n) b items) (h.rest (n * d + b) (omega arith)));
   rest = λ k le. row.behind k (omega arith) ∙ h.rest k (omega arith);
+}
+
+-- and so in a grid
+pub grid_rows_counted : (items : List (List ℕ)) (n : ℕ) (old mid new : GridState) → CountsInRows items n old mid → CountsInRow items n mid new → CountsInRows items (n + 1) old new
+grid_rows_counted items n old mid new h row = record {
+  shape = record { row_seeds = row.shape.row_seeds ∙ h.shape.row_seeds; buckets = row.shape.buckets ∙ h.shape.buckets; size = row.shape.size ∙ h.shape.size };
+  counted = rows_counted old.buckets (λ r. bucket_by old.buckets (slice_index old.row_seeds r)) items n old.cells mid.cells new.cells h.counted
+      (subst (λ (d : ℕ). RowCounted d (bucket_by d (slice_index old.row_seeds n)) items n mid.cells new.cells) h.shape.buckets
+      (subst (λ (seeds : List ℕ). RowCounted mid.buckets (bucket_by mid.buckets (slice_index seeds n)) items n mid.cells new.cells) h.shape.row_seeds row.counted));
 }

@@ -1,8 +1,7 @@
 -- What one update leaves.
-use Rattle.std.proofs.Common.{◌≡◌, ℕ, ◌+◌, ◌≤◌, Bool, true, false, eqb, cond, List, ◌++◌, length, take, drop, get_or, map, ℤ, pos, ◌+ℤ◌, unsigned_abs, refl, sym, ap, ◌∙◌, subst, arith}
+use Rattle.std.proofs.Common.{◌≡◌, ℕ, ◌+◌, ◌≤◌, Bool, true, false, eqb, cond, List, length, get_or, ℤ, pos, ◌+ℤ◌, unsigned_abs, refl, sym, ap, ◌∙◌, arith}
 use Rattle.std.specs.Prelude.{slice_index, ◌==◌, if◌then◌else◌}
 use Rattle.std.proofs.lemmas.Int.{ints}
-use Rattle.std.proofs.lemmas.List.{length-map, take_at}
 use Rattle.sketch_countmin.specs.Cells.{flat_at, RowsAdded}
 use Rattle.sketch_countmin.specs.Rows.{cell_at, rows_of}
 use Rattle.sketch_countmin.specs.Buckets.{row_seed, bucket_by, bucket_of}
@@ -19,27 +18,11 @@ abs_added : (x w : ℤ) (t : Bool) → unsigned_abs (x +ℤ cond t w (pos 0)) �
 abs_added x w true = abs_sum x w
 abs_added x w false = omega (arith, ints)
 
--- cells that were lent are written back whole
-pub written_back : {T : Type 0} (n : ℕ) (new old : List T) → length new ≡ n → take n (new ++ drop (length new) old) ≡ new
-written_back n new old long = take_at new (drop (length new) old) n long
-
--- what a loop did over the lists that it was lent, it did to the sketch's own
-pub rows_added_own : {T : Type 0} (number : T → ℤ) (d : ℕ) (w : ℤ) (bytes : List ℕ) (row_seeds seeds : List ℕ) (items before after : List T) → seeds ≡ row_seeds → before ≡ items
-    → RowsAdded d w (λ r. bucket_by d (slice_index seeds r) bytes) (length seeds) (map number before) (map number after)
-    → RowsAdded d w (λ r. bucket_by d (slice_index row_seeds r) bytes) (length row_seeds) (map number items) (map number after)
-rows_added_own number d w bytes row_seeds seeds items before after se be h =
-    subst (λ (l : List ℕ). RowsAdded d w (λ r. bucket_by d (slice_index l r) bytes) (length l) (map number items) (map number after)) se
-    (subst (λ (l : List _). RowsAdded d w (λ r. bucket_by d (slice_index seeds r) bytes) (length seeds) (map number l) (map number after)) be h)
-
--- and it kept its length
-pub length_own : {T : Type 0} (number : T → ℤ) (items before after : List T) → before ≡ items → length after ≡ length before → length (map number after) ≡ length (map number items)
-length_own number items before after be long = length-map after number ∙ (long ∙ (ap length be ∙ sym (length-map items number)))
-
 -- there is room in each cell for a weight for which there is room in the total
-pub room_here : (greatest : ℕ) (row_seeds : List ℕ) (d seed : ℕ) (t t' : ℤ) (cells lent : List ℤ) (w : ℤ) → IsTable greatest row_seeds d seed t cells → lent ≡ cells
-    → t' ≡ pos (unsigned_abs t + unsigned_abs w) → unsigned_abs t' ≤ greatest → (k : ℕ) → unsigned_abs (get_or lent k (pos 0) +ℤ w) ≤ greatest
-room_here greatest row_seeds d seed t t' cells lent w i e sum fits k =
-    rw e (omega (arith, abs_sum (get_or cells k (pos 0)) w, i.bounded k, ap unsigned_abs sum, fits))
+pub room_here : (greatest : ℕ) (row_seeds : List ℕ) (d seed : ℕ) (t t' : ℤ) (cells : List ℤ) (w : ℤ) → IsTable greatest row_seeds d seed t cells
+    → t' ≡ pos (unsigned_abs t + unsigned_abs w) → unsigned_abs t' ≤ greatest → (k : ℕ) → unsigned_abs (get_or cells k (pos 0) +ℤ w) ≤ greatest
+room_here greatest row_seeds d seed t t' cells w i sum fits k =
+    omega (arith, abs_sum (get_or cells k (pos 0)) w, i.bounded k, ap unsigned_abs sum, fits)
 
 -- the parts are those of a sketch again
 pub updated : (greatest : ℕ) (row_seeds : List ℕ) (d seed : ℕ) (t t' : ℤ) (old new : List ℤ) (bucket : ℕ → ℕ) (w : ℤ)

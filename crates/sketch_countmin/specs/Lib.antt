@@ -2,6 +2,7 @@ pub mod Buckets
 pub mod Cells
 pub mod Equality
 pub mod Fractions
+pub mod Grid
 pub mod History
 pub mod Image
 pub mod Items

@@ -14,15 +14,15 @@ mod images;
 mod strings;
 mod words_and_lines;
 
-use crate::cells::{add_all, halve_all, same_cells, scale_all, zeros};
+use crate::cells::zeros;
 use crate::count_min_sizes::CountMinSizes;
 use crate::count_min_value::CountMinValue;
+use crate::grid::Grid;
 use crate::item_cells::{HashItem, RowItem};
 use crate::limits::{MAX_TABLE_ENTRIES, MIN_NUM_BUCKETS};
 use crate::margin::with_margin;
-use crate::rows::row_seeds;
 use crate::unsigned_count_min_value::UnsignedCountMinValue;
-use sketch_base::{DEFAULT_UPDATE_SEED, Divisor, Error, ErrorKind, Fault, compute_seed_hash};
+use sketch_base::{DEFAULT_UPDATE_SEED, Error, ErrorKind, Fault, compute_seed_hash};
 use std::alloc::{AllocError, Global};
 use std::fmt;
 use std::hash::Hash;
@@ -54,24 +54,21 @@ use std::marker::Model;
 /// ```
 #[derive(Drop)]
 pub struct CountMinSketch<T: CountMinValue> {
-    buckets: Divisor,
-    row_seeds: Vec<u64>,
-    counts: Vec<T>,
+    grid: Grid<T>,
     total: T,
     seed: u64,
 }
 
 impl<T: CountMinValue> Model for CountMinSketch<T> {
-    ghost use Rattle.std.specs.Prelude.{map};
     ghost use Rattle.sketch_countmin.specs.State.{CountState};
     ghost use Rattle.sketch_countmin.specs.Table.{IsTable, state_of};
 
     ghost Value = { CountState };
 
-    ghost view = { λ a. state_of a.row_seeds.items a.buckets a.seed (T.number a.total) (map T.number a.counts.items) };
+    ghost view = { λ a. state_of a.grid.row_seeds a.grid.buckets a.seed (T.number a.total) a.grid.cells };
 
     ghost invariant = { λ a.
-        IsTable T.greatest a.row_seeds.items a.buckets a.seed (T.number a.total) (map T.number a.counts.items) };
+        IsTable T.greatest a.grid.row_seeds a.grid.buckets a.seed (T.number a.total) a.grid.cells };
 }
 
 impl<T: CountMinValue> CountMinSketch<T> {
@@ -149,12 +146,10 @@ impl<T: CountMinValue> CountMinSketch<T> {
         ensures stands { IfOk result (λ sketch. StandsFor sketch (New num_hashes num_buckets seed)) }
         ensures err { IfErr result (λ e. e ≡ no_memory) }
     {
-        let row_seeds = row_seeds(alloc, num_hashes, seed)?;
         let counts = zeros(alloc, num_hashes as usize * num_buckets as usize)?;
+        let grid = Grid::new(alloc, num_hashes, num_buckets, seed, counts)?;
         Ok(CountMinSketch {
-            buckets: bucket_count(num_buckets),
-            row_seeds,
-            counts,
+            grid,
             total: T::ZERO,
             seed,
         })
@@ -167,14 +162,14 @@ impl<T: CountMinValue> CountMinSketch<T> {
         // What holds of every sketch.
         ensures state { IsCountState T.greatest self.now }
     {
-        self.row_seeds.len() as u8
+        self.grid.num_rows() as u8
     }
 
     /// Returns the number of cells in a row.
     pub fn num_buckets(&self) -> u32
         ensures { result ≡ self.now.buckets }
     {
-        self.buckets.divisor() as u32
+        self.grid.buckets().divisor() as u32
     }
 
     /// Returns the seed.
@@ -267,7 +262,7 @@ impl<T: CountMinValue> CountMinSketch<T> {
         if weight.to_number() == 0 {
             return Ok(());
         }
-        item.add_to_rows(&mut self.counts, self.buckets, &self.row_seeds, weight);
+        item.add_to(&mut self.grid, weight);
         self.total = total;
         Ok(())
     }
@@ -329,7 +324,7 @@ impl<T: CountMinValue> CountMinSketch<T> {
             → IsMin self.now.hashes (others_share self.now.buckets self.now.seed h (R.input item.now))
             (T.number result -ℤ own_value h (R.input item.now)) }
     {
-        item.min_cell(&self.counts.as_slice(), self.buckets, &self.row_seeds)
+        self.grid.min_cell(item)
     }
 
     /// Returns the estimate. It is no lower bound of the item's true weight: collisions can raise it above that.
@@ -348,7 +343,7 @@ impl<T: CountMinValue> CountMinSketch<T> {
         ensures { (estimate : ℤ) → IsMinCell self.now (fed_bytes I.hash_input item) estimate
             → T.number result ≡ upper_bound_of T.greatest self.now estimate }
     {
-        with_margin(self.estimate(item), self.total, self.buckets)
+        with_margin(self.estimate(item), self.total, self.grid.buckets())
     }
 
     /// Adds the cells and the total of another sketch of the same shape and seed. Does not allocate.
@@ -397,7 +392,7 @@ impl<T: CountMinValue> CountMinSketch<T> {
         let Some(total) = total.checked_add(other.total) else {
             return Err(Error::invalid_argument(Fault::WeightOverflow));
         };
-        add_all(&mut self.counts, &other.counts);
+        self.grid.add_all(&other.grid);
         self.total = total;
         Ok(())
     }
@@ -406,8 +401,8 @@ impl<T: CountMinValue> CountMinSketch<T> {
     fn has_shape_of(&self, other: &CountMinSketch<T>) -> bool
         ensures { IsTrue result ↔ SameShape self.now other.now }
     {
-        self.row_seeds.len() == other.row_seeds.len()
-            && self.buckets.divisor() == other.buckets.divisor()
+        self.grid.num_rows() == other.grid.num_rows()
+            && self.grid.buckets().divisor() == other.grid.buckets().divisor()
             && self.seed == other.seed
     }
 
@@ -416,7 +411,7 @@ impl<T: CountMinValue> CountMinSketch<T> {
     pub fn estimated_size(&self) -> usize
         ensures { result ≡ self.now.hashes * self.now.buckets * T.SIZE + 8 * self.now.hashes }
     {
-        self.counts.len() * T::SIZE + 8 * self.row_seeds.len()
+        self.grid.num_cells() * T::SIZE + 8 * self.grid.num_rows()
     }
 
     /// Clones the sketch with memory of its own, as [`clone`](Clone::clone) does.
@@ -437,13 +432,8 @@ impl<T: CountMinValue> Clone for CountMinSketch<T> {
     ghost is_clone = { λ sketch copy. copy ≡ sketch };
 
     fn clone(&self) -> Result<Self, AllocError> {
-        let alloc = *self.counts.allocator();
-        let row_seeds = Vec::from_slice(alloc, &self.row_seeds)?;
-        let counts = Vec::from_slice(alloc, &self.counts)?;
         Ok(CountMinSketch {
-            buckets: self.buckets,
-            row_seeds,
-            counts,
+            grid: self.grid.clone()?,
             total: self.total,
             seed: self.seed,
         })
@@ -457,7 +447,7 @@ impl<T: UnsignedCountMinValue> CountMinSketch<T> {
         ensures state { IsCountState T.greatest self.new }
         ensures stands { Extends self.old self.new Halve }
     {
-        halve_all(&mut self.counts);
+        self.grid.halve();
         self.total = self.total.halve();
     }
 
@@ -481,17 +471,9 @@ impl<T: UnsignedCountMinValue> CountMinSketch<T> {
         ensures state { IsCountState T.greatest self.new }
         ensures stands { Extends self.old self.new (λ h. Decay h numerator denominator) }
     {
-        scale_all(&mut self.counts, numerator, denominator);
+        self.grid.scale(numerator, denominator);
         self.total = self.total.scale_nonnegative(numerator, denominator as u128);
     }
-}
-
-/// Returns the number of buckets as a [`Divisor`], which computes the bucket of a hash without a division.
-pub(crate) fn bucket_count(num_buckets: u32) -> Divisor
-    requires { 1 < num_buckets }
-    ensures { result ≡ num_buckets }
-{
-    Divisor::new(num_buckets as u64)
 }
 
 /// Compares shape, seed, total and cells.
@@ -510,7 +492,7 @@ impl<T: CountMinValue> PartialEq for CountMinSketch<T> {
         if !self.has_shape_of(other) || self.total.to_number() != other.total.to_number() {
             return false;
         }
-        same_cells(&self.counts, &other.counts)
+        self.grid.has_cells_of(&other.grid)
     }
 }
 
@@ -523,11 +505,11 @@ impl<T: CountMinValue> Eq for CountMinSketch<T> {
 impl<T: CountMinValue + fmt::Debug> fmt::Debug for CountMinSketch<T> {
     fn fmt<W: fmt::Write>(&self, f: &mut fmt::Formatter<W>) -> fmt::Result {
         f.debug_struct("CountMinSketch")
-            .field("num_hashes", &self.row_seeds.len())
-            .field("num_buckets", &self.buckets.divisor())
+            .field("num_hashes", &self.grid.num_rows())
+            .field("num_buckets", &self.grid.buckets().divisor())
             .field("seed", &self.seed)
             .field("total_weight", &self.total)
-            .field("counts", &self.counts)
+            .field("counts", &self.grid.counts())
             .finish()
     }
 }

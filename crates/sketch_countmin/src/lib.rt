@@ -5,7 +5,6 @@
 //! and read from one.
 #![tactic(auto)]
 
-mod batch_cells;
 mod cell_list;
 mod cells;
 mod count_min_sizes;
@@ -13,6 +12,7 @@ mod count_min_sketch;
 mod count_min_value;
 mod count_min_view;
 mod fraction;
+mod grid;
 mod image;
 mod item_cells;
 pub mod laws;
@@ -20,6 +20,7 @@ mod limits;
 mod margin;
 mod number_types;
 mod parts;
+mod row_cells;
 mod rows;
 mod sizes;
 mod unsigned_count_min_value;

@@ -67,6 +67,14 @@ fn bucket_in(buckets: Divisor, masked: bool, hash: u64) -> u64
     }
 }
 
+/// Returns the number of buckets as a [`Divisor`], which computes the bucket of a hash without a division.
+pub fn bucket_count(num_buckets: u32) -> Divisor
+    requires { 1 < num_buckets }
+    ensures { result ≡ num_buckets }
+{
+    Divisor::new(num_buckets as u64)
+}
+
 /// Returns the seeds of the rows.
 pub fn row_seeds(alloc: Global, rows: u8, seed: u64) -> Result<Vec<u64>, AllocError>
     ensures size { IfOk result (λ v. vec_len v ≡ rows) }

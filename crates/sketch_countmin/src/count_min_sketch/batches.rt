@@ -7,10 +7,8 @@ ghost use Rattle.sketch_countmin.specs.History.{all_updated, each_updated, all_m
 ghost use Rattle.sketch_countmin.specs.Stands.{Extends, ExtendsByAll};
 ghost use Rattle.sketch_countmin.specs.State.{IsCountState, SameShape, CountsAll, CountsEach, JoinsEach, IsMinCell};
 
-use crate::batch_cells::{count_in_rows, min_cells};
 use crate::count_min_sketch::CountMinSketch;
 use crate::count_min_value::CountMinValue;
-use crate::rows::Rows;
 use sketch_base::{Error, Fault};
 use std::hash::Hash;
 
@@ -62,11 +60,7 @@ impl<T: CountMinValue> CountMinSketch<T> {
         ensures counted { CountsAll self.old (map (fed_bytes I.hash_input) items.now) self.new }
         ensures state { IsCountState T.greatest self.new }
     {
-        let rows = Rows {
-            seeds: &self.row_seeds,
-            buckets: self.buckets,
-        };
-        count_in_rows(&mut self.counts, &rows, items);
+        self.grid.count_each(items);
         self.total = T::from_number_in_range(self.total.to_number() + items.len() as i128);
     }
 
@@ -170,11 +164,7 @@ impl<T: CountMinValue> CountMinSketch<T> {
             (slice_index_or (map (fed_bytes I.hash_input) items.now) i [])
             (slice_index_or (map T.number estimates.new) i (pos 0)) }
     {
-        let rows = Rows {
-            seeds: &self.row_seeds,
-            buckets: self.buckets,
-        };
-        min_cells(&self.counts, &rows, items, estimates);
+        self.grid.min_cells(items, estimates);
     }
 
     /// Adds the cells and the totals of other sketches of the same shape and seed, as [`merge`](Self::merge) does one

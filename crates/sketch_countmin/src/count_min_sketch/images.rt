@@ -7,11 +7,11 @@ ghost use Rattle.sketch_countmin.specs.Image.{early_fault, late_fault, first_fau
 ghost use Rattle.sketch_countmin.specs.Preamble.{IsPreamble};
 ghost use Rattle.sketch_countmin.specs.State.{IsCountState};
 
-use crate::count_min_sketch::{CountMinSketch, bucket_count};
+use crate::count_min_sketch::CountMinSketch;
 use crate::count_min_value::CountMinValue;
+use crate::grid::Grid;
 use crate::image::{Preamble, read_cells, read_preamble, read_total, write_empty, write_full};
 use crate::limits::{MAX_TABLE_ENTRIES, MIN_NUM_BUCKETS};
-use crate::rows::row_seeds;
 use sketch_base::{DEFAULT_UPDATE_SEED, Error, ErrorKind, Fault, compute_seed_hash};
 use std::alloc::Global;
 
@@ -26,10 +26,11 @@ impl<T: CountMinValue> CountMinSketch<T> {
         ensures some { (image : List ℕ) × IsSpelled T.least T.greatest image self.now }
         ensures each { (image : List ℕ) → IsSpelled T.least T.greatest image self.now → length image ≡ result }
     {
+        let counts = self.grid.counts();
         if self.total.to_number() == 0 {
             16
         } else {
-            24 + 8 * self.counts.len()
+            24 + 8 * counts.len()
         }
     }
 
@@ -45,7 +46,7 @@ impl<T: CountMinValue> CountMinSketch<T> {
         ensures image { IfOk result (λ image. IsSpelled T.least T.greatest image.items self.now) }
         ensures err { IfErr result (λ e. e ≡ no_memory) }
     {
-        let alloc = *self.counts.allocator();
+        let alloc = self.grid.allocator();
         let mut image = vec![in alloc; 0; self.serialized_size()]?;
         self.write_image(&mut image);
         Ok(image)
@@ -81,12 +82,19 @@ impl<T: CountMinValue> CountMinSketch<T> {
         let Ok(hash) = compute_seed_hash(self.seed, ErrorKind::InvalidArgument) else {
             unreachable!();
         };
-        let num_buckets = self.buckets.divisor() as u32;
-        let num_hashes = self.row_seeds.len() as u8;
+        let num_buckets = self.grid.buckets().divisor() as u32;
+        let num_hashes = self.grid.num_rows() as u8;
         if self.total.to_number() == 0 {
             write_empty(out, num_buckets, num_hashes, hash);
         } else {
-            write_full(out, num_buckets, num_hashes, hash, self.total, &self.counts);
+            write_full(
+                out,
+                num_buckets,
+                num_hashes,
+                hash,
+                self.total,
+                self.grid.counts(),
+            );
         }
     }
 
@@ -297,13 +305,7 @@ impl<T: CountMinValue> CountMinSketch<T> {
         let total = read_total::<T>(image)?;
         let most = total.to_number().unsigned_abs() as u64;
         let counts = read_cells::<T>(alloc, image, num_cells, most)?;
-        let row_seeds = row_seeds(alloc, num_hashes, seed)?;
-        Ok(CountMinSketch {
-            buckets: bucket_count(preamble.num_buckets),
-            row_seeds,
-            counts,
-            total,
-            seed,
-        })
+        let grid = Grid::new(alloc, num_hashes, preamble.num_buckets, seed, counts)?;
+        Ok(CountMinSketch { grid, total, seed })
     }
 }

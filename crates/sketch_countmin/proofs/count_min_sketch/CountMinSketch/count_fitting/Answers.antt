@@ -1,34 +1,24 @@
-use Rattle.std.proofs.Common.{arith, ap, subst, ◌∙◌, ◌≡◌, ℕ, ◌+◌, ◌≤◌, map, length, ℤ, pos, unsigned_abs, to_z, of_z, ◌+ℤ◌, List, slice_index}
+use Rattle.std.proofs.Common.{arith, ap, subst, ◌∙◌, ◌≡◌, ℕ, ◌+◌, ◌≤◌, map, length, ℤ, pos, unsigned_abs, to_z, of_z, ◌+ℤ◌, List}
 use Rattle.std.specs.Int.{w128}
 use Rattle.std.proofs.lemmas.Int.{ints}
 use Rattle.std.proofs.lemmas.List.{length-map}
 use Rattle.sketch_base.specs.Hashes.{fed_bytes}
-use Rattle.sketch_countmin.specs.Buckets.{bucket_by}
-use Rattle.sketch_countmin.specs.Cells.{RowsCounted}
 use Rattle.sketch_countmin.specs.State.{CountState, CountsAll}
 use Rattle.sketch_countmin.specs.Table.{state_of}
-use Rattle.sketch_countmin.proofs.Places.{lent_shape, room_for_items}
+use Rattle.sketch_countmin.proofs.Places.{room_for_items}
 use Rattle.sketch_countmin.proofs.Numbers.{gain_fits, gain_is}
 use Rattle.sketch_countmin.proofs.Tables.{is_state}
-use Rattle.sketch_countmin.proofs.Updates.{written_back, length_own}
-use Rattle.sketch_countmin.proofs.BatchUpdates.{rows_counted_own, all_counted, counts_all_here}
+use Rattle.sketch_countmin.proofs.BatchUpdates.{all_counted, counts_all_here}
 use Rattle.sketch_countmin.proofs.count_min_sketch.CountMinSketch.count_fitting.Given as given
 use Rattle.sketch_countmin.proofs.count_min_sketch.CountMinSketch.count_fitting.Goals as goal
-use Rattle.sketch_countmin.proofs.count_min_sketch.CountMinSketch.count_fitting.Goals.{After-count_in_rows, After-to_number}
+use Rattle.sketch_countmin.proofs.count_min_sketch.CountMinSketch.count_fitting.Goals.{After-count_each, After-to_number}
 
 -- the bytes of all items
-abbrev fed : (g : given.Over) → After-count_in_rows g → List (List ℕ)
+abbrev fed : (g : given.Over) → After-count_each g → List (List ℕ)
 fed g c = map (fed_bytes g.I.Hash.hash_input) c.args.items.now
 
--- have the items counted in each row
-counted : (g : given.Over) (c : After-count_in_rows g) → let i = c.self.inside in let number = g.T.CountMinValue.number in
-    RowsCounted i.buckets (λ r. bucket_by i.buckets (slice_index i.row_seeds.items r)) (fed g c) (length i.row_seeds.items) (map number i.counts.items) (map number c.count_in_rows.new.counts)
-counted g c =
-    let i = c.self.inside in
-    rows_counted_own g.T.CountMinValue.number i.buckets (fed g c) i.row_seeds.items c.deref.result.now i.counts.items c.deref_mut.result.now c.count_in_rows.new.counts c.deref.ensures.value c.deref_mut.ensures.value c.count_in_rows.ensures
-
 -- the new total, which has room for them
-total : (g : given.Over) (c : After-count_in_rows g) (t : ℤ) → let number = g.T.CountMinValue.number in
+total : (g : given.Over) (c : After-count_each g) (t : ℤ) → let number = g.T.CountMinValue.number in
     t ≡ pos (unsigned_abs (number c.self.inside.total) + length c.args.items.now) → (t ≡ pos (unsigned_abs (number c.self.inside.total) + length (fed g c))) × (unsigned_abs t ≤ g.T.CountMinValue.greatest)
 total g c t e =
     let own : unsigned_abs (g.T.CountMinValue.number c.self.inside.total) ≡ c.args.self.now.total = ap (λ (s : CountState). s.total) c.self.view_is in
@@ -42,32 +32,27 @@ pub invariant_of-self : goal.invariant_of-self
 invariant_of-self g c =
     let number = g.T.CountMinValue.number in
     let i = c.self.inside in
-    let now = (goal.at.invariant_of-self g c).After-count_in_rows in
+    let now = (goal.at.invariant_of-self g c).After-count_each in
     let sum = total g now (number c.from_number_in_range-self-inside.result) (c.from_number_in_range-self-inside.ensures ∙ gain g (goal.at.invariant_of-self g c).After-to_number) in
-    rw (written_back i.counts.len c.count_in_rows.new.counts i.counts.items (c.count_in_rows.auto.counts ∙ c.deref_mut.ensures.len))
-    (all_counted _ _ _ _ (number i.total) (number c.from_number_in_range-self-inside.result) (map number i.counts.items) _ _ (fed g now) c.self.invariant (counted g now)
-    (length_own number i.counts.items c.deref_mut.result.now _ c.deref_mut.ensures.value c.count_in_rows.auto.counts) sum.0 sum.1)
+    rw (c.count_each.ensures.shape.row_seeds, c.count_each.ensures.shape.buckets)
+    (all_counted _ _ _ _ (number i.total) (number c.from_number_in_range-self-inside.result) i.grid.cells _ _ (fed g now) c.self.invariant c.count_each.ensures.counted c.count_each.ensures.shape.size sum.0 sum.1)
 
 pub returns-clause-counted : goal.returns-clause-counted
 returns-clause-counted g c =
     let number = g.T.CountMinValue.number in
     let i = c.self.inside in
-    let now = (goal.at.returns-clause-counted g c).After-count_in_rows in
+    let now = (goal.at.returns-clause-counted g c).After-count_each in
     let sum = total g now (number c.from_number_in_range-self-inside.result) (c.from_number_in_range-self-inside.ensures ∙ gain g (goal.at.returns-clause-counted g c).After-to_number) in
-    rw (written_back i.counts.len c.count_in_rows.new.counts i.counts.items (c.count_in_rows.auto.counts ∙ c.deref_mut.ensures.len))
-    (subst (λ (s : CountState). CountsAll s (fed g now) (state_of i.row_seeds.items i.buckets i.seed (number c.from_number_in_range-self-inside.result) (map number c.count_in_rows.new.counts))) c.self.view_is
-    (counts_all_here _ _ _ _ (number i.total) (number c.from_number_in_range-self-inside.result) (map number i.counts.items) _ (fed g now) c.self.invariant (counted g now) (ap unsigned_abs sum.0)))
+    rw (c.count_each.ensures.shape.row_seeds, c.count_each.ensures.shape.buckets)
+    (subst (λ (s : CountState). CountsAll s (fed g now) (state_of i.grid.row_seeds i.grid.buckets i.seed (number c.from_number_in_range-self-inside.result) c.count_each.new.self.cells)) c.self.view_is
+    (counts_all_here _ _ _ _ (number i.total) (number c.from_number_in_range-self-inside.result) i.grid.cells _ (fed g now) c.self.invariant c.count_each.ensures.counted (ap unsigned_abs sum.0)))
 
 pub returns-clause-state : goal.returns-clause-state
 returns-clause-state g c = is_state _ _ _ _ _ _ (invariant_of-self g c)
 
-pub count_in_rows-requires-clause-shape : goal.count_in_rows-requires-clause-shape
-count_in_rows-requires-clause-shape g c = lent_shape g.T.CountMinValue.number c.self.inside.buckets c.self.inside.counts.items _ c.self.inside.row_seeds.items _ c.deref_mut.ensures.value c.deref.ensures.value c.self.invariant.size
-
-pub count_in_rows-requires-clause-room : goal.count_in_rows-requires-clause-room
-count_in_rows-requires-clause-room g c =
-    let number = g.T.CountMinValue.number in
-    room_for_items _ _ (unsigned_abs (number c.self.inside.total)) c.args.self.now.total (map number c.self.inside.counts.items) _ (ap (map number) c.deref_mut.ensures.value) c.self.invariant.bounded (ap (λ (s : CountState). s.total) c.self.view_is) c.requires
+pub count_each-requires : goal.count_each-requires
+count_each-requires g c =
+    record { room = room_for_items _ _ (unsigned_abs (g.T.CountMinValue.number c.self.inside.total)) c.args.self.now.total c.self.inside.grid.cells c.self.invariant.bounded (ap (λ (s : CountState). s.total) c.self.view_is) c.requires }
 
 pub from_number_in_range-self-inside-requires : goal.from_number_in_range-self-inside-requires
 from_number_in_range-self-inside-requires g c =

@@ -1,8 +1,6 @@
-use Rattle.std.proofs.Common.{arith, subst, ◌∙◌, ℕ, ◌<◌, List}
-use Rattle.std.proofs.lemmas.List.{length-map}
+use Rattle.std.proofs.Common.{arith, subst, ℕ, ◌<◌, List}
 use Rattle.sketch_countmin.specs.State.{CountState, IsMinCell}
-use Rattle.sketch_countmin.proofs.Estimates.{least_own, least_here}
-use Rattle.sketch_countmin.proofs.Places.{lent_shape}
+use Rattle.sketch_countmin.proofs.Estimates.{least_here}
 use Rattle.sketch_countmin.proofs.Histories.{enclosed, raised_by_others}
 use Rattle.sketch_countmin.proofs.count_min_sketch.CountMinSketch.least.Goals as goal
 
@@ -12,8 +10,7 @@ returns-clause-least g c =
     let i = c.self.inside in
     let bytes : List ℕ = g.R.RowItem.input c.args.item.now in
     subst (λ (s : CountState). IsMinCell s bytes (number c.min_cell.result)) c.self.view_is
-    (least_here _ _ _ _ _ _ bytes (number c.min_cell.result) c.self.invariant
-    (least_own number i.buckets bytes i.row_seeds.items c.deref.result.now i.counts.items c.as_slice.result.now (number c.min_cell.result) c.deref.ensures.value c.as_slice.ensures.value c.min_cell.ensures))
+    (least_here _ _ _ _ _ _ bytes (number c.min_cell.result) c.self.invariant c.min_cell.ensures)
 
 pub returns-clause-encloses : goal.returns-clause-encloses
 returns-clause-encloses g c =
@@ -24,6 +21,3 @@ pub returns-clause-raised : goal.returns-clause-raised
 returns-clause-raised g c =
     let buckets : 0 < c.args.self.now.buckets = subst (λ (s : CountState). 0 < s.buckets) c.self.view_is (omega (arith, c.self.invariant.some_buckets)) in
     λ h stands exact. raised_by_others c.args.self.now h (g.R.RowItem.input c.args.item.now) (g.T.CountMinValue.number c.min_cell.result) buckets (returns-clause-least g c) stands exact
-
-pub min_cell-requires-clause-shape : goal.min_cell-requires-clause-shape
-min_cell-requires-clause-shape g c = length-map c.as_slice.result.now g.T.CountMinValue.number ∙ lent_shape g.T.CountMinValue.number c.self.inside.buckets c.self.inside.counts.items _ c.self.inside.row_seeds.items _ c.as_slice.ensures.value c.deref.ensures.value c.self.invariant.size

@@ -1,20 +1,18 @@
-use Rattle.std.proofs.Common.{arith, refl, ap, subst, ◌∙◌, ◌≡◌, ◌+◌, ◌≤◌, Err, map, pos, unsigned_abs}
+use Rattle.std.proofs.Common.{arith, refl, ap, subst, ◌≡◌, ◌+◌, ◌≤◌, Err, pos, unsigned_abs}
 use Rattle.std.proofs.lemmas.Int.{ints}
 use Rattle.sketch_countmin.specs.State.{CountState, Joins}
 use Rattle.sketch_countmin.specs.Table.{state_of}
 use Rattle.sketch_countmin.proofs.Tables.{is_state, state_shown}
-use Rattle.sketch_countmin.proofs.Updates.{written_back, length_own}
-use Rattle.sketch_countmin.proofs.Merges.{AllAdded, all_added_own, merged, room_for_other, joins_here, shape_own}
-use Rattle.sketch_countmin.proofs.Places.{lent_same}
+use Rattle.sketch_countmin.proofs.Merges.{AllAdded, merged, room_for_other, joins_here, shape_own}
+use Rattle.sketch_countmin.proofs.Places.{same_size}
 use Rattle.sketch_countmin.proofs.Standing.{stands_joined}
 use Rattle.sketch_countmin.proofs.count_min_sketch.CountMinSketch.merge.Given as given
 use Rattle.sketch_countmin.proofs.count_min_sketch.CountMinSketch.merge.Goals as goal
 use Rattle.sketch_countmin.proofs.count_min_sketch.CountMinSketch.merge.Goals.{After-add_all}
 
--- are the sums of both
-added : (g : given.Over) (c : After-add_all g) → let number = g.T.CountMinValue.number in AllAdded (map number c.self.inside.counts.items) (map number c.other.inside.counts.items) (map number c.add_all.new.counts)
-added g c =
-    all_added_own g.T.CountMinValue.number c.self.inside.counts.items c.deref_mut.result.now c.add_all.new.counts c.other.inside.counts.items c.deref.result.now c.deref_mut.ensures.value c.deref.ensures.value c.add_all.ensures
+-- the cells are the sums of both
+added : (g : given.Over) (c : After-add_all g) → AllAdded c.self.inside.grid.cells c.other.inside.grid.cells c.add_all.new.self.cells
+added g c = record { cells = c.add_all.ensures.added }
 
 -- and so is the total
 sum : (g : given.Over) (c : After-add_all g) → let number = g.T.CountMinValue.number in number c.in-Some.total ≡ pos (unsigned_abs (number c.self.inside.total) + unsigned_abs (number c.other.inside.total))
@@ -31,20 +29,19 @@ invariant_of-self g c =
     let number = g.T.CountMinValue.number in
     let now = (goal.at.invariant_of-self g c).After-add_all in
     let fits : unsigned_abs (number c.in-Some.total) ≤ g.T.CountMinValue.greatest = omega (arith, ints, sum g now, c.in-Some.ensures.0, c.in-Some.ensures.1.1) in
-    rw (written_back c.self.inside.counts.len c.add_all.new.counts c.self.inside.counts.items (c.add_all.auto.counts ∙ c.deref_mut.ensures.len))
-    (merged _ _ _ _ (number c.self.inside.total) (number c.in-Some.total) (number c.other.inside.total) (map number c.self.inside.counts.items) (map number c.other.inside.counts.items) _ c.self.invariant c.other.invariant.bounded (added g now)
-    (length_own number c.self.inside.counts.items c.deref_mut.result.now _ c.deref_mut.ensures.value c.add_all.auto.counts) (sum g now) fits)
+    rw (c.add_all.ensures.shape.row_seeds, c.add_all.ensures.shape.buckets)
+    (merged _ _ _ _ (number c.self.inside.total) (number c.in-Some.total) (number c.other.inside.total) c.self.inside.grid.cells c.other.inside.grid.cells _ c.self.invariant c.other.invariant.bounded (added g now) c.add_all.ensures.shape.size (sum g now) fits)
 
 pub returns-clause-joined : goal.returns-clause-joined
 returns-clause-joined g c =
     let number = g.T.CountMinValue.number in
     let i = c.self.inside in
     let now = (goal.at.returns-clause-joined g c).After-add_all in
-    let new : CountState = state_of i.row_seeds.items i.buckets i.seed (number c.in-Some.total) (map number c.add_all.new.counts) in
-    rw (written_back c.self.inside.counts.len c.add_all.new.counts c.self.inside.counts.items (c.add_all.auto.counts ∙ c.deref_mut.ensures.len))
+    let new : CountState = state_of i.grid.row_seeds i.grid.buckets i.seed (number c.in-Some.total) c.add_all.new.self.cells in
+    rw (c.add_all.ensures.shape.row_seeds, c.add_all.ensures.shape.buckets)
     (subst (λ (s : CountState). Joins s c.args.other.now new) c.self.view_is
-    (subst (λ (s : CountState). Joins (state_of i.row_seeds.items i.buckets i.seed (number i.total) (map number i.counts.items)) s new) c.other.view_is
-    (joins_here _ _ _ _ _ _ (number i.total) (number c.in-Some.total) (number c.other.inside.total) (map number i.counts.items) (map number c.other.inside.counts.items) _ (shape_own _ _ _ _ c.self.view_is c.other.view_is (c.if-not-has_shape_of.ensures.0 refl)) (added g now) (ap unsigned_abs (sum g now)))))
+    (subst (λ (s : CountState). Joins (state_of i.grid.row_seeds i.grid.buckets i.seed (number i.total) i.grid.cells) s new) c.other.view_is
+    (joins_here _ _ _ _ _ _ (number i.total) (number c.in-Some.total) (number c.other.inside.total) i.grid.cells c.other.inside.grid.cells _ (shape_own _ _ _ _ c.self.view_is c.other.view_is (c.if-not-has_shape_of.ensures.0 refl)) (added g now) (ap unsigned_abs (sum g now)))))
 
 pub returns-clause-state : goal.returns-clause-state
 returns-clause-state g c = is_state _ _ _ _ _ _ (invariant_of-self g c)
@@ -55,7 +52,7 @@ returns-clause-stands g c = λ first second s t. stands_joined _ _ _ first secon
 pub add_all-requires-clause-same : goal.add_all-requires-clause-same
 add_all-requires-clause-same g c =
     let shape = shape_own _ _ _ _ c.self.view_is c.other.view_is (c.if-not-has_shape_of.ensures.0 refl) in
-    lent_same g.T.CountMinValue.number _ _ _ _ c.self.inside.counts.items _ c.other.inside.counts.items _ c.deref_mut.ensures.value c.deref.ensures.value c.self.invariant.size c.other.invariant.size shape.hashes shape.buckets
+    same_size _ _ _ _ _ _ c.self.invariant.size c.other.invariant.size shape.hashes shape.buckets
 
 pub add_all-requires-clause-room : goal.add_all-requires-clause-room
 add_all-requires-clause-room g c =
@@ -64,7 +61,7 @@ add_all-requires-clause-room g c =
     let o = c.other.inside in
     let sum : number c.in-Some.total ≡ pos (unsigned_abs (number i.total) + unsigned_abs (number o.total)) = omega (arith, ints, c.in-Some.ensures.0, c.self.invariant.total_is, c.other.invariant.total_is) in
     let fits : unsigned_abs (number c.in-Some.total) ≤ g.T.CountMinValue.greatest = omega (arith, ints, sum, c.in-Some.ensures.0, c.in-Some.ensures.1.1) in
-    room_for_other _ _ _ _ (number i.total) (number c.in-Some.total) (number o.total) (map number i.counts.items) _ (map number o.counts.items) _ c.self.invariant (ap (map number) c.deref_mut.ensures.value) c.other.invariant.bounded (ap (map number) c.deref.ensures.value) sum fits
+    room_for_other _ _ _ _ (number i.total) (number c.in-Some.total) (number o.total) i.grid.cells o.grid.cells c.self.invariant c.other.invariant.bounded sum fits
 
 pub returns-then-not-has_shape_of-clause-mismatch : goal.returns-then-not-has_shape_of-clause-mismatch
 returns-then-not-has_shape_of-clause-mismatch g c = λ different. ap Err c.invalid_argument.ensures

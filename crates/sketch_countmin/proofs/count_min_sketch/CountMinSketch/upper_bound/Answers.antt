@@ -1,4 +1,4 @@
-use Rattle.std.proofs.Common.{◌*◌, ◌/◌, ℤ, pos, ◌+ℤ◌, unsigned_abs, ap, ◌∙◌}
+use Rattle.std.proofs.Common.{◌≡◌, ℕ, ◌*◌, ◌/◌, ℤ, pos, ◌+ℤ◌, unsigned_abs, ap, ◌∙◌}
 use Rattle.std.specs.Int.{int_min}
 use Rattle.sketch_base.specs.Hashes.{fed_bytes}
 use Rattle.sketch_countmin.specs.State.{CountState, margin}
@@ -8,7 +8,8 @@ use Rattle.sketch_countmin.proofs.count_min_sketch.CountMinSketch.upper_bound.Go
 pub returns : goal.returns
 returns g c = λ estimate least.
     let greatest = g.T.CountMinValue.greatest in
-    c.with_margin.ensures
-    ∙ ap (λ (z : ℤ). int_min (z +ℤ pos (unsigned_abs (g.T.CountMinValue.number c.self.inside.total) * 2718281828459045235 / (1000000000000000000 * c.self.inside.buckets))) (pos greatest))
-    (least_unique c.args.self.now (fed_bytes g.I.Hash.hash_input c.args.item) (g.T.CountMinValue.number c.estimate.result) estimate c.estimate.ensures.least least)
-    ∙ ap (λ (s : CountState). int_min (estimate +ℤ pos (margin s)) (pos greatest)) c.self.view_is
+    let i = c.self.inside in
+    let upper : ℤ → ℕ → ℤ = λ z buckets. int_min (z +ℤ pos (unsigned_abs (g.T.CountMinValue.number i.total) * 2718281828459045235 / (1000000000000000000 * buckets))) (pos greatest) in
+    let own : upper estimate i.grid.buckets ≡ int_min (estimate +ℤ pos (margin c.args.self.now)) (pos greatest) = ap (λ (s : CountState). int_min (estimate +ℤ pos (margin s)) (pos greatest)) c.self.view_is in
+    let one : g.T.CountMinValue.number c.estimate.result ≡ estimate = least_unique c.args.self.now (fed_bytes g.I.Hash.hash_input c.args.item) (g.T.CountMinValue.number c.estimate.result) estimate c.estimate.ensures.least least in
+    c.with_margin.ensures ∙ (ap (upper (g.T.CountMinValue.number c.estimate.result)) c.buckets.ensures ∙ (ap (λ (z : ℤ). upper z i.grid.buckets) one ∙ own))

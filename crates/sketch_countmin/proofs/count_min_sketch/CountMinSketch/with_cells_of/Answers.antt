@@ -1,19 +1,22 @@
-use Rattle.std.proofs.Common.{◌≡◌, length, map, arith, ap, ◌∙◌, inr, ℤ, unsigned_abs}
+use Rattle.std.proofs.Common.{◌≡◌, ◌*◌, length, drop, arith, ap, ◌∙◌, inr, ℤ, unsigned_abs}
 use Rattle.std.proofs.lemmas.Result.{err_from_is_err_and}
-use Rattle.sketch_countmin.proofs.Images.{total_fault, table_read, value_read, late_passes, cells_refusal}
+use Rattle.sketch_countmin.proofs.Images.{length-numbers_in, total_fault, table_read, value_read, late_passes, cells_refusal}
 use Rattle.sketch_countmin.proofs.Numbers.{size_is, size_fits}
 use Rattle.sketch_countmin.proofs.Tables.{is_state}
 use Rattle.sketch_countmin.proofs.count_min_sketch.CountMinSketch.with_cells_of.Goals as goal
+
+pub new-requires-clause-size : goal.new-requires-clause-size
+new-requires-clause-size g c = ap length c.in_ok-counts.ensures.value ∙ length-numbers_in g.T.CountMinValue.least (c.args.preamble.num_hashes * c.args.preamble.num_buckets) (drop 24 c.args.image.now)
 
 pub invariant_of-result : goal.invariant_of-result
 invariant_of-result g c =
     let number = g.T.CountMinValue.number in
     let total : ℤ = number c.in_ok-total.total in
     let most : c.unsigned_abs-most.result ≡ unsigned_abs total = size_is c.to_number.result _ _ c.unsigned_abs-most.ensures.value c.to_number.ensures.value c.to_number.ensures.narrow in
-    let height : length c.in_ok-row_seeds.row_seeds.items ≡ c.args.preamble.num_hashes = omega (arith, c.in_ok-row_seeds.row_seeds.ok, c.in_ok-row_seeds.ensures.size) in
-    table_read g.T.CountMinValue.least g.T.CountMinValue.greatest c.in_ok-row_seeds.row_seeds.items c.bucket_count.result c.args.seed c.args.preamble.num_hashes c.args.preamble.num_buckets c.unsigned_abs-most.result total (map number c.in_ok-counts.counts.items) _
-    height c.bucket_count.ensures c.requires.some_hashes (omega arith) c.requires.some_buckets c.requires.few_cells c.requires.seeded c.in_ok-row_seeds.ensures.seeds c.in_ok-total.ensures.not_negative c.in_ok-total.ensures.fits most
-    c.in_ok-counts.ensures.value c.in_ok-counts.ensures.checks
+    let new = c.in_ok-grid.ensures in
+    table_read g.T.CountMinValue.least g.T.CountMinValue.greatest c.in_ok-grid.grid.row_seeds c.in_ok-grid.grid.buckets c.args.seed c.args.preamble.num_hashes c.args.preamble.num_buckets c.unsigned_abs-most.result total c.in_ok-grid.grid.cells _
+    new.height new.width c.requires.some_hashes (omega arith) c.requires.some_buckets c.requires.few_cells c.requires.seeded new.seeds c.in_ok-total.ensures.not_negative c.in_ok-total.ensures.fits most
+    (new.cells_are ∙ c.in_ok-counts.ensures.value) c.in_ok-counts.ensures.checks
 
 pub returns-clause-state : goal.returns-clause-state
 returns-clause-state g c = is_state _ _ _ _ _ _ (invariant_of-result g c)
@@ -26,9 +29,9 @@ returns-in_err-total-clause-err g c =
 pub returns-clause-value : goal.returns-clause-value
 returns-clause-value g c =
     let number = g.T.CountMinValue.number in
-    let height : length c.in_ok-row_seeds.row_seeds.items ≡ c.args.preamble.num_hashes = omega (arith, c.in_ok-row_seeds.row_seeds.ok, c.in_ok-row_seeds.ensures.size) in
-    value_read g.T.CountMinValue.least c.args.image.now c.args.preamble c.requires.fields c.requires.full c.in_ok-row_seeds.row_seeds.items c.bucket_count.result c.args.seed (number c.in_ok-total.total) (map number c.in_ok-counts.counts.items)
-    height c.bucket_count.ensures c.in_ok-total.ensures.value c.in_ok-counts.ensures.value
+    let new = c.in_ok-grid.ensures in
+    value_read g.T.CountMinValue.least c.args.image.now c.args.preamble c.requires.fields c.requires.full c.in_ok-grid.grid.row_seeds c.in_ok-grid.grid.buckets c.args.seed (number c.in_ok-total.total) c.in_ok-grid.grid.cells
+    new.height new.width c.in_ok-total.ensures.value (new.cells_are ∙ c.in_ok-counts.ensures.value)
 
 pub returns-clause-checks : goal.returns-clause-checks
 returns-clause-checks g c =

@@ -1,4 +1,4 @@
-use Rattle.std.proofs.Common.{◌≡◌, ◌≢◌, map, length, pos, subst, ◌∙◌, refl, arith}
+use Rattle.std.proofs.Common.{◌≡◌, ◌≢◌, length, pos, subst, ◌∙◌, refl, arith}
 use Rattle.std.proofs.lemmas.Int.{ints}
 use Rattle.sketch_base.specs.Hashes.{seed_hash}
 use Rattle.sketch_countmin.specs.Image.{IsSpelled}
@@ -13,11 +13,11 @@ returns-then-to_number-eq0 g c =
     let s = c.self.inside in
     let image = c.write_empty.new.out in
     let none : number s.total ≡ pos 0 = omega (arith, ints, c.if-to_number-eq0.true, c.to_number.ensures.value, c.to_number.ensures.narrow) in
-    let rows : c.len-num_hashes.result ≡ length s.row_seeds.items = omega (arith, c.len-num_hashes.ensures, s.row_seeds.ok) in
-    let buckets : c.divisor-num_buckets.result ≡ s.buckets = c.divisor-num_buckets.ensures.value in
+    let rows : c.num_rows-num_hashes.result ≡ length s.grid.row_seeds = c.num_rows-num_hashes.ensures in
+    let buckets : c.divisor-num_buckets.result ≡ s.grid.buckets = c.divisor-num_buckets.ensures.value ∙ c.buckets.ensures in
     let hash : c.in-Ok.hash ≡ seed_hash s.seed = c.in-Ok.ensures.value.0 in
     subst (λ (a : CountState). IsSpelled g.T.CountMinValue.least g.T.CountMinValue.greatest image a) c.self.view_is
-    (spelled_empty g.T.CountMinValue.least g.T.CountMinValue.greatest image s.row_seeds.items s.buckets s.seed (number s.total) (map number s.counts.items) g.met.T.CountMinValue.zero_fits c.self.invariant none
+    (spelled_empty g.T.CountMinValue.least g.T.CountMinValue.greatest image s.grid.row_seeds s.grid.buckets s.seed (number s.total) s.grid.cells g.met.T.CountMinValue.zero_fits c.self.invariant none
     (c.write_empty.ensures ∙ rw (rows, buckets, hash) refl))
 
 pub returns-else-to_number-eq0 : goal.returns-else-to_number-eq0
@@ -27,11 +27,10 @@ returns-else-to_number-eq0 g c =
     let s = c.self.inside in
     let image = c.write_full.new.out in
     let some : number s.total ≢ pos 0 = λ none. c.if-to_number-eq0.false (omega (arith, ints, none, c.to_number.ensures.value)) in
-    let rows : c.len-num_hashes.result ≡ length s.row_seeds.items = omega (arith, c.len-num_hashes.ensures, s.row_seeds.ok) in
-    let buckets : c.divisor-num_buckets.result ≡ s.buckets = c.divisor-num_buckets.ensures.value in
+    let rows : c.num_rows-num_hashes.result ≡ length s.grid.row_seeds = c.num_rows-num_hashes.ensures in
+    let buckets : c.divisor-num_buckets.result ≡ s.grid.buckets = c.divisor-num_buckets.ensures.value ∙ c.buckets.ensures in
     let hash : c.in-Ok.hash ≡ seed_hash s.seed = c.in-Ok.ensures.value.0 in
-    let counts : c.deref.result.now ≡ s.counts.items = c.deref.ensures.value in
-    let fit = cells_in_range number g.T.CountMinValue.ZERO g.T.CountMinValue.least g.T.CountMinValue.greatest laws.zero_is laws.sum_fits s.row_seeds.items s.buckets s.seed (number s.total) s.counts.items c.self.invariant in
+    let fit = cells_in_range number g.T.CountMinValue.ZERO g.T.CountMinValue.least g.T.CountMinValue.greatest laws.zero_is laws.sum_fits s.grid.row_seeds s.grid.buckets s.seed (number s.total) s.grid.cells c.counts.result.now c.counts.ensures c.self.invariant in
     subst (λ (a : CountState). IsSpelled g.T.CountMinValue.least g.T.CountMinValue.greatest image a) c.self.view_is
-    (spelled_full g.T.CountMinValue.least g.T.CountMinValue.greatest image s.row_seeds.items s.buckets s.seed (number s.total) (map number s.counts.items) laws.zero_fits c.self.invariant some fit
-    (c.write_full.ensures ∙ rw (counts, rows, buckets, hash) refl))
+    (spelled_full g.T.CountMinValue.least g.T.CountMinValue.greatest image s.grid.row_seeds s.grid.buckets s.seed (number s.total) s.grid.cells laws.zero_fits c.self.invariant some fit
+    (c.write_full.ensures ∙ rw (c.counts.ensures, rows, buckets, hash) refl))

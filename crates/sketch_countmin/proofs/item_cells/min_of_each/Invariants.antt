@@ -1,6 +1,0 @@
-use Rattle.sketch_countmin.specs.Buckets.{buckets_by}
-use Rattle.sketch_countmin.specs.Cells.{IsMinOf}
-use Rattle.sketch_countmin.proofs.item_cells.min_of_each.Given as goal
-
-abbrev pub invariant-loop-row : goal.invariant-loop-row
-invariant-loop-row g l = IsMinOf l.rows.buckets (g.C.CellList.list l.counts) (buckets_by l.rows.buckets l.rows.seeds.now (g.R.Rehashable.bytes l.bytes)) l.row (g.T.CountMinValue.number l.least)
