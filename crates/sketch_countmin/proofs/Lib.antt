@@ -1,5 +1,6 @@
 mod PartUpdates
 pub mod Places
+mod Grids
 pub mod Numbers
 pub mod Nearest
 pub mod ByteCells

@@ -1,7 +1,6 @@
 -- Where cells lie, and what room there is at them, for goals whose search would be long.
 use Rattle.std.proofs.Common.{◌≡◌, ◌≢◌, ℕ, ◌+◌, ◌*◌, ◌<◌, ◌≤◌, List, map, length, get_or, set, ℤ, pos, ◌+ℤ◌, unsigned_abs, sym, ap, ◌∙◌, subst, arith, get_or-set_other, get_or-set_same, below_more, ⊎_elim}
 use Rattle.std.proofs.lemmas.Bool.{cases_lt}
-use Rattle.std.proofs.lemmas.Nat.{mul-le}
 use Rattle.std.proofs.lemmas.List.{length-map, get_or_past}
 use Rattle.sketch_countmin.specs.Cells.{RowsAdded, CellsAdded}
 use Rattle.sketch_countmin.proofs.RowSteps.{inside, plus_zero, read_cell, rows_added_next}
@@ -10,24 +9,12 @@ use Rattle.sketch_countmin.proofs.RowSteps.{inside, plus_zero, read_cell, rows_a
 pub inside_wide : (d rows n b l w : ℕ) → w ≡ d → l ≡ rows * d → n < rows → b < d → n * w + b < l
 inside_wide d rows n b l w same e lt p = subst (λ (w : ℕ). n * w + b < l) (sym same) (inside d rows n b l e lt p)
 
--- a index in a table, where the number of its cells has two spellings
-pub within : (k l m : ℕ) → k < m → l ≡ m → k < l
-within k l m lt e = omega (arith, lt, e)
-
 -- ---- rows that a weight is added to
 
 -- the cells behind those rows have the room that they had
 pub room_behind : (d : ℕ) (w : ℤ) (most : ℕ) (bucket : ℕ → ℕ) (n k : ℕ) (old mid : List ℤ) → RowsAdded d w bucket n old mid → k ≡ n * d + bucket n
     → ((j : ℕ) → unsigned_abs (get_or old j (pos 0) +ℤ w) ≤ most) → unsigned_abs (get_or mid k (pos 0) +ℤ w) ≤ most
 room_behind d w most bucket n k old mid h index room = subst (λ (z : ℤ). unsigned_abs (z +ℤ w) ≤ most) (sym (h.rest k (omega (arith, index)))) (room k)
-
--- a later row's cell has the room that it had before an earlier row was given its weight
-pub room_stays : (d : ℕ) (w v : ℤ) (most : ℕ) (bucket : ℕ → ℕ) (n m k j : ℕ) (mid new : List ℤ) → n < m → bucket n < d → k ≡ n * d + bucket n → j ≡ m * d + bucket m → new ≡ set mid k v
-    → unsigned_abs (get_or mid j (pos 0) +ℤ w) ≤ most → unsigned_abs (get_or new j (pos 0) +ℤ w) ≤ most
-room_stays d w v most bucket n m k j mid new later in_row at index e room =
-    let behind : (n + 1) * d ≤ m * d = mul-le (n + 1) d m d (omega (arith, later)) (omega arith) in
-    let other : j ≢ k = omega (arith, behind, in_row, at, index) in
-    subst (λ (z : ℤ). unsigned_abs (z +ℤ w) ≤ most) (sym (ap (λ (l : List ℤ). get_or l j (pos 0)) e ∙ get_or-set_other mid k j v (pos 0) other)) room
 
 -- one row more
 pub row_added : {T : Type 0} (number : T → ℤ) (d : ℕ) (w : ℤ) (bucket : ℕ → ℕ) (n m k size : ℕ) (old : List ℤ) (mid new : List T) → RowsAdded d w bucket n old (map number mid) → m ≡ n + 1

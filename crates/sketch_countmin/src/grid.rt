@@ -1,11 +1,10 @@
 //! The grid of a sketch: a row of cells for each hash.
-ghost use Rattle.std.specs.Prelude.{◌≡◌, ℕ, ◌+◌, ◌*◌, ◌<◌, ◌≤◌, ◌↔◌, [], IsTrue, IfOk, length, map, pos, ◌+ℤ◌, ◌≤ℤ◌, unsigned_abs, slice_index, slice_index_or};
+ghost use Rattle.std.specs.Prelude.{◌≡◌, ℕ, ◌+◌, ◌*◌, ◌<◌, ◌≤◌, ◌↔◌, [], IsTrue, IfOk, length, map, pos, ◌+ℤ◌, ◌≤ℤ◌, unsigned_abs, slice_index_or};
 ghost use Rattle.std.specs.Int.{is_power_of_two};
 ghost use Rattle.sketch_base.specs.Hashes.{fed_bytes};
-ghost use Rattle.sketch_countmin.specs.Buckets.{bucket_by};
-ghost use Rattle.sketch_countmin.specs.Cells.{cell_in, flat_at, RowCounted};
+ghost use Rattle.sketch_countmin.specs.Cells.{cell_in, flat_at};
 ghost use Rattle.sketch_countmin.specs.Grid.{IsGridOf, KeepsShape, AddsItem, CountsInRow, CountsInRows};
-ghost use Rattle.sketch_countmin.specs.Items.{IsItemAdded, IsItemMin};
+ghost use Rattle.sketch_countmin.specs.Items.{IsItemMin};
 ghost use Rattle.sketch_countmin.specs.Values.{scaled, halved};
 
 use crate::cells::{add_all, add_at, halve_all, same_cells, scale_all};
@@ -111,7 +110,15 @@ impl<T: CountMinValue> Grid<T> {
             seeds: &self.row_seeds,
             buckets: self.buckets,
         };
-        add_to_four(&mut self.counts, &rows, bytes, weight);
+        let first = rows.index(true, bytes, 0);
+        let second = rows.index(true, bytes, 1);
+        let third = rows.index(true, bytes, 2);
+        let fourth = rows.index(true, bytes, 3);
+        let counts = self.counts.as_mut_slice();
+        add_at(counts, first, weight);
+        add_at(counts, second, weight);
+        add_at(counts, third, weight);
+        add_at(counts, fourth, weight);
     }
 
     /// Adds the weight at the bucket of hashed bytes in each row. `masked` requires a power of two of buckets.
@@ -126,7 +133,11 @@ impl<T: CountMinValue> Grid<T> {
             seeds: &self.row_seeds,
             buckets: self.buckets,
         };
-        add_to_each(&mut self.counts, &rows, masked, bytes, weight);
+        let counts = self.counts.as_mut_slice();
+        for row in 0..rows.seeds.len() {
+            let index = rows.index(masked, bytes, row);
+            add_at(counts, index, weight);
+        }
     }
 
     /// Adds 1 to each item's cell in each row.
@@ -154,7 +165,13 @@ impl<T: CountMinValue> Grid<T> {
             seeds: &self.row_seeds,
             buckets: self.buckets,
         };
-        count_in_row(&mut self.counts, &rows, row, items);
+        let masked = rows.buckets.is_power_of_two();
+        let seed = rows.seeds[row];
+        let counts = self.counts.as_mut_slice();
+        for item in items {
+            let index = rows.index_by_seed(masked, &HashItem { item }, row, seed);
+            add_at(counts, index, T::ONE);
+        }
     }
 
     /// Returns the minimum of the item's cells.
@@ -232,66 +249,5 @@ impl<T: CountMinValue> Clone for Grid<T> {
             row_seeds,
             counts,
         })
-    }
-}
-
-/// Adds the weight at the bucket of hashed bytes in each of four rows. The number of buckets is a power of two.
-#[inline(always)]
-fn add_to_four<T: CountMinValue, R: Rehashable>(counts: &mut [T], rows: &Rows, bytes: &R, weight: T)
-    requires power { IsTrue (is_power_of_two rows.now.buckets) }
-    requires hashable { R.can_hash bytes.now }
-    requires four { length rows.now.seeds.now ≡ 4 }
-    requires shape { length counts.old ≡ length rows.now.seeds.now * rows.now.buckets }
-    requires room { (k : ℕ) → unsigned_abs (cell_in (map T.number counts.old) k +ℤ T.number weight) ≤ T.greatest }
-    ensures { IsItemAdded rows.now.buckets rows.now.seeds.now (R.bytes bytes.now) (T.number weight)
-        (map T.number counts.old) (map T.number counts.new) }
-{
-    let first = rows.index(true, bytes, 0);
-    let second = rows.index(true, bytes, 1);
-    let third = rows.index(true, bytes, 2);
-    let fourth = rows.index(true, bytes, 3);
-    add_at(counts, first, weight);
-    add_at(counts, second, weight);
-    add_at(counts, third, weight);
-    add_at(counts, fourth, weight);
-}
-
-/// Adds the weight at the bucket of hashed bytes in each row. `masked` requires a power of two of buckets.
-#[inline(always)]
-fn add_to_each<T: CountMinValue, R: Rehashable>(
-    counts: &mut [T],
-    rows: &Rows,
-    masked: bool,
-    bytes: &R,
-    weight: T,
-)
-    requires masked { IsTrue masked → IsTrue (is_power_of_two rows.now.buckets) }
-    requires hashable { R.can_hash bytes.now }
-    requires shape { length counts.old ≡ length rows.now.seeds.now * rows.now.buckets }
-    requires room { (k : ℕ) → unsigned_abs (cell_in (map T.number counts.old) k +ℤ T.number weight) ≤ T.greatest }
-    ensures { IsItemAdded rows.now.buckets rows.now.seeds.now (R.bytes bytes.now) (T.number weight)
-        (map T.number counts.old) (map T.number counts.new) }
-{
-    for row in 0..rows.seeds.len() {
-        let index = rows.index(masked, bytes, row);
-        add_at(counts, index, weight);
-    }
-}
-
-/// Adds 1 at each item's bucket of one row.
-#[inline]
-fn count_in_row<T: CountMinValue, I: Hash>(counts: &mut [T], rows: &Rows, row: usize, items: &[I])
-    requires row { row < length rows.now.seeds.now }
-    requires shape { length counts.old ≡ length rows.now.seeds.now * rows.now.buckets }
-    requires room { (b : ℕ) → b < rows.now.buckets
-        → unsigned_abs (flat_at rows.now.buckets (map T.number counts.old) row b) + length items.now ≤ T.greatest }
-    ensures { RowCounted rows.now.buckets (bucket_by rows.now.buckets (slice_index rows.now.seeds.now row))
-        (map (fed_bytes I.hash_input) items.now) row (map T.number counts.old) (map T.number counts.new) }
-{
-    let masked = rows.buckets.is_power_of_two();
-    let seed = rows.seeds[row];
-    for item in items {
-        let index = rows.index_by_seed(masked, &HashItem { item }, row, seed);
-        add_at(counts, index, T::ONE);
     }
 }
