@@ -2,7 +2,7 @@
 use Rattle.std.specs.Prelude.{◌≡◌, ℕ, ◌*◌, ◌^◌, ◌<◌, List, length, slice_index, ℤ}
 use Rattle.sketch_countmin.specs.Buckets.{bucket_by, row_seed}
 use Rattle.sketch_countmin.specs.Cells.{RowCounted, RowsCounted}
-use Rattle.sketch_countmin.specs.Items.{IsItemAdded}
+use Rattle.sketch_countmin.specs.Items.{IsItemAdded, IsItemMin}
 
 pub record GridState : Type 0 where
   pub row_seeds : List ℕ
@@ -25,6 +25,10 @@ pub record IsGridOf (hashes buckets seed : ℕ) (cells : List ℤ) (g : GridStat
   pub width : g.buckets ≡ buckets
   pub seeds : (r : ℕ) → r < hashes → slice_index g.row_seeds r ≡ row_seed r seed
   pub cells_are : g.cells ≡ cells
+
+-- z is the minimum of the item's cells
+abbrev pub IsMinIn : GridState → (bytes : List ℕ) → ℤ → Type 0
+IsMinIn g bytes z = IsItemMin g.buckets g.row_seeds bytes g.cells z
 
 -- new has the rows and the buckets of old, and as many cells
 pub record KeepsShape (old new : GridState) : Type 0 where

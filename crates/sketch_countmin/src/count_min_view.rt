@@ -17,6 +17,7 @@ use crate::image::{read_preamble, read_total};
 use crate::item_cells::{HashItem, RowItem, StrItem};
 use crate::limits::MAX_TABLE_ENTRIES;
 use crate::margin::with_margin;
+use crate::row_cells::RowCells;
 use crate::rows::bucket_count;
 use sketch_base::{DEFAULT_UPDATE_SEED, Divisor, Error, murmur3_of_u64};
 use std::hash::Hash;
@@ -239,7 +240,7 @@ impl<'a, T: CountMinValue> CountMinView<'a, T> {
         }
         let cells = ByteCells::new(self.bytes, self.total);
         let row_seeds = &self.row_seeds[..self.num_hashes as usize];
-        item.min_cell(cells, self.buckets, row_seeds)
+        item.min_cell(RowCells::new(cells, self.buckets, row_seeds))
     }
 
     /// Returns the estimate plus a margin, or the maximum of `T` if this exceeds it, as

@@ -3,7 +3,7 @@ ghost use Rattle.std.specs.Prelude.{◌≡◌, ℕ, ◌+◌, ◌*◌, ◌<◌, �
 ghost use Rattle.std.specs.Int.{is_power_of_two};
 ghost use Rattle.sketch_base.specs.Hashes.{fed_bytes};
 ghost use Rattle.sketch_countmin.specs.Cells.{cell_in, flat_at};
-ghost use Rattle.sketch_countmin.specs.Grid.{IsGridOf, KeepsShape, AddsItem, CountsInRow, CountsInRows};
+ghost use Rattle.sketch_countmin.specs.Grid.{IsGridOf, IsMinIn, KeepsShape, AddsItem, CountsInRow, CountsInRows};
 ghost use Rattle.sketch_countmin.specs.Items.{IsItemMin};
 ghost use Rattle.sketch_countmin.specs.Values.{scaled, halved};
 
@@ -177,9 +177,10 @@ impl<T: CountMinValue> Grid<T> {
     /// Returns the minimum of the item's cells.
     #[inline(always)]
     pub fn min_cell<R: RowItem<T>>(&self, item: &R) -> T
-        ensures { IsItemMin self.now.buckets self.now.row_seeds (R.input item.now) self.now.cells (T.number result) }
+        ensures { IsMinIn self.now (R.input item.now) (T.number result) }
     {
-        item.min_cell(self.counts.as_slice(), self.buckets, &self.row_seeds)
+        let cells = RowCells::new(self.counts.as_slice(), self.buckets, &self.row_seeds);
+        item.min_cell(cells)
     }
 
     /// Writes the minimum of each item's cells.

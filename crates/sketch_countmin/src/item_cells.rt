@@ -5,17 +5,15 @@
 //! most common number beside three and five, have no loop: all four indices are computed before the first cell is
 //! accessed.
 ghost use Rattle.std.specs.Hash as fed;
-ghost use Rattle.std.specs.Prelude.{◌≡◌, ℕ, ◌*◌, ◌^◌, ◌<◌, ◌≤◌, List, length, ◌+ℤ◌, unsigned_abs};
+ghost use Rattle.std.specs.Prelude.{ℕ, ◌≤◌, List, ◌+ℤ◌, unsigned_abs};
 ghost use Rattle.sketch_base.specs.Hashes.{fed_bytes};
 ghost use Rattle.sketch_countmin.specs.Cells.{cell_in};
-ghost use Rattle.sketch_countmin.specs.Grid.{AddsItem};
-ghost use Rattle.sketch_countmin.specs.Items.{IsItemMin};
+ghost use Rattle.sketch_countmin.specs.Grid.{AddsItem, IsMinIn};
 
-use crate::cell_list::CellList;
 use crate::count_min_value::CountMinValue;
 use crate::grid::Grid;
-use crate::row_cells::RowCells;
-use sketch_base::{Divisor, Rehashable, RehashableItem, RehashableStr, murmur3_of};
+use crate::row_cells::ReadRows;
+use sketch_base::{Rehashable, RehashableItem, RehashableStr, murmur3_of};
 use std::hash::Hash;
 
 /// An item, by the bytes that are hashed for each row.
@@ -29,13 +27,8 @@ pub trait RowItem<T: CountMinValue> {
         ensures { AddsItem (input self.now) (T.number weight) grid.old grid.new };
 
     /// Returns the minimum of the item's cells.
-    ///
-    /// The parts of [`RowCells`] are passed one by one, in registers if the call is not inlined.
-    fn min_cell<C: CellList<T> + Drop>(&self, cells: C, buckets: Divisor, seeds: &[u64]) -> T
-        requires some { 0 < length seeds.now }
-        requires fits { length seeds.now * buckets < 2 ^ 64 }
-        requires shape { length (C.list cells) ≡ length seeds.now * buckets }
-        ensures { IsItemMin buckets seeds.now (input self.now) (C.list cells) (T.number result) };
+    fn min_cell<C: ReadRows<T> + Drop>(&self, cells: C) -> T
+        ensures { IsMinIn (C.grid cells) (input self.now) (T.number result) };
 }
 
 /// An item of any type that can be hashed. It is fed again for each hash.
@@ -72,15 +65,14 @@ impl<'a, T: CountMinValue, I: Hash> RowItem<T> for HashItem<'a, I> {
     }
 
     #[inline(always)]
-    fn min_cell<C: CellList<T> + Drop>(&self, cells: C, buckets: Divisor, seeds: &[u64]) -> T {
+    fn min_cell<C: ReadRows<T> + Drop>(&self, cells: C) -> T {
         let hashed = RehashableItem::new(self.item);
         let Some(bytes) = hashed.short() else {
-            return min_long(cells, buckets, seeds, self.item);
+            return min_long(cells, self.item);
         };
-        let cells = RowCells::new(cells, buckets, seeds);
-        if !buckets.is_power_of_two() {
+        if !cells.buckets().is_power_of_two() {
             cells.min_of_each(false, bytes)
-        } else if seeds.len() == 4 {
+        } else if cells.num_rows() == 4 {
             cells.min_of_four(bytes)
         } else {
             cells.min_of_each(true, bytes)
@@ -110,12 +102,11 @@ impl<'a, T: CountMinValue> RowItem<T> for StrItem<'a> {
     }
 
     #[inline(always)]
-    fn min_cell<C: CellList<T> + Drop>(&self, cells: C, buckets: Divisor, seeds: &[u64]) -> T {
+    fn min_cell<C: ReadRows<T> + Drop>(&self, cells: C) -> T {
         let bytes = RehashableStr::new(self.item);
-        let cells = RowCells::new(cells, buckets, seeds);
-        if !buckets.is_power_of_two() {
+        if !cells.buckets().is_power_of_two() {
             cells.min_of_each(false, &bytes)
-        } else if seeds.len() == 4 {
+        } else if cells.num_rows() == 4 {
             cells.min_of_four(&bytes)
         } else {
             cells.min_of_each(true, &bytes)
@@ -135,17 +126,9 @@ fn add_long<T: CountMinValue, I: Hash>(grid: &mut Grid<T>, item: &I, weight: T)
 
 /// Returns the minimum of the cells of an item of many bytes, which is fed again for each row.
 #[inline(never)]
-fn min_long<T: CountMinValue, C: CellList<T> + Drop, I: Hash>(
-    cells: C,
-    buckets: Divisor,
-    seeds: &[u64],
-    item: &I,
-) -> T
-    requires some { 0 < length seeds.now }
-    requires fits { length seeds.now * buckets < 2 ^ 64 }
-    requires shape { length (C.list cells) ≡ length seeds.now * buckets }
-    ensures { IsItemMin buckets seeds.now (fed_bytes I.hash_input item.now) (C.list cells) (T.number result) }
+fn min_long<T: CountMinValue, C: ReadRows<T> + Drop, I: Hash>(cells: C, item: &I) -> T
+    ensures { IsMinIn (C.grid cells) (fed_bytes I.hash_input item.now) (T.number result) }
 {
-    let cells = RowCells::new(cells, buckets, seeds);
-    cells.min_of_each(buckets.is_power_of_two(), &HashItem { item })
+    let masked = cells.buckets().is_power_of_two();
+    cells.min_of_each(masked, &HashItem { item })
 }

@@ -6,6 +6,7 @@ ghost use Rattle.std.specs.Int.{is_power_of_two};
 ghost use Rattle.sketch_base.specs.Hashes.{fed_bytes};
 ghost use Rattle.sketch_countmin.specs.Cells.{flat_at, IsLesser};
 ghost use Rattle.sketch_countmin.specs.Buckets.{buckets_by};
+ghost use Rattle.sketch_countmin.specs.Grid.{GridState, grid_of, IsMinIn};
 ghost use Rattle.sketch_countmin.specs.Items.{IsItemMin};
 
 use crate::cell_list::CellList;
@@ -15,6 +16,33 @@ use crate::rows::Rows;
 use sketch_base::{Divisor, Rehashable};
 use std::hash::Hash;
 use std::marker::PhantomData;
+
+/// Rows of cells that can be read.
+pub trait ReadRows<T: CountMinValue> {
+    // The grid that they are of.
+    ghost grid: { Self → GridState };
+
+    /// Returns the number of rows.
+    fn num_rows(&self) -> usize
+        ensures { result ≡ length (grid self.now).row_seeds };
+
+    /// Returns the number of buckets.
+    fn buckets(&self) -> Divisor
+        ensures { result ≡ (grid self.now).buckets };
+
+    /// Returns the minimum of the cells of hashed bytes in four rows. The number of buckets is a power of two.
+    fn min_of_four<R: Rehashable>(&self, bytes: &R) -> T
+        requires power { IsTrue (is_power_of_two (grid self.now).buckets) }
+        requires hashable { R.can_hash bytes.now }
+        requires four { length (grid self.now).row_seeds ≡ 4 }
+        ensures { IsMinIn (grid self.now) (R.bytes bytes.now) (T.number result) };
+
+    /// Returns the minimum of the cells of hashed bytes. `masked` requires a power of two of buckets.
+    fn min_of_each<R: Rehashable>(&self, masked: bool, bytes: &R) -> T
+        requires masked { IsTrue masked → IsTrue (is_power_of_two (grid self.now).buckets) }
+        requires hashable { R.can_hash bytes.now }
+        ensures { IsMinIn (grid self.now) (R.bytes bytes.now) (T.number result) };
+}
 
 /// The cells of all rows.
 #[derive(Drop)]
@@ -41,43 +69,6 @@ impl<'a, T: CountMinValue, C: CellList<T> + Drop> RowCells<'a, T, C> {
             cells,
             values: PhantomData,
         }
-    }
-
-    /// Returns the minimum of the cells of hashed bytes in four rows. The number of buckets is a power of two.
-    #[inline(always)]
-    pub fn min_of_four<R: Rehashable>(&self, bytes: &R) -> T
-        requires power { IsTrue (is_power_of_two self.now.rows.buckets) }
-        requires hashable { R.can_hash bytes.now }
-        requires four { length self.now.rows.seeds.now ≡ 4 }
-        ensures { IsItemMin self.now.rows.buckets self.now.rows.seeds.now (R.bytes bytes.now)
-            (C.list self.now.cells) (T.number result) }
-    {
-        let first = self.rows.index(true, bytes, 0);
-        let second = self.rows.index(true, bytes, 1);
-        let third = self.rows.index(true, bytes, 2);
-        let fourth = self.rows.index(true, bytes, 3);
-        let one = self.cells.cell(first);
-        let two = one.min(self.cells.cell(second));
-        let three = two.min(self.cells.cell(third));
-        three.min(self.cells.cell(fourth))
-    }
-
-    /// Returns the minimum of the cells of hashed bytes. `masked` requires a power of two of buckets.
-    #[inline(always)]
-    pub fn min_of_each<R: Rehashable>(&self, masked: bool, bytes: &R) -> T
-        requires masked { IsTrue masked → IsTrue (is_power_of_two self.now.rows.buckets) }
-        requires hashable { R.can_hash bytes.now }
-        ensures { IsItemMin self.now.rows.buckets self.now.rows.seeds.now (R.bytes bytes.now)
-            (C.list self.now.cells) (T.number result) }
-    {
-        let first = self.rows.index(masked, bytes, 0);
-        let mut least = self.cells.cell(first);
-        for row in 1..self.rows.seeds.len() {
-            let index = self.rows.index(masked, bytes, row);
-            let cell = self.cells.cell(index);
-            least = least.min(cell);
-        }
-        least
     }
 
     /// Writes the minimum of each item's cells.
@@ -143,5 +134,43 @@ impl<'a, T: CountMinValue, C: CellList<T> + Drop> RowCells<'a, T, C> {
             .rows
             .index_by_seed(masked, &HashItem { item }, row, seed);
         self.cells.cell(index)
+    }
+}
+
+impl<'a, T: CountMinValue, C: CellList<T> + Drop> ReadRows<T> for RowCells<'a, T, C> {
+    ghost grid = { λ cells. grid_of cells.rows.seeds.now cells.rows.buckets (C.list cells.cells) };
+
+    #[inline(always)]
+    fn num_rows(&self) -> usize {
+        self.rows.seeds.len()
+    }
+
+    #[inline(always)]
+    fn buckets(&self) -> Divisor {
+        self.rows.buckets
+    }
+
+    #[inline(always)]
+    fn min_of_four<R: Rehashable>(&self, bytes: &R) -> T {
+        let first = self.rows.index(true, bytes, 0);
+        let second = self.rows.index(true, bytes, 1);
+        let third = self.rows.index(true, bytes, 2);
+        let fourth = self.rows.index(true, bytes, 3);
+        let one = self.cells.cell(first);
+        let two = one.min(self.cells.cell(second));
+        let three = two.min(self.cells.cell(third));
+        three.min(self.cells.cell(fourth))
+    }
+
+    #[inline(always)]
+    fn min_of_each<R: Rehashable>(&self, masked: bool, bytes: &R) -> T {
+        let first = self.rows.index(masked, bytes, 0);
+        let mut least = self.cells.cell(first);
+        for row in 1..self.rows.seeds.len() {
+            let index = self.rows.index(masked, bytes, row);
+            let cell = self.cells.cell(index);
+            least = least.min(cell);
+        }
+        least
     }
 }

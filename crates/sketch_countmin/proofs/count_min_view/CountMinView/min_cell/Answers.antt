@@ -23,7 +23,7 @@ returns-clause-least g c =
     let number = g.T.CountMinValue.number in
     subst (λ (s : CountState). IsMinCell s input (number c.min_cell.result)) c.self.view_is
     (least_of_some g.T.CountMinValue.least g.T.CountMinValue.greatest i.num_hashes (take i.num_hashes i.row_seeds) i.buckets i.seed (number i.total) i.bytes.now input c.self.invariant (sym c.if-is_empty.ensures) c.new-cells.result (number c.min_cell.result)
-    c.new-cells.ensures c.min_cell.ensures)
+    c.new-cells.ensures (rw (c.new.ensures.cells, c.new.ensures.buckets, c.new.ensures.seeds) at c.min_cell.ensures))
 
 pub returns-clause-state : goal.returns-clause-state
 returns-clause-state g c = state_shown _ _ _ _ _ _ _ c.self.view_is c.self.invariant.table

@@ -2,7 +2,7 @@ use Rattle.std.proofs.Common.{sym, subst, ℕ}
 use Rattle.sketch_countmin.specs.Buckets.{buckets_by}
 use Rattle.sketch_countmin.specs.Cells.{IsMinOf}
 use Rattle.sketch_countmin.proofs.RowSteps.{least_first, least_more}
-use Rattle.sketch_countmin.proofs.row_cells.RowCells.min_of_four.Goals as goal
+use Rattle.sketch_countmin.proofs.row_cells.RowCellsReadRows.min_of_four.Goals as goal
 
 pub returns : goal.returns
 returns g c =
