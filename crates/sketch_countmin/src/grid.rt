@@ -4,7 +4,6 @@ ghost use Rattle.std.specs.Int.{is_power_of_two};
 ghost use Rattle.sketch_base.specs.Hashes.{fed_bytes};
 ghost use Rattle.sketch_countmin.specs.Cells.{cell_in, flat_at};
 ghost use Rattle.sketch_countmin.specs.Grid.{IsGridOf, IsMinIn, KeepsShape, AddsItem, CountsInRow, CountsInRows};
-ghost use Rattle.sketch_countmin.specs.Items.{IsItemMin};
 ghost use Rattle.sketch_countmin.specs.Values.{scaled, halved};
 
 use crate::cells::{add_all, add_at, halve_all, same_cells, scale_all};
@@ -187,9 +186,9 @@ impl<T: CountMinValue> Grid<T> {
     #[inline]
     pub fn min_cells<I: Hash>(&self, items: &[I], least: &mut [T])
         requires same { length least.old ≡ length items.now }
-        ensures { (i : ℕ) → i < length items.now → IsItemMin self.now.buckets self.now.row_seeds
+        ensures { (i : ℕ) → i < length items.now → IsMinIn self.now
             (slice_index_or (map (fed_bytes I.hash_input) items.now) i [])
-            self.now.cells (slice_index_or (map T.number least.new) i (pos 0)) }
+            (slice_index_or (map T.number least.new) i (pos 0)) }
     {
         let cells = RowCells::new(self.counts.as_slice(), self.buckets, &self.row_seeds);
         cells.min_cells(items, least);

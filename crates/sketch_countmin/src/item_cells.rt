@@ -89,7 +89,7 @@ pub struct StrItem<'a> {
 impl<'a, T: CountMinValue> RowItem<T> for StrItem<'a> {
     ghost input = { λ row. fed_bytes fed.str row.item.now };
 
-    #[inline(always)]
+    #[inline]
     fn add_to(&self, grid: &mut Grid<T>, weight: T) {
         let bytes = RehashableStr::new(self.item);
         if !grid.buckets().is_power_of_two() {
