@@ -125,8 +125,27 @@ fn copied(alloc: Global, name: &str) -> Result<String, Error>
     Ok(String::from_str(alloc, name)?)
 }
 
+/// The greatest number of names that are compared one by one, since this takes less time than a hash of one.
+const FEW_NAMES: usize = 8;
+
 /// Returns the index of the name's value, if any.
 pub(crate) fn index_of(indices: &HashMap<String, usize, MapState>, name: &str) -> Option<usize>
+    ensures { result ≡ index_of name.now indices.now.entries }
+{
+    if indices.len() > FEW_NAMES {
+        return index_by_hash(indices, name);
+    }
+    for (known, index) in indices {
+        if name == known.as_str() {
+            return Some(*index);
+        }
+    }
+    None
+}
+
+/// Returns the index of the name's value, if any, by the name's hash.
+#[inline(never)]
+fn index_by_hash(indices: &HashMap<String, usize, MapState>, name: &str) -> Option<usize>
     ensures { result ≡ index_of name.now indices.now.entries }
 {
     indices.get(name).copied()

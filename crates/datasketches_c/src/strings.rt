@@ -73,7 +73,7 @@ pub(crate) fn strings_of_pairs_for<'a>(
 /// are not UTF-8.
 macro_rules! on_string {
     ($item:ident => $work:expr) => {{
-        let Ok($item) = str::from_utf8($item) else {
+        let Ok($item) = sketch_base::from_utf8($item) else {
             return $crate::status_code::refusal_number(sketch_base::Fault::InvalidUtf8);
         };
         $work

@@ -6,4 +6,3 @@ pub mod Printed
 pub mod Spelling
 pub mod TextItems
 pub mod Transcripts
-pub mod Words

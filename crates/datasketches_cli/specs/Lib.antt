@@ -3,7 +3,6 @@ pub mod Counts
 pub mod Grammar
 pub mod KeyValues
 pub mod Laws
-pub mod Parsing
 pub mod Printing
 pub mod Reading
 pub mod Requests

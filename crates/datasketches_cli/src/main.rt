@@ -18,7 +18,7 @@ mod counted;
 mod keys;
 mod laws;
 mod line_reader;
-mod parse;
+mod number;
 mod reply;
 mod responder;
 mod serve;

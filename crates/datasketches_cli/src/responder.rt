@@ -4,11 +4,14 @@ ghost use Rattle.datasketches_cli.specs.Serving.{IsAnswered};
 ghost use Rattle.datasketches_cli.specs.Steps.{nothing_served};
 
 use crate::keys::Keys;
-use crate::parse::words::{MAX_WORDS, first_words};
 use crate::reply::{Answer, write_outcome};
 use crate::state::State;
 use datasketches::Reply;
+use sketch_base::{Separator, first_words, from_utf8};
 use std::alloc::{AllocError, Global};
+
+/// The number of words of a line that are split off: one more than the longest request has.
+const MAX_WORDS: usize = 7;
 
 /// The outcome of a line.
 #[derive(Clone, Copy)]
@@ -54,11 +57,11 @@ impl Responder {
     pub fn answer_line(&mut self, line: &[u8]) -> Result<LineOutcome, AllocError>
         ensures { IfOk result (IsAnswered line.now self.old self.new) }
     {
-        let Ok(text) = str::from_utf8(line) else {
+        let Ok(text) = from_utf8(line) else {
             return Ok(LineOutcome::Bad);
         };
         let mut words = [""; MAX_WORDS];
-        let count = first_words(text, &mut words);
+        let count = first_words(text, Separator::Space, &mut words);
         let words = &words[..count];
         if words.is_empty() {
             return Ok(LineOutcome::Blank);

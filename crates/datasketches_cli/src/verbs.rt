@@ -5,16 +5,15 @@ ghost use Rattle.std.specs.Prelude.{◌≡◌, [], ◌∷◌, Some, Ok, OnErr, I
 ghost use Rattle.std.specs.Char.{is_ascii_hexdigit};
 ghost use Rattle.std.specs.List.{list_all};
 ghost use Rattle.sketch_base.specs.Errors.{no_memory};
+ghost use Rattle.sketch_base.specs.Strings.{strings_at};
 ghost use Rattle.datasketches.specs.Actions as action;
 ghost use Rattle.datasketches.specs.Replies.{done_or, told};
-ghost use Rattle.datasketches_cli.specs.Grammar.{bytes_of_digits, count_min_sizes, filter_sizes, load_of, plain_kind, request_of, seeded_kind};
-ghost use Rattle.datasketches_cli.specs.Parsing.{texts_of};
+ghost use Rattle.datasketches_cli.specs.Grammar.{bytes_of_digits, count_min_sizes, filter_sizes, load_of, plain_kind, report_of, request_of, seeded_kind};
 ghost use Rattle.datasketches_cli.specs.Requests.{Request};
 ghost use Rattle.datasketches_cli.specs.Serving.{Runs};
 
 use crate::keys::Keys;
-use crate::parse::number::{number_below, number_of, signed_number};
-use crate::parse::words::report_of;
+use crate::number::{number_below, number_of, signed_number};
 use crate::reply::{Answer, Ran};
 use crate::state::{State, add, open, report, turn};
 use datasketches::bloom::BloomFilterBuilder;
@@ -37,7 +36,7 @@ impl State {
         words: &[&str],
         answer: &mut Answer,
     ) -> Option<Result<Ran, AllocError>>
-        ensures { Runs (request_of (texts_of words.now)) self.old answer.new result self.new }
+        ensures { Runs (request_of (strings_at words.now)) self.old answer.new result self.new }
     {
         match words {
             [verb, a] => self.run_one(answer, verb, a),
@@ -351,6 +350,17 @@ fn filter_sizes(num_bits: &str, num_hashes: &str, seed: &str) -> Option<BloomFil
     let num_hashes = number_below(num_hashes, 1 << 16)? as u16;
     let seed = number_of(seed)?;
     Some(BloomFilterBuilder::with_size(num_bits, num_hashes).seed(seed))
+}
+
+/// Parses the kind of a report.
+fn report_of(word: &str) -> Option<ErrorType>
+    ensures { result ≡ report_of word.now }
+{
+    match word {
+        "fn" => Some(ErrorType::NoFalseNegatives),
+        "fp" => Some(ErrorType::NoFalsePositives),
+        _ => None,
+    }
 }
 
 /// Parses the kind of an image that is read without a seed.

@@ -1,6 +1,7 @@
 //! Examples of strings and chunks that are split into words and lines.
 use sketch_base::{
-    Separator, finished_lines, finished_words, first_separator, next_line, next_word,
+    Separator, finished_lines, finished_words, first_separator, first_words, from_utf8, next_line,
+    next_word,
 };
 
 /// Returns the bytes before the first space.
@@ -13,6 +14,17 @@ pub fn first_two(text: &str) -> (&str, &str) {
     let (first, rest) = next_word(text, Separator::AsciiWhitespace);
     let (second, _) = next_word(rest, Separator::AsciiWhitespace);
     (first, second)
+}
+
+/// Returns whether a string has exactly two words between spaces.
+pub fn is_pair(text: &str) -> bool {
+    let mut words = [""; 3];
+    first_words(text, Separator::Space, &mut words) == 2
+}
+
+/// Returns whether bytes are UTF-8.
+pub fn is_text(bytes: &[u8]) -> bool {
+    from_utf8(bytes).is_ok()
 }
 
 /// Returns the number of lines of a string.

@@ -91,6 +91,8 @@ use crate::strings::complete_lines;
 use crate::strings::complete_words;
 use crate::strings::first_field;
 use crate::strings::first_two;
+use crate::strings::is_pair;
+use crate::strings::is_text;
 use crate::strings::number_of_lines;
 use crate::windows::load_of_a_customer;
 use crate::windows::weight_of_the_first;
@@ -146,8 +148,10 @@ fn bytes_are_as_the_docs_say(rt: HostRuntime) {
 fn words_and_lines_are_as_the_docs_say(rt: HostRuntime) {
     assert!(rt; first_field(b"add apple 5") == b"add".as_slice());
     assert!(rt; first_two("  one\t\ntwo three") == ("one", "two"));
+    assert!(rt; is_pair(" one  two") && !is_pair("one two three"));
     assert!(rt; number_of_lines("one\r\n\ntwo") == 3);
     assert!(rt; complete_words(b"one two thr") == b"one two ".as_slice());
+    assert!(rt; is_text(b"caf\xC3\xA9") && !is_text(b"caf\xC3"));
     assert!(rt; complete_lines(b"one\ntwo\nthr") == b"one\ntwo\n".as_slice());
 }
 

@@ -1,9 +1,13 @@
+mod Ascii
 pub mod BothEnds
 pub mod Blocks
 pub mod DirectRemainder
+mod FirstWords
 pub mod KeptBytes
 pub mod LittleEndian
 mod MapHashing
+mod MarkedWords
+mod Marks
 pub mod ManyStrings
 pub mod Murmur3Pieces
 pub mod Rotation

@@ -3,19 +3,13 @@ use Rattle.std.proofs.Common.{◌≡◌, ◌≢◌, ℕ, ◌+◌, ◌-◌, ◌<�
 use Rattle.std.specs.List.{position_or_len, prefix_len, slice_range}
 use Rattle.std.proofs.lemmas.Bool.{cases_lt, ne_eqb}
 use Rattle.std.proofs.lemmas.List.Sums.{position_or_len_is}
-use Rattle.std.proofs.lemmas.Simd.{first_set_mask_l, leading_from_mask_l, run_in_chunk_fails, run_in_chunk_stops}
-use lib.Count.{count_trailing_zeros}
+use Rattle.std.proofs.lemmas.Simd.{first_set_mask_l, run_in_chunk_fails, run_in_chunk_stops}
+use Rattle.sketch_base.specs.Split.{lowest_mark}
 use lib.Lanes.{mask_l, chunk}
 
--- the lowest bit of the marks is the first place that is marked
-pub lowest_mark : (p : ℕ → Bool) (xs : List ℕ) (n marks : ℕ) → length xs ≡ n → n ≤ 64 → marks ≡ mask_l (map p xs) → marks ≢ 0 → count_trailing_zeros 64 marks ≡ position_or_len p xs
-lowest_mark p xs n marks long le e some =
-    let some' : eqb (mask_l (map p xs)) 0 ≡ false = ne_eqb (mask_l (map p xs)) 0 (λ z. some (e ∙ z)) in
-    ap (count_trailing_zeros 64) e ∙ (rw some' at (first_set_mask_l p xs n long le))
-
--- and where none is marked, the place is their number
-pub no_mark : (p : ℕ → Bool) (xs : List ℕ) (n marks : ℕ) → length xs ≡ n → marks ≡ mask_l (map p xs) → marks ≡ 0 → n ≡ position_or_len p xs
-no_mark p xs n marks long e none = sym (leading_from_mask_l p xs (sym e ∙ none) ∙ long)
+-- the lowest mark is that of the first place that passes
+pub lowest_is_first : (p : ℕ → Bool) (xs : List ℕ) (n marks : ℕ) → length xs ≡ n → n ≤ 64 → marks ≡ mask_l (map p xs) → lowest_mark marks n ≡ position_or_len p xs
+lowest_is_first p xs n marks long few e = ap (λ m. lowest_mark m n) e ∙ first_set_mask_l p xs n long few
 
 -- a range by its length
 pub range_by_length : (xs : List ℕ) (at n : ℕ) → slice_range xs at (at + n) ≡ chunk at n xs

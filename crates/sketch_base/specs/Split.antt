@@ -1,7 +1,8 @@
 -- The words and the lines of a string.
-use Rattle.std.specs.Prelude.{◌≡◌, ℕ, ◌-◌, ◌<◌, ◌==◌, Bool, true, false, nat_lt, List, [], ◌∷◌, ◌++◌, filter, length, take, drop, Option, MatchOption, slice_index}
+use Rattle.std.specs.Prelude.{◌≡◌, ℕ, ◌-◌, ◌<◌, ◌==◌, Bool, true, false, cond, nat_lt, List, [], ◌∷◌, ◌++◌, filter, length, take, drop, Option, MatchOption, slice_index}
 use Rattle.std.specs.Borrow.{Bor}
 use Rattle.std.specs.Char.{is_ascii_whitespace}
+use Rattle.std.specs.Int.{w64, trailing_zeros}
 use Rattle.std.specs.List.{All, slice_split}
 use Rattle.std.specs.Str.{IsUtf8}
 use Rattle.std.specs.Str.Lines.{lines}
@@ -13,6 +14,10 @@ abbrev pub separates : Separator → ℕ → Bool
 separates Space byte = byte == 32
 separates LineFeed byte = byte == 10
 separates AsciiWhitespace byte = is_ascii_whitespace byte
+
+-- the index of the lowest bit of a number of 64 bits that is set, or another one if none is
+abbrev pub lowest_mark : ℕ → ℕ → ℕ
+lowest_mark marks none = cond (marks == 0) none (trailing_zeros w64 marks)
 
 -- the words: the nonempty parts between separators
 abbrev pub words_by : Separator → List ℕ → List (List ℕ)

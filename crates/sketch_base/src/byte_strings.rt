@@ -7,6 +7,7 @@ ghost use Rattle.sketch_base.specs.Strings.{strings_at};
 use crate::error::Error;
 use crate::fault::Fault;
 use crate::strings::Strings;
+use crate::utf8::from_utf8;
 use std::marker::Model;
 
 /// Returns whether each slice is UTF-8.
@@ -14,7 +15,7 @@ fn are_utf8(items: &[&[u8]]) -> bool
     ensures { IsTrue result ↔ All IsUtf8 (strings_at items.now) }
 {
     'each: for i in 0..items.len() {
-        let Ok(_) = str::from_utf8(items[i]) else {
+        let Ok(_) = from_utf8(items[i]) else {
             return false;
         };
     }

@@ -9,6 +9,7 @@
 //!   [`keyed_hash_of_str`] hash a whole item and a string. [`MapState`] hashes the keys of a map.
 //! - [`RehashableItem`] hashes one item under several seeds. It feeds an item of few bytes once, and keeps them as
 //!   [`ShortBytes`]. [`RehashableStr`] does so for a string. Both kinds of bytes are [`Rehashable`].
+//! - [`from_utf8`] returns the string of bytes, fast for short ones.
 //! - [`Strings`] are many strings in order: `&[&str]`, [`OffsetStrings`] of one buffer, or [`ByteStrings`].
 //! - [`compute_seed_hash`] hashes a seed, and [`check_seed_hash`] compares two such hashes.
 //! - [`SketchSlice`] reads numbers from bytes, and [`SketchBytes`] writes them. Contracts see the bytes that are
@@ -17,8 +18,8 @@
 //! - [`Family`] names a kind of sketch in an image. An [`Error`] has a kind and a [`Fault`], its cause.
 //! - [`laws`] states the values of the constants.
 //! - [`Divisor`] computes remainders by a precomputed number without a division.
-//! - [`next_word`] and [`next_line`] split strings. [`finished_words`] and [`finished_lines`] tell where a chunk of a
-//!   stream can be split.
+//! - [`next_word`], [`first_words`] and [`next_line`] split strings. [`finished_words`] and [`finished_lines`] tell
+//!   where a chunk of a stream can be split.
 #![tactic(auto)]
 
 mod byte_strings;
@@ -30,6 +31,7 @@ pub mod image;
 mod item_hash;
 pub mod laws;
 mod map_state;
+mod marked_text;
 mod murmurhash;
 mod offset_strings;
 mod rehashable_item;
@@ -45,6 +47,7 @@ mod sketch_slice;
 mod split;
 mod str_hash;
 mod strings;
+mod utf8;
 mod words;
 mod xxhash;
 
@@ -65,7 +68,8 @@ pub use short_bytes::ShortBytes;
 pub use sip_hash::{HashKey, keyed_hash};
 pub use sketch_bytes::SketchBytes;
 pub use sketch_slice::SketchSlice;
-pub use split::{finished_lines, finished_words, next_line, next_word};
+pub use split::{finished_lines, finished_words, first_words, next_line, next_word};
 pub use str_hash::{keyed_hash_of_str, murmur3_of_str, xxh64_of_str};
 pub use strings::Strings;
+pub use utf8::from_utf8;
 pub use xxhash::XxHash64;

@@ -1,8 +1,8 @@
 //! The bytes that separate words, and the search for the first of them.
-ghost use Rattle.std.specs.Prelude.{◌≡◌, ◌+◌, ◌≤◌, length, map};
+ghost use Rattle.std.specs.Prelude.{◌≡◌, ◌+◌, ◌<◌, ◌≤◌, length, map};
 ghost use Rattle.std.specs.List.{position_or_len, slice_range};
 ghost use Rattle.std.specs.Simd.Lanes.{mask_l};
-ghost use Rattle.sketch_base.specs.Split.{separates};
+ghost use Rattle.sketch_base.specs.Split.{lowest_mark, separates};
 
 use std::simd::prelude::*;
 
@@ -48,6 +48,44 @@ impl Separator {
                 (after_line | after_page | lanes.simd_eq(Simd::splat(b' '))).to_bitmask()
             }
         }
+    }
+
+    /// Returns a number whose bit `i` is set exactly if byte `i` stands between words.
+    #[inline(always)]
+    pub(crate) fn marks_of(self, bytes: &[u8]) -> u64
+        requires { length bytes.now ≤ 64 }
+        ensures { result ≡ mask_l (map (separates self) bytes.now) }
+    {
+        if bytes.len() >= 16 {
+            self.marks_by::<16>(bytes)
+        } else if bytes.len() >= 8 {
+            self.marks_by::<8>(bytes)
+        } else if !bytes.is_empty() {
+            self.marks_by::<1>(bytes)
+        } else {
+            0
+        }
+    }
+
+    /// Returns the same for at least `N` bytes, of which it sees `N` at a time.
+    #[inline(always)]
+    fn marks_by<const N: usize>(self, bytes: &[u8]) -> u64
+        requires lanes { 0 < N }
+        requires enough { N ≤ length bytes.now }
+        requires few { length bytes.now ≤ 64 }
+        ensures { result ≡ mask_l (map (separates self) bytes.now) }
+    {
+        let last = bytes.len() - N;
+        let mut marks = 0;
+        let mut at = 0;
+        while at < last {
+            let found = self.marks(Simd::<u8, N>::from_slice(&bytes[at..]));
+            marks += found << at;
+            at += N;
+        }
+        // some of the last bytes may have been seen
+        let found = self.marks(Simd::<u8, N>::from_slice(&bytes[last..])) >> (at - last);
+        marks + (found << at)
     }
 }
 
@@ -95,9 +133,16 @@ fn first_separator_in<const N: usize>(bytes: &[u8], at: usize, separator: Separa
     requires room { at + N ≤ length bytes.now }
     ensures { result ≡ position_or_len (separates separator) (slice_range bytes.now at (at + N)) }
 {
-    let marks = separator.marks(Simd::<u8, N>::from_slice(&bytes[at..]));
+    lowest_mark(separator.marks(Simd::<u8, N>::from_slice(&bytes[at..])), N)
+}
+
+/// Returns the index of the lowest bit that is set, or `len` if none is.
+#[inline(always)]
+pub(crate) fn lowest_mark(marks: u64, len: usize) -> usize
+    ensures { result ≡ lowest_mark marks len }
+{
     if marks == 0 {
-        N
+        len
     } else {
         marks.trailing_zeros() as usize
     }

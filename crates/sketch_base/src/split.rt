@@ -1,9 +1,11 @@
 //! Splits strings into words and lines.
-ghost use Rattle.std.specs.Prelude.{◌≡◌, ◌+◌, ◌≤◌, length};
+ghost use Rattle.std.specs.Prelude.{◌≡◌, ◌+◌, ◌≤◌, length, take};
 ghost use Rattle.std.specs.Str.Lines.{lines, strip_carriage_return};
 ghost use Rattle.sketch_base.specs.Split.{CutsUtf8, IsBehindLast, SplitsAt, TakesLine, separates, with_word, words_by};
+ghost use Rattle.sketch_base.specs.Strings.{strings_at};
 ghost use Rattle.sketch_base.specs.declared.separator.Separator.TheVariants.{LineFeed};
 
+use crate::marked_text::MarkedText;
 use crate::separator::{Separator, first_separator};
 
 /// Returns the first word of a string and the string after it. The word is empty if there is none.
@@ -31,6 +33,37 @@ pub fn next_word(text: &str, separator: Separator) -> (&str, &str)
     }
     let (_, text) = text.split_at(start);
     text.split_at(first_separator(text.as_bytes(), separator))
+}
+
+/// Writes the first words of a string to an array, as many as it has elements. Returns their number.
+///
+/// # Examples
+///
+/// ```
+/// use sketch_base::{Separator, first_words};
+///
+/// fn is_pair(text: &str) -> bool {
+///     let mut words = [""; 3];
+///     first_words(text, Separator::Space, &mut words) == 2
+/// }
+/// ```
+#[inline(always)]
+pub fn first_words<'a>(text: &'a str, separator: Separator, words: &mut [&'a str]) -> usize
+    ensures few { result ≤ length words.new }
+    ensures words { strings_at (take result words.new)
+        ≡ take (length words.old) (words_by separator text.now) }
+{
+    let mut rest = MarkedText::new(text, separator);
+    let mut count = 0;
+    while count < words.len() {
+        let word = rest.next_word();
+        if word.is_empty() {
+            return count;
+        }
+        words[count] = word;
+        count += 1;
+    }
+    count
 }
 
 /// Returns the first line of a string and the string after its end, or `None` if the string is empty.

@@ -6,7 +6,7 @@ ghost use Rattle.sketch_base.specs.Errors.{no_memory, invalid_argument, invalid_
 ghost use Rattle.sketch_frequencies.specs.Items.{Codec, IsLawful, Writes, Reads, IsWritingRefusal, IsReadingRefusal, AddsBytes, TakesBytes, text_codec, text_encoding, text_reading, text_taken, IsTextRefusal};
 
 use sketch_base::image::check_length;
-use sketch_base::{Error, Fault, SketchBytes, SketchSlice};
+use sketch_base::{Error, Fault, SketchBytes, SketchSlice, from_utf8};
 use std::alloc::Global;
 use std::hash::Hash;
 
@@ -305,7 +305,7 @@ fn text_of(alloc: Global, unread: &[u8], len: usize) -> Result<String, Error>
     ensures err { IfErr result (IsTextRefusal len unread.now) }
 {
     check_length(unread, len)?;
-    let Ok(text) = std::str::from_utf8(&unread[..len]) else {
+    let Ok(text) = from_utf8(&unread[..len]) else {
         return Err(Error::invalid_data(Fault::InvalidUtf8));
     };
     Ok(String::from_str(alloc, text)?)

@@ -1,6 +1,6 @@
 use Rattle.std.proofs.Common.{◌≢◌, ◌∙◌, get_or, refl}
 use Rattle.datasketches_cli.proofs.Numbers.{number_from_parse, first_plain}
-use Rattle.datasketches_cli.proofs.parse.number.number_of.Goals as goal
+use Rattle.datasketches_cli.proofs.number.number_of.Goals as goal
 
 pub returns : goal.returns
 returns c =

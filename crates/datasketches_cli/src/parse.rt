@@ -1,4 +1,0 @@
-//! Parsing of words.
-
-pub mod number;
-pub mod words;
