@@ -121,4 +121,8 @@ pub fn clusters_keep_histories<T: FrequentItemValue>()
     ensures budget { KeepsBudgetOfAllStreams T.eq T.codec T.content }
     ensures cells { CellsAreSharesOfAllStreams T.eq T.codec T.content }
     ensures contains { ContainsWhatAnyContains T.eq T.codec T.content }
-{}
+{
+    frequencies::stream_bounds::<T>();
+    countmin::stream_cells();
+    bloom::parts_are_contained();
+}
