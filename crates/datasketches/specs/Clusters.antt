@@ -1,4 +1,4 @@
--- Many sessions: what they load from one another, and what holds for all their streams together.
+-- Many sessions: what they load from one another, and what holds of their sketches.
 use Rattle.std.specs.Prelude.{◌≡◌, ℕ, Bool, true, List, [], Option, Some, None}
 use Rattle.std.specs.List.{Contains}
 use Rattle.std.specs.Global.{Global}
@@ -7,17 +7,11 @@ use Rattle.sketch_bloom.specs.History.{BloomHistory}
 use Rattle.sketch_bloom.specs.Parts.{parts_of}
 use Rattle.sketch_bloom.specs.State.{FilterState, IsCompatible, contains_item}
 use Rattle.sketch_countmin.specs.History as count
-use Rattle.sketch_countmin.specs.History.{CountHistory}
-use Rattle.sketch_countmin.specs.State.{CountState}
-use Rattle.sketch_countmin.specs.Streams.{CellsAreSharesOfStreams}
-use Rattle.sketch_frequencies.specs.History.{FrequentHistory}
 use Rattle.sketch_frequencies.specs.Items.{Codec}
-use Rattle.sketch_frequencies.specs.State.{FrequentState}
-use Rattle.sketch_frequencies.specs.Streams.{EnclosesStreams, KeepsBudgetOfStreams}
 use Rattle.datasketches.specs.Actions.{Action}
 use Rattle.datasketches.specs.Histories.{History, Assignment, nothing_named, after_action, after_action_told}
 use Rattle.datasketches.specs.Histories.History.{OfFrequent, OfCountI64, OfCountU64, OfBloom, OfStranger}
-use Rattle.datasketches.specs.Laws.{IsNamed, IsCounted}
+use Rattle.datasketches.specs.Laws.{IsNamed}
 use Rattle.datasketches.specs.SessionStandsFor.{SessionStandsFor}
 use Rattle.datasketches.specs.Stands.{IsSketch}
 use Rattle.datasketches.specs.State.{SessionState}
@@ -28,7 +22,7 @@ use Rattle.datasketches.specs.declared.image_kind.ImageKind.TheVariants as kind
 use Rattle.datasketches.specs.declared.reply.Reply.{Reply}
 use Rattle.datasketches.specs.declared.reply.Reply.TheVariants.{Image as Shown}
 use Rattle.datasketches.specs.declared.sketch.Sketch.{Sketch}
-use Rattle.datasketches.specs.declared.sketch.Sketch.TheVariants.{Frequent, Bloom}
+use Rattle.datasketches.specs.declared.sketch.Sketch.TheVariants.{Bloom}
 
 -- ---- from one session to another
 
@@ -108,23 +102,9 @@ module _ {T C : Type 0} (slot : ℕ) (eq : T → T → Bool) (input : T → List
   abbrev pub ProcessStandsForHistories : Type 0
   ProcessStandsForHistories = (p : Process T) → IsProcess p → SessionStandsFor eq codec content (session_of p) (histories_of input p)
 
--- ---- all streams of a sketch
+-- ---- sketches of sessions
 
 module _ {T C : Type 0} (eq : T → T → Bool) (codec : Codec C) (content : T → C) where
-  -- each true weight, summed over all streams, lies between the item's count and that count plus the error
-  abbrev pub EnclosesAllStreams : Type 0
-  EnclosesAllStreams = (s : FrequentState T) (h : FrequentHistory T) → IsNamed eq codec content (Frequent s) (OfFrequent h)
-      → EnclosesStreams eq s h
-
-  -- the tail budget is kept for all streams together, with the minimum sample size of the streams
-  abbrev pub KeepsBudgetOfAllStreams : Type 0
-  KeepsBudgetOfAllStreams = (s : FrequentState T) (h : FrequentHistory T) → IsNamed eq codec content (Frequent s) (OfFrequent h)
-      → KeepsBudgetOfStreams eq s h
-
-  -- each cell is its bucket's share of all streams
-  abbrev pub CellsAreSharesOfAllStreams : Type 0
-  CellsAreSharesOfAllStreams = (s : CountState) (h : CountHistory) → IsCounted eq codec content s h → CellsAreSharesOfStreams s h
-
   -- a filter contains what a compatible filter of any of its parts contains
   abbrev pub ContainsWhatAnyContains : Type 0
   ContainsWhatAnyContains = (s part : FilterState) (h g : BloomHistory)
