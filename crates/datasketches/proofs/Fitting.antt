@@ -5,25 +5,23 @@ use Rattle.std.specs.Option.{option_map}
 use Rattle.std.specs.Str.{bytes_eq}
 use Rattle.std.proofs.lemmas.Bool.{true≢false}
 use Rattle.std.proofs.lemmas.Slice.Eq.{bytes_eq-Decides}
-use Rattle.sketch_base.specs.Errors.{ErrorValue}
-use Rattle.sketch_base.specs.declared.fault.Fault.{Fault}
+use Rattle.sketch_base.specs.Errors.{ErrorValue, refusal_of}
 use Rattle.sketch_frequencies.specs.Items.{Codec}
 use Rattle.datasketches.specs.Actions.{Action, Action as action, Change, Join, Shape}
 use Rattle.datasketches.specs.Changing.{Changes}
 use Rattle.datasketches.specs.SessionStandsFor.{Paired, SessionStandsFor}
 use Rattle.datasketches.specs.Histories.{Assignment, History, accepted_told, put_at, begun, changed, joined, of_both, restored}
-use Rattle.datasketches.specs.Images.{Image, IsSavedOf, IsImageOf, IsWrittenBy, IsReadFrom, IsReadRefusal, IsWriteRefusal, IsLoadRefusal, GivesBack}
+use Rattle.datasketches.specs.Images.{Image, IsSavedOf, IsImageOf, IsWrittenBy, IsReadRefusal, IsWriteRefusal, IsLoadRefusal}
 use Rattle.datasketches.specs.Joining.{Joins}
 use Rattle.datasketches.specs.Loading.{IsActionTold}
 use Rattle.datasketches.specs.Names.{at_name, Puts, AreSame}
-use Rattle.datasketches.specs.Replies.{is_refused, refused}
-use Rattle.datasketches.specs.Shapes.{empty_sketch, fault_of}
+use Rattle.datasketches.specs.Replies.{is_refused}
+use Rattle.datasketches.specs.Shapes.{fault_of}
 use Rattle.datasketches.specs.Stands.{StandsFor, Does, DoesWith}
 use Rattle.datasketches.specs.State.{SessionState, IsUnchanged}
-use Rattle.datasketches.specs.Steps.{OnSketch, Creates, MakesEmpty, JoinsNamed, JoinsApart, MakesFrom, Writes, Reads, Loads, IsLoaded, Refuses, Performs}
+use Rattle.datasketches.specs.Steps.{OnSketch, Stores, Creates, IsCreated, JoinsNamed, JoinsApart, MakesFrom, Writes, Reads, IsRestored, Loads, IsLoaded, Performs}
 use Rattle.datasketches.specs.declared.image_kind.ImageKind.{ImageKind}
 use Rattle.datasketches.specs.declared.reply.Reply.{Reply}
-use Rattle.datasketches.specs.declared.reply.Reply.TheVariants.{Done}
 use Rattle.datasketches.specs.declared.sketch.Sketch.{Sketch}
 use Rattle.datasketches.proofs.Saved.{saved_stands}
 
@@ -146,20 +144,19 @@ module _ {T C : Type 0} (slot : ℕ) (eq : T → T → Bool) (input : T → List
   combines join into other (Some sketch) None reply old new e f joins images = let done = rw (e, f) at joins in inl (ap is_refused done.0, record { sketches = done.1; images = images })
   combines join into other (Some sketch) (Some from) reply old new e f joins images = joins_as join into other sketch from (bytes_eq into other) reply old new refl e f (rw (e, f) at joins) images
 
-  -- a new sketch
-  makes : (shape : Shape) (name : List ℕ) (reply : Reply T) (old new : SessionState T) → MakesEmpty eq name shape old.sketches reply new.sketches → AreSame old.images new.images → Outcome (action.Create name shape) reply old new
-  makes shape name reply old new (inl done) images = inr (
-    ap is_refused done.0,
-    λ a loaded fits told.
-        with_sketch eq codec content (λ (u : ⊤). StandsFor eq (empty_sketch shape)) (λ h. h) name tt (empty_sketch shape) (Some (begun shape)) old new a fits done.2 (λ h stands. stands) done.1 images,
-  )
-  makes shape name reply old new (inr done) images = inl (ap is_refused done.0, record { sketches = done.1; images = images })
+  -- a value that was stored under a name, or not
+  stores : {V : Type 0} (Good : V → Type 0) (Why : ErrorValue → Type 0) (name : List ℕ) (values left : List (List ℕ × V)) (action : Action T) (reply : Reply T) (old new : SessionState T) → (AreSame values left → IsUnchanged old new) →
+      ((value : V) → Good value → Puts name value values left → (a : Assignment T) (loaded : History T) → SessionStandsFor eq codec content old a → IsActionTold eq codec content action loaded → SessionStandsFor eq codec content new (accepted_told input a action loaded)) →
+      Stores Good Why name values reply left → Outcome action reply old new
+  stores Good Why name values left action reply old new same made (inl (value, reply_is, good, puts)) = inr (ap is_refused reply_is, made value good puts)
+  stores Good Why name values left action reply old new same made (inr (error, why, (reply_is, kept))) = inl (ap is_refused reply_is, same kept)
 
-  creates : (shape : Shape) (name : List ℕ) (found : Option (Sketch T)) (fault : Option Fault) (reply : Reply T) (old new : SessionState T) → at_name name old.sketches ≡ found → fault_of shape ≡ fault →
-      Creates eq shape name old.sketches reply new.sketches → AreSame old.images new.images → Outcome (action.Create name shape) reply old new
-  creates shape name (Some sketch) fault reply old new e f step images = let done = rw e at step in inl (ap is_refused done.0, record { sketches = done.1; images = images })
-  creates shape name None (Some fault) reply old new e f step images = let done = rw (e, f) at step in inl (ap is_refused done.0, record { sketches = done.1; images = images })
-  creates shape name None None reply old new e f step images = makes shape name reply old new (rw (e, f) at step) images
+  -- a new sketch
+  creates : (shape : Shape) (name : List ℕ) (found : Option (Sketch T)) (reply : Reply T) (old new : SessionState T) → at_name name old.sketches ≡ found → Creates eq shape name old.sketches reply new.sketches → AreSame old.images new.images → Outcome (action.Create name shape) reply old new
+  creates shape name (Some sketch) reply old new e step images = let done = rw e at step in inl (ap is_refused done.0, record { sketches = done.1; images = images })
+  creates shape name None reply old new e step images =
+      stores (IsCreated eq shape) (λ why. why ≡ refusal_of (fault_of shape)) name old.sketches new.sketches (action.Create name shape) reply old new (λ sketches. record { sketches = sketches; images = images })
+      (λ sketch made puts a loaded fits told. with_sketch eq codec content (λ (u : ⊤). StandsFor eq sketch) (λ h. h) name tt sketch (Some (begun shape)) old new a fits made.stands (λ h stands. stands) puts images) (rw e at step)
 
   -- something is made of what one name has, or nothing is
   makes_from : {V W : Type 0} (source : Option V) (taken : Option W) (Makes : V → Type 0) (action : Action T) (reply : Reply T) (old new : SessionState T) → ((value : V) → source ≡ Some value → Makes value → Outcome action reply old new) →
@@ -170,42 +167,27 @@ module _ {T C : Type 0} (slot : ℕ) (eq : T → T → Bool) (input : T → List
 
   -- an image that is saved
   writes : (name image : List ℕ) (sketch : Sketch T) (reply : Reply T) (old new : SessionState T) → at_name name old.sketches ≡ Some sketch → Writes codec content sketch image old reply new → Outcome (action.Save name image) reply old new
-  writes name image sketch reply old new e done = wrote done.sketches done.outcome
-    where
-      wrote : AreSame old.sketches new.sketches → ((saved : Image) × (reply ≡ Done) × IsWrittenBy codec content sketch saved.kind saved.bytes × Puts image saved old.images new.images) ⊎ ((e : ErrorValue) × IsWriteRefusal codec content sketch e × Refuses (refused e) old.images reply new.images) → Outcome (action.Save name image) reply old new
-      wrote sketches (inl (saved, reply_is, written, puts)) = inr (
-        ap is_refused reply_is,
-        λ a loaded fits told.
-            let pair : Paired (StandsFor eq) (Some sketch) (a.sketches name) = rw e at (fits.sketches name) in
-            with_image eq codec content image sketch saved (a.sketches name) old new a fits pair written puts sketches,
-      )
-      wrote sketches (inr (error, why, (reply_is, images))) = inl (ap is_refused reply_is, record { sketches = sketches; images = images })
+  writes name image sketch reply old new e done =
+      stores (λ (saved : Image). IsWrittenBy codec content sketch saved.kind saved.bytes) (IsWriteRefusal codec content sketch) image old.images new.images (action.Save name image) reply old new (λ images. record { sketches = done.sketches; images = images })
+      (λ saved written puts a loaded fits told.
+      let pair : Paired (StandsFor eq) (Some sketch) (a.sketches name) = rw e at (fits.sketches name) in
+      with_image eq codec content image sketch saved (a.sketches name) old new a fits pair written puts done.sketches) done.outcome
 
   -- an image that is restored
   reads : (image name : List ℕ) (saved : Image) (reply : Reply T) (old new : SessionState T) → at_name image old.images ≡ Some saved → Reads eq codec content saved name old reply new → Outcome (action.Restore image name) reply old new
-  reads image name saved reply old new e done = read done.images done.outcome
-    where
-      read : AreSame old.images new.images → ((sketch : Sketch T) × (reply ≡ Done) × IsReadFrom codec content saved.kind saved.bytes sketch × GivesBack eq codec content saved.kind saved.bytes sketch × Puts name sketch old.sketches new.sketches) ⊎ ((e : ErrorValue) × IsReadRefusal codec saved.kind saved.bytes e × Refuses (refused e) old.sketches reply new.sketches) → Outcome (action.Restore image name) reply old new
-      read images (inl (sketch, reply_is, from, back, puts)) = inr (
-        ap is_refused reply_is,
-        λ a loaded fits told.
-            let pair : Paired (IsSavedOf eq codec content) (Some saved) (a.images image) = rw e at (fits.images image) in
-            with_sketch eq codec content (IsSavedOf eq codec content) restored name saved sketch (a.images image) old new a fits pair back puts images,
-      )
-      read images (inr (error, why, (reply_is, sketches))) = inl (ap is_refused reply_is, record { sketches = sketches; images = images })
+  reads image name saved reply old new e done =
+      stores (IsRestored eq codec content saved) (IsReadRefusal codec saved.kind saved.bytes) name old.sketches new.sketches (action.Restore image name) reply old new (λ sketches. record { sketches = sketches; images = done.images })
+      (λ sketch back puts a loaded fits told.
+      let pair : Paired (IsSavedOf eq codec content) (Some saved) (a.images image) = rw e at (fits.images image) in
+      with_sketch eq codec content (IsSavedOf eq codec content) restored name saved sketch (a.images image) old new a fits pair back.1 puts done.images) done.outcome
 
   -- an image that is loaded
   loads : (kind : ImageKind) (bytes : List ℕ) (max_bytes : ℕ) (name : List ℕ) (found : Option (Sketch T)) (reply : Reply T) (old new : SessionState T) → at_name name old.sketches ≡ found → Loads slot eq codec content kind bytes max_bytes name old reply new → Outcome (action.Load name kind bytes max_bytes) reply old new
   loads kind bytes max_bytes name (Some sketch) reply old new e step = let done = rw e at step in inl (ap is_refused done.1, done.0)
-  loads kind bytes max_bytes name None reply old new e step = let done = rw e at step in brought done.images done.outcome
-    where
-      brought : AreSame old.images new.images → ((sketch : Sketch T) × (reply ≡ Done) × IsLoaded slot eq codec content kind bytes max_bytes sketch × Puts name sketch old.sketches new.sketches) ⊎ ((e : ErrorValue) × IsLoadRefusal slot codec max_bytes kind bytes e × Refuses (refused e) old.sketches reply new.sketches) → Outcome (action.Load name kind bytes max_bytes) reply old new
-      brought images (inl (sketch, reply_is, loaded, puts)) = inr (
-        ap is_refused reply_is,
-        λ a history fits told.
-            with_sketch eq codec content (λ (u : ⊤). IsImageOf eq codec content kind bytes) restored name tt sketch (Some history) old new a fits told loaded.stands puts images,
-      )
-      brought images (inr (error, why, (reply_is, sketches))) = inl (ap is_refused reply_is, record { sketches = sketches; images = images })
+  loads kind bytes max_bytes name None reply old new e step =
+      let done = rw e at step in
+      stores (IsLoaded slot eq codec content kind bytes max_bytes) (IsLoadRefusal slot codec max_bytes kind bytes) name old.sketches new.sketches (action.Load name kind bytes max_bytes) reply old new (λ sketches. record { sketches = sketches; images = done.images })
+      (λ sketch brought puts a history fits told. with_sketch eq codec content (λ (u : ⊤). IsImageOf eq codec content kind bytes) restored name tt sketch (Some history) old new a fits told brought.stands puts done.images) done.outcome
 
   -- a query
   tells : (action : Action T) (r : Bool) (reply : Reply T) (old new : SessionState T) → is_refused reply ≡ r → IsUnchanged old new → ((a : Assignment T) (loaded : History T) → accepted_told input a action loaded ≡ a) → Outcome action reply old new
@@ -213,7 +195,7 @@ module _ {T C : Type 0} (slot : ℕ) (eq : T → T → Bool) (input : T → List
   tells action false reply old new r same query = inr (r, λ a loaded fits told. subst (SessionStandsFor eq codec content new) (sym (query a loaded)) (unchanged_fits eq codec content old new a fits same))
 
   pub outcome_of : (action : Action T) (reply : Reply T) (old new : SessionState T) → Performs slot eq input codec content old action reply new → Outcome action reply old new
-  outcome_of (action.Create name shape) reply old new step = creates shape name (at_name name old.sketches) (fault_of shape) reply old new refl refl step.0 step.1
+  outcome_of (action.Create name shape) reply old new step = creates shape name (at_name name old.sketches) reply old new refl step.0 step.1
   outcome_of (action.Alter name change) reply old new step = alters change name (at_name name old.sketches) reply old new refl step.0 step.1
   outcome_of (action.Combine into other join) reply old new step = combines join into other (at_name into old.sketches) (at_name other old.sketches) reply old new refl refl step.0 step.1
   outcome_of (action.Save name image) reply old new step =

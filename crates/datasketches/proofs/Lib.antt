@@ -9,5 +9,4 @@ pub mod Saved
 pub mod Saving
 pub mod Stepping
 pub mod Steps
-pub mod Streams
 pub mod Taking

@@ -5,8 +5,10 @@ use Rattle.std.specs.List.{slice_get}
 use Rattle.std.specs.Option.{IfSome, is_some}
 use Rattle.std.specs.Str.{bytes_eq}
 use Rattle.std.specs.String.{string_bytes, string_eq}
+use Rattle.std.proofs.Math.Seq.{take-append_seam}
 use Rattle.std.proofs.lemmas.List.{length-set, length-append}
 use Rattle.std.proofs.lemmas.Map.Text.{hash_map_updates_text}
+use Rattle.std.proofs.lemmas.Option.{slice_get-get_or}
 use Rattle.std.proofs.lemmas.Slice.Eq.{bytes_eq-Decides}
 use Rattle.datasketches.specs.Names.{Name, index_of, at_index, with_first, listed, AreIndices, at_name, Puts, AreSame}
 
@@ -20,12 +22,6 @@ free_name asked name values contained not is same =
     none_from (at_name name values) (subst (λ (n : List ℕ). is_some (at_name n values) ≡ false) same (sym is ∙ not))
 
 -- ---- indices of a list
-
--- what stands at a index within the list
-pub get_here : {X : Type 0} (xs : List X) (i : ℕ) (d : X) → i < length xs → slice_get xs i ≡ Some (get_or xs i d)
-get_here [] i d h = absurd (omega (arith, h))
-get_here (x ∷ xs) zero d h = refl
-get_here (x ∷ xs) (suc i) d h = get_here xs i d (omega (arith, h))
 
 -- after a write at a index, that index and the others
 pub get_set : {X : Type 0} (xs : List X) (i : ℕ) (x : X) → i < length xs → slice_get (set xs i x) i ≡ Some x
@@ -63,7 +59,7 @@ index_below entries count name index are e = subst (λ (o : Option ℕ). IfSome 
 first_here : {V : Type 0} → (values : List V) (name key : List ℕ) (index : ℕ) (found : Option V) (rest : List (List ℕ × V)) → bytes_eq name key ≡ true → slice_get values index ≡ found → index < length values → at_name name (with_first key found rest) ≡ found
 first_here values name key index (Some value) rest e f below = rw e refl
 first_here [] name key index None rest e f below = absurd (omega (arith, below))
-first_here (s ∷ ss) name key index None rest e f below = let here = get_here (s ∷ ss) index s below in cc
+first_here (s ∷ ss) name key index None rest e f below = let here = slice_get-get_or (s ∷ ss) index s below in cc
 
 skips : {V : Type 0} → (name key : List ℕ) (found : Option V) (rest : List (List ℕ × V)) → bytes_eq name key ≡ false → at_name name (with_first key found rest) ≡ at_name name rest
 skips name key None rest e = refl
@@ -97,7 +93,7 @@ is_named entries values now name are view = ap is_some (ap (at_name name) (sym v
 -- the value at a index that was found
 pub value_found : {V : Type 0} → (entries : List (Name × ℕ)) (values : List V) (now : List (List ℕ × V)) (name : List ℕ) (index : ℕ) (d : V) → AreIndices entries (length values) → listed entries values ≡ now → Some index ≡ index_of name entries → at_name name now ≡ Some (get_or values index d)
 value_found entries values now name index d are view e =
-    ap (at_name name) (sym view) ∙ by_index entries values name (are.below name) ∙ ap (λ (o : Option ℕ). at_index o values) (sym e) ∙ get_here values index d (index_below entries (length values) name index are e)
+    ap (at_name name) (sym view) ∙ by_index entries values name (are.below name) ∙ ap (λ (o : Option ℕ). at_index o values) (sym e) ∙ slice_get-get_or values index d (index_below entries (length values) name index are e)
 
 -- the same, by what stands at the index
 pub placed_at : {V : Type 0} → (entries : List (Name × ℕ)) (values : List V) (now : List (List ℕ × V)) (name : List ℕ) (index : ℕ) (value : V) → AreIndices entries (length values) → listed entries values ≡ now → Some index ≡ index_of name entries → slice_get values index ≡ Some value → at_name name now ≡ Some value
@@ -186,8 +182,4 @@ not_added {V} old new before after now view e s = λ name. ap (λ (entries : Lis
 
 -- a last element that was pushed is taken off
 pub taken_off : {V : Type 0} → (values pushed left : List V) (value : V) (index : ℕ) → pushed ≡ values ++ value ∷ [] → index ≡ length values → left ≡ take index pushed → left ≡ values
-taken_off {V} values pushed left value index p e l = l ∙ ap (λ (n : ℕ). take n pushed) e ∙ ap (take (length values)) p ∙ take_front values
-  where
-    take_front : (xs : List V) → take (length xs) (xs ++ value ∷ []) ≡ xs
-    take_front [] = refl
-    take_front (x ∷ xs) = ap (λ (l : List V). x ∷ l) (take_front xs)
+taken_off {V} values pushed left value index p e l = l ∙ ap (λ (n : ℕ). take n pushed) e ∙ ap (take (length values)) p ∙ take-append_seam values (value ∷ [])

@@ -1,13 +1,12 @@
 -- Calls of a session, by the clauses of the calls beneath.
-use Rattle.std.proofs.Common.{◌≡◌, ℕ, Bool, true, false, List, Option, Some, None, inl, inr, refl, sym, ◌∙◌, ap, subst}
+use Rattle.std.proofs.Common.{◌≡◌, ℕ, Bool, true, false, List, Option, Some, None, inl, inr, refl, sym, ap, subst}
 use Rattle.std.specs.Prelude.{Result, Ok, Err, ⊤, IsTrue, IfErr, IfOk, IsOk, OnErr, OnOk}
 use Rattle.std.specs.Global.{Global}
 use Rattle.std.specs.declared.vec.Vec.{Vec}
-use Rattle.std.specs.Option.{MatchOption, is_some}
-use Rattle.sketch_base.specs.Errors.{ErrorValue, invalid_argument, no_memory, refusal_of}
-use Rattle.sketch_base.specs.declared.fault.Fault.{Fault}
+use Rattle.std.specs.Option.{is_some}
+use Rattle.sketch_base.specs.Errors.{ErrorValue, no_memory, refusal_of}
 use Rattle.sketch_frequencies.specs.Items.{Codec}
-use Rattle.datasketches.specs.Actions.{Action, Change}
+use Rattle.datasketches.specs.Actions.{Action, Change, Join, Shape}
 use Rattle.datasketches.specs.Actions.Action.{Create, Alter, Combine, Save, Restore, ShowImage, Load}
 use Rattle.datasketches.specs.Changing.{Changes}
 use Rattle.datasketches.specs.Histories.{begun, changed}
@@ -16,18 +15,16 @@ use Rattle.datasketches.specs.Actions.Change.{Add}
 use Rattle.datasketches.specs.Keyed.{RunsOut, AddsNamed, PerformedByKey}
 use Rattle.datasketches.specs.Names.{at_name, Puts, AreSame, Keeps}
 use Rattle.datasketches.specs.Performed.{Performed}
-use Rattle.datasketches.specs.Replies.{done_or, refused}
+use Rattle.datasketches.specs.Replies.{done_or}
 use Rattle.datasketches.specs.Shapes.{empty_sketch, fault_of}
 use Rattle.datasketches.specs.Stands.{StandsFor, Carries, Does}
 use Rattle.datasketches.specs.State.{SessionState, IsUnchanged}
-use Rattle.datasketches.specs.Steps.{JoinsNamed, MakesEmpty, Refuses, Performs}
+use Rattle.datasketches.specs.Steps.{Stores, JoinsNamed, IsCreated, IsRestored, IsLoaded, Performs}
 use Rattle.datasketches.specs.declared.image_kind.ImageKind.{ImageKind}
-use Rattle.datasketches.specs.Actions.{Join}
 use Rattle.datasketches.specs.declared.reply.Refusal.{Refusal}
 use Rattle.datasketches.specs.declared.reply.Refusal.TheVariants.{NameTaken}
 use Rattle.datasketches.specs.declared.reply.Reply.{Reply}
-use Rattle.datasketches.specs.declared.reply.Reply.TheVariants.{Done, Image as Shown, Refused}
-use Rattle.datasketches.specs.Actions.{Shape}
+use Rattle.datasketches.specs.declared.reply.Reply.TheVariants.{Image as Shown, Refused}
 use Rattle.datasketches.specs.declared.sketch.Sketch.{Sketch}
 use Rattle.datasketches.specs.declared.sketch.Sketch.TheVariants.{Frequent, CountI64, CountU64, Bloom}
 use Rattle.datasketches.proofs.Fitting.{put_again}
@@ -43,6 +40,13 @@ free (Some value) contained not is = cc
 pub taken : {V : Type 0} (found : Option V) (contained : Bool) → contained ≡ true → contained ≡ is_some found → (value : V) × (found ≡ Some value)
 taken None contained so is = cc
 taken (Some value) contained so is = (value, refl)
+
+-- a value that was made, or not, under a free name
+stored : {T V : Type 0} (Good : V → Type 0) (Why : ErrorValue → Type 0) (name : List ℕ) (old new : List (List ℕ × V)) (made : Result V ErrorValue) (result : Result ⊤ Refusal) → IfOk made Good → ((value : V) → Good value → Why no_memory) → IfErr made Why → Keeps name made old result new → Stores {T = T} Good Why name old (done_or result) new
+stored Good Why name old new (Ok value) (Ok u) good memory why keeps = inl (value, refl, good, keeps)
+stored Good Why name old new (Ok value) (Err e) good memory why keeps = inr (no_memory, memory value good, (ap Refused keeps.0, keeps.1))
+stored Good Why name old new (Err error) (Ok u) good memory why keeps = absurd keeps
+stored Good Why name old new (Err error) (Err e) good memory why keeps = inr (error, why, (ap Refused keeps.0, keeps.1))
 
 module _ {T C : Type 0} (slot : ℕ) (eq : T → T → Bool) (input : T → List (List ℕ)) (codec : Codec C) (content : T → C) where
   abbrev Did : Action T → SessionState T → Reply T → SessionState T → Type 0
@@ -92,24 +96,17 @@ module _ {T C : Type 0} (slot : ℕ) (eq : T → T → Bool) (input : T → List
   pub creates_taken : (shape : Shape) (name : List ℕ) (seen old : SessionState T) → seen ≡ old → (sketch : Sketch T) × (at_name name seen.sketches ≡ Some sketch) → Did (Create name shape) old (Refused NameTaken) old
   creates_taken shape name seen old same (sketch, found) = by_parts_alone (Create name shape) seen old (Refused NameTaken) same (rw found (refl, λ _. refl), λ _. refl)
 
-  refused_case : (name : List ℕ) (shape : Shape) (old new : List (List ℕ × Sketch T)) (reply : Reply T) (error : ErrorValue) (fault : Option Fault) → reply ≡ refused error → error ≡ refusal_of fault → AreSame old new →
-      MatchOption fault (MakesEmpty eq name shape old reply new) (λ f. Refuses (refused (invalid_argument f)) old reply new)
-  refused_case name shape old new reply error None r e same = inr (r ∙ ap refused e, same)
-  refused_case name shape old new reply error (Some fault) r e same = (r ∙ ap refused e, same)
+  created : (shape : Shape) (made : Result (Sketch T) ErrorValue) → IfOk made (λ sketch. sketch ≡ empty_sketch shape) → IfOk made (λ sketch. StandsFor eq sketch (begun shape)) → (IsOk made → fault_of shape ≡ None) → IfOk made (IsCreated eq shape)
+  created shape (Ok sketch) empty stands accepted = record { accepted = accepted refl; empty = empty; stands = stands }
+  created shape (Err error) empty stands accepted = tt
 
-  -- a sketch that was made, or not, under a free name
   pub creates : (shape : Shape) (name : List ℕ) (seen old new : SessionState T) (made : Result (Sketch T) ErrorValue) (result : Result ⊤ Refusal) → seen ≡ old → at_name name seen.sketches ≡ None →
       IfOk made (λ sketch. sketch ≡ empty_sketch shape) → IfOk made (λ sketch. StandsFor eq sketch (begun shape)) → (IsOk made → fault_of shape ≡ None) → IfErr made (λ e. e ≡ refusal_of (fault_of shape)) →
       Keeps name made seen.sketches result new.sketches → AreSame seen.images new.images → Did (Create name shape) old (done_or result) new
-  creates shape name seen old new (Ok sketch) (Ok u) same none is stands accepted refused keeps images = by_parts (Create name shape) seen old new Done same (
-    rw (none, accepted refl) (inl (refl, subst (λ (s : Sketch T). Puts name s seen.sketches new.sketches) is keeps, subst (λ (s : Sketch T). StandsFor eq s (begun shape)) is stands)),
+  creates shape name seen old new made result same none empty stands accepted why keeps images = by_parts (Create name shape) seen old new (done_or result) same (
+    rw none (stored (IsCreated eq shape) (λ e. e ≡ refusal_of (fault_of shape)) name seen.sketches new.sketches made result (created shape made empty stands accepted) (λ sketch good. sym (ap refusal_of good.accepted)) why keeps),
     images,
   )
-  creates shape name seen old new (Ok sketch) (Err why) same none is stands accepted refused keeps images =
-      by_parts (Create name shape) seen old new (Refused why) same (rw (none, accepted refl) (inr (ap Refused keeps.0, keeps.1)), images)
-  creates shape name seen old new (Err error) (Ok u) same none is stands accepted refused keeps images = absurd keeps
-  creates shape name seen old new (Err error) (Err why) same none is stands accepted refused keeps images =
-      by_parts (Create name shape) seen old new (Refused why) same (rw none (refused_case name shape seen.sketches new.sketches (Refused why) error (fault_of shape) (ap Refused keeps.0) refused keeps.1), images)
 
   -- ---- an image that is saved
 
@@ -127,13 +124,10 @@ module _ {T C : Type 0} (slot : ℕ) (eq : T → T → Bool) (input : T → List
   pub saves : (name image : List ℕ) (seen old new : SessionState T) (sketch : Sketch T) (made : Result Image ErrorValue) (result : Result ⊤ Refusal) → seen ≡ old → at_name name seen.sketches ≡ Some sketch → at_name image seen.images ≡ None →
       IfOk made (λ saved. IsWrittenBy codec content sketch saved.kind saved.bytes) → IfErr made (IsWriteRefusal codec content sketch) →
       Keeps image made seen.images result new.images → AreSame seen.sketches new.sketches → Did (Save name image) old (done_or result) new
-  saves name image seen old new sketch (Ok saved) (Ok u) same found none written refused keeps sketches =
-      by_parts (Save name image) seen old new Done same (rw (found, none) (record { sketches = sketches; outcome = inl (saved, refl, written, keeps) }))
-  saves name image seen old new sketch (Ok saved) (Err why) same found none written refused keeps sketches =
-      by_parts (Save name image) seen old new (Refused why) same (rw (found, none) (record { sketches = sketches; outcome = inr (no_memory, write_memory sketch, (ap Refused keeps.0, keeps.1)) }))
-  saves name image seen old new sketch (Err error) (Ok u) same found none written refused keeps sketches = absurd keeps
-  saves name image seen old new sketch (Err error) (Err why) same found none written refused keeps sketches =
-      by_parts (Save name image) seen old new (Refused why) same (rw (found, none) (record { sketches = sketches; outcome = inr (error, refused, (ap Refused keeps.0, keeps.1)) }))
+  saves name image seen old new sketch made result same found none written why keeps sketches = by_parts (Save name image) seen old new (done_or result) same (rw (found, none) (record {
+    sketches = sketches;
+    outcome = stored (λ (saved : Image). IsWrittenBy codec content sketch saved.kind saved.bytes) (IsWriteRefusal codec content sketch) image seen.images new.images made result written (λ saved good. write_memory sketch) why keeps;
+  }))
 
   -- ---- an image that is restored
 
@@ -142,20 +136,19 @@ module _ {T C : Type 0} (slot : ℕ) (eq : T → T → Bool) (input : T → List
       let here = subst (λ (s : SessionState T). at_name image s.images ≡ Some saved) (sym same) found in
       by_parts_alone (Restore image name) seen old (Refused NameTaken) same (rw (here, taken) (record { sketches = λ _. refl; images = λ _. refl }, refl))
 
-  -- an image that was read, or not, under a free name
+  read_back : (saved : Image) (made : Result (Sketch T) ErrorValue) → IfOk made (IsReadFrom codec content saved.kind saved.bytes) → IfOk made (GivesBack eq codec content saved.kind saved.bytes) → IfOk made (IsRestored eq codec content saved)
+  read_back saved (Ok sketch) read back = (read, back)
+  read_back saved (Err error) read back = tt
+
   pub restores : (image name : List ℕ) (seen old new : SessionState T) (saved : Image) (made : Result (Sketch T) ErrorValue) (result : Result ⊤ Refusal) → seen ≡ old → at_name image old.images ≡ Some saved → at_name name seen.sketches ≡ None →
       IfOk made (IsReadFrom codec content saved.kind saved.bytes) → IfOk made (GivesBack eq codec content saved.kind saved.bytes) → IfErr made (IsReadRefusal codec saved.kind saved.bytes) →
       Keeps name made seen.sketches result new.sketches → AreSame seen.images new.images → Did (Restore image name) old (done_or result) new
-  restores image name seen old new saved (Ok sketch) (Ok u) same found none read back refused keeps images =
+  restores image name seen old new saved made result same found none read back why keeps images =
       let here = subst (λ (s : SessionState T). at_name image s.images ≡ Some saved) (sym same) found in
-      by_parts (Restore image name) seen old new Done same (rw (here, none) (record { images = images; outcome = inl (sketch, refl, read, back, keeps) }))
-  restores image name seen old new saved (Ok sketch) (Err why) same found none read back refused keeps images =
-      let here = subst (λ (s : SessionState T). at_name image s.images ≡ Some saved) (sym same) found in
-      by_parts (Restore image name) seen old new (Refused why) same (rw (here, none) (record { images = images; outcome = inr (no_memory, read_first codec content saved.kind saved.bytes sketch read, (ap Refused keeps.0, keeps.1)) }))
-  restores image name seen old new saved (Err error) (Ok u) same found none read back refused keeps images = absurd keeps
-  restores image name seen old new saved (Err error) (Err why) same found none read back refused keeps images =
-      let here = subst (λ (s : SessionState T). at_name image s.images ≡ Some saved) (sym same) found in
-      by_parts (Restore image name) seen old new (Refused why) same (rw (here, none) (record { images = images; outcome = inr (error, refused, (ap Refused keeps.0, keeps.1)) }))
+      by_parts (Restore image name) seen old new (done_or result) same (rw (here, none) (record {
+        images = images;
+        outcome = stored (IsRestored eq codec content saved) (IsReadRefusal codec saved.kind saved.bytes) name seen.sketches new.sketches made result (read_back saved made read back) (λ sketch good. read_first codec content saved.kind saved.bytes sketch good.0) why keeps;
+      }))
 
   -- ---- an image that is shown
 
@@ -168,14 +161,14 @@ module _ {T C : Type 0} (slot : ℕ) (eq : T → T → Bool) (input : T → List
   loads_taken kind bytes most name seen old same (sketch, taken) =
       by_parts_alone (Load name kind bytes most) seen old (Refused NameTaken) same (rw taken (record { sketches = λ _. refl; images = λ _. refl }, refl))
 
-  -- an image that was loaded, or not, under a free name
+  loaded : (kind : ImageKind) (bytes : List ℕ) (most : ℕ) (made : Result (Sketch T) ErrorValue) → IfOk made (IsReadFrom codec content kind bytes) → IfOk made (GivesBack eq codec content kind bytes) → IfOk made (TakesWithin slot codec content most) → (IsOk made → load_fault slot codec most kind bytes ≡ None) → IfOk made (IsLoaded slot eq codec content kind bytes most)
+  loaded kind bytes most (Ok sketch) read back within accepted = record { read = read; stands = back; within = within; accepted = accepted refl }
+  loaded kind bytes most (Err error) read back within accepted = tt
+
   pub loads : (kind : ImageKind) (bytes : List ℕ) (most : ℕ) (name : List ℕ) (seen old new : SessionState T) (made : Result (Sketch T) ErrorValue) (result : Result ⊤ Refusal) → seen ≡ old → at_name name seen.sketches ≡ None →
       IfOk made (IsReadFrom codec content kind bytes) → IfOk made (GivesBack eq codec content kind bytes) → IfOk made (TakesWithin slot codec content most) → (IsOk made → load_fault slot codec most kind bytes ≡ None) → IfErr made (IsLoadRefusal slot codec most kind bytes) →
       Keeps name made seen.sketches result new.sketches → AreSame seen.images new.images → Did (Load name kind bytes most) old (done_or result) new
-  loads kind bytes most name seen old new (Ok sketch) (Ok u) same none read back within accepted refused keeps images =
-      by_parts (Load name kind bytes most) seen old new Done same (rw none (record { images = images; outcome = inl (sketch, refl, record { read = read; stands = back; within = within; accepted = accepted refl }, keeps) }))
-  loads kind bytes most name seen old new (Ok sketch) (Err why) same none read back within accepted refused keeps images =
-      by_parts (Load name kind bytes most) seen old new (Refused why) same (rw none (record { images = images; outcome = inr (no_memory, load_first slot codec content most kind bytes sketch read (accepted refl), (ap Refused keeps.0, keeps.1)) }))
-  loads kind bytes most name seen old new (Err error) (Ok u) same none read back within accepted refused keeps images = absurd keeps
-  loads kind bytes most name seen old new (Err error) (Err why) same none read back within accepted refused keeps images =
-      by_parts (Load name kind bytes most) seen old new (Refused why) same (rw none (record { images = images; outcome = inr (error, refused, (ap Refused keeps.0, keeps.1)) }))
+  loads kind bytes most name seen old new made result same none read back within accepted why keeps images = by_parts (Load name kind bytes most) seen old new (done_or result) same (rw none (record {
+    images = images;
+    outcome = stored (IsLoaded slot eq codec content kind bytes most) (IsLoadRefusal slot codec most kind bytes) name seen.sketches new.sketches made result (loaded kind bytes most made read back within accepted) (λ sketch good. load_first slot codec content most kind bytes sketch good.read good.accepted) why keeps;
+  }))

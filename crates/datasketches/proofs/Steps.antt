@@ -5,6 +5,7 @@ use Rattle.std.specs.Option.{is_some}
 use Rattle.std.specs.List.{slice_get}
 use Rattle.std.proofs.lemmas.Bool.{true≢false, false≢true}
 use Rattle.std.proofs.lemmas.List.{length-append, set-append_left, set-append_right, get_or_append_left, get_or-append_right}
+use Rattle.std.proofs.lemmas.Option.{slice_get-get_or}
 use Rattle.datasketches.specs.Actions.{Join}
 use Rattle.datasketches.specs.declared.reply.Refusal.{Refusal}
 use Rattle.datasketches.specs.declared.reply.Refusal.TheVariants.{NoSuchName, SameName}
@@ -18,7 +19,6 @@ use Rattle.datasketches.specs.Indices.{JoinsAt}
 use Rattle.datasketches.specs.Replies.{done_or}
 use Rattle.datasketches.specs.Stands.{Carries, CarriesBoth, Does, DoesWith}
 use Rattle.datasketches.specs.Steps.{OnSketch, JoinsNamed}
-use Rattle.datasketches.proofs.Names.{get_here}
 
 -- ---- one sketch
 
@@ -71,7 +71,7 @@ module _ {T : Type 0} (eq : T → T → Bool) where
 -- a index of the first part
 in_front : {V : Type 0} (whole a b : List V) (i : ℕ) (d : V) → whole ≡ a ++ b → i < length a → slice_get whole i ≡ Some (get_or a i d)
 in_front {V} whole a b i d w h =
-    ap (λ (l : List V). slice_get l i) w ∙ get_here (a ++ b) i d (omega (arith, h, length-append a b)) ∙ ap Some (get_or_append_left a b d i h)
+    ap (λ (l : List V). slice_get l i) w ∙ slice_get-get_or (a ++ b) i d (omega (arith, h, length-append a b)) ∙ ap Some (get_or_append_left a b d i h)
 
 zero_left : (j : ℕ) → j - j ≡ 0
 zero_left j = omega arith
@@ -80,7 +80,7 @@ zero_left j = omega arith
 in_back : {V : Type 0} (whole a b : List V) (j : ℕ) (d : V) → whole ≡ a ++ b → length a ≡ j → j < length whole → slice_get whole j ≡ Some (get_or b 0 d)
 in_back {V} whole a b j d w n h =
     let size : length whole ≡ length (a ++ b) = ap length w in
-    ap (λ (l : List V). slice_get l j) w ∙ get_here (a ++ b) j d (omega (arith, h, size))
+    ap (λ (l : List V). slice_get l j) w ∙ slice_get-get_or (a ++ b) j d (omega (arith, h, size))
     ∙ ap Some (get_or-append_right a b j j d n (omega arith) ∙ ap (λ (k : ℕ). get_or b k d) (zero_left j))
 
 module _ {T : Type 0} (eq : T → T → Bool) where

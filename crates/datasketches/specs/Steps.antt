@@ -3,10 +3,8 @@ use Rattle.std.specs.Prelude.{◌≡◌, ◌≢◌, ℕ, ◌⊎◌, Bool, List, 
 use Rattle.std.specs.Global.{Global}
 use Rattle.std.specs.declared.vec.Vec.{Vec}
 use Rattle.sketch_frequencies.specs.Items.{Codec}
-use Rattle.sketch_base.specs.Errors.{ErrorValue, invalid_argument, no_memory}
-use Rattle.datasketches.specs.Actions.{action_of, Action, Action as action, Change}
-use Rattle.datasketches.specs.Actions.{Shape}
-use Rattle.datasketches.specs.Actions.{Join}
+use Rattle.sketch_base.specs.Errors.{ErrorValue, no_memory, refusal_of}
+use Rattle.datasketches.specs.Actions.{action_of, Action, Action as action, Change, Join, Shape}
 use Rattle.datasketches.specs.Answering.{Tells, Lists, status_of}
 use Rattle.datasketches.specs.Changing.{Changes}
 use Rattle.datasketches.specs.Histories.{begun, changed, joined}
@@ -31,6 +29,12 @@ module _ {T : Type 0} where
   abbrev pub Refuses : {V : Type 0} → Reply T → List (List ℕ × V) → Reply T → List (List ℕ × V) → Type 0
   Refuses refusal old reply new = (reply ≡ refusal) × AreSame old new
 
+  -- the name now has a value of which `Good` holds. Or the reply is an error of which `Why` holds, and each name keeps its value
+  abbrev pub Stores :
+      {V : Type 0} → (V → Type 0) → (ErrorValue → Type 0) → List ℕ → List (List ℕ × V) → Reply T → List (List ℕ × V) → Type 0
+  Stores {V} Good Why name old reply new =
+      ((value : V) × (reply ≡ Done) × Good value × Puts name value old new) ⊎ ((e : ErrorValue) × Why e × Refuses (refused e) old reply new)
+
   -- the step is done on the sketch of the name, or the reply is `NoSuchName` if there is none
   abbrev pub OnSketch :
       (Sketch T → Reply T → Sketch T → Type 0) → List ℕ →
@@ -41,19 +45,18 @@ module _ {T : Type 0} where
       (λ sketch. (after : Sketch T) × DoesThis sketch reply after × Puts name after old new)
 
 module _ {T : Type 0} (eq : T → T → Bool) where
-  -- the name now has an empty sketch, which stands for a new history; or allocation failed, and each name keeps its sketch
-  abbrev pub MakesEmpty : List ℕ → Shape → List (List ℕ × Sketch T) → Reply T → List (List ℕ × Sketch T) → Type 0
-  MakesEmpty name shape old reply new =
-      ((reply ≡ Done) × Puts name (empty_sketch shape) old new × StandsFor eq (empty_sketch shape) (begun shape))
-      ⊎ Refuses (refused no_memory) old reply new
+  -- the shape has no fault, and the sketch is the empty one of the shape, which stands for a new history
+  pub record IsCreated (shape : Shape) (sketch : Sketch T) : Type 0 where
+    pub accepted : fault_of shape ≡ None
+    pub empty : sketch ≡ empty_sketch shape
+    pub stands : StandsFor eq sketch (begun shape)
 
-  -- a sketch is created if the name is free and the shape has no fault. Otherwise an error changes nothing
+  -- a sketch is created if the name is free and the shape has no fault. The error is the fault, or `NoMemory` if there is none.
+  -- An error changes nothing
   abbrev pub Creates : Shape → List ℕ → List (List ℕ × Sketch T) → Reply T → List (List ℕ × Sketch T) → Type 0
   Creates shape name old reply new =
       MatchOption (at_name name old)
-      (MatchOption (fault_of shape)
-      (MakesEmpty name shape old reply new)
-      (λ fault. Refuses (refused (invalid_argument fault)) old reply new))
+      (Stores (IsCreated shape) (λ e. e ≡ refusal_of (fault_of shape)) name old reply new)
       (λ _. Refuses (Refused NameTaken) old reply new)
 
   -- the sketch `from` is combined into `sketch`. If both have the same name, the reply is `SameName` and nothing changes
@@ -115,9 +118,8 @@ module _ {T C : Type 0} (codec : Codec C) (content : T → C) where
   pub record Writes (sketch : Sketch T) (name : List ℕ) (old : SessionState T) (reply : Reply T) (new : SessionState T)
       : Type 0 where
     pub sketches : AreSame old.sketches new.sketches
-    pub outcome :
-        ((image : Image) × (reply ≡ Done) × IsWrittenBy codec content sketch image.kind image.bytes × Puts name image old.images new.images)
-        ⊎ ((e : ErrorValue) × IsWriteRefusal codec content sketch e × Refuses (refused e) old.images reply new.images)
+    pub outcome : Stores (λ (image : Image). IsWrittenBy codec content sketch image.kind image.bytes)
+        (IsWriteRefusal codec content sketch) name old.images reply new.images
 
   -- the sketch of the name is saved if it exists and the image's name is free
   abbrev pub Saves : List ℕ → List ℕ → SessionState T → Reply T → SessionState T → Type 0
@@ -126,15 +128,16 @@ module _ {T C : Type 0} (codec : Codec C) (content : T → C) where
       old reply new
 
 module _ {T C : Type 0} (eq : T → T → Bool) (codec : Codec C) (content : T → C) where
-  -- the name now has a sketch that was read from the image and stands for what was saved, or an error left all sketches
-  -- unchanged. Images are unchanged
+  -- the sketch was read from the image and stands for what was saved
+  abbrev pub IsRestored : Image → Sketch T → Type 0
+  IsRestored image sketch =
+      IsReadFrom codec content image.kind image.bytes sketch × GivesBack eq codec content image.kind image.bytes sketch
+
+  -- the name now has the restored sketch, or an error left all sketches unchanged. Images are unchanged
   pub record Reads (image : Image) (name : List ℕ) (old : SessionState T) (reply : Reply T) (new : SessionState T)
       : Type 0 where
     pub images : AreSame old.images new.images
-    pub outcome :
-        ((sketch : Sketch T) × (reply ≡ Done) × IsReadFrom codec content image.kind image.bytes sketch
-        × GivesBack eq codec content image.kind image.bytes sketch × Puts name sketch old.sketches new.sketches)
-        ⊎ ((e : ErrorValue) × IsReadRefusal codec image.kind image.bytes e × Refuses (refused e) old.sketches reply new.sketches)
+    pub outcome : Stores (IsRestored image) (IsReadRefusal codec image.kind image.bytes) name old.sketches reply new.sketches
 
   -- the image of the name is restored if it exists and the sketch's name is free
   abbrev pub Restores : List ℕ → List ℕ → SessionState T → Reply T → SessionState T → Type 0
@@ -154,10 +157,8 @@ module _ {T C : Type 0} (slot : ℕ) (eq : T → T → Bool) (codec : Codec C) (
   pub record Brings (kind : ImageKind) (bytes : List ℕ) (max_bytes : ℕ) (name : List ℕ) (old : SessionState T) (reply : Reply T)
       (new : SessionState T) : Type 0 where
     pub images : AreSame old.images new.images
-    pub outcome :
-        ((sketch : Sketch T) × (reply ≡ Done) × IsLoaded kind bytes max_bytes sketch × Puts name sketch old.sketches new.sketches)
-        ⊎ ((e : ErrorValue) × IsLoadRefusal slot codec max_bytes kind bytes e
-        × Refuses (refused e) old.sketches reply new.sketches)
+    pub outcome : Stores (IsLoaded kind bytes max_bytes) (IsLoadRefusal slot codec max_bytes kind bytes) name
+        old.sketches reply new.sketches
 
   -- an untrusted image is loaded if the sketch's name is free
   abbrev pub Loads : ImageKind → List ℕ → ℕ → List ℕ → SessionState T → Reply T → SessionState T → Type 0

@@ -3,9 +3,22 @@
 //! A new session stands for the assignment with no name. [`run`](crate::Session::run) leaves a session that stands for
 //! the assignment as its commands and replies changed it. So the laws hold of each sketch of a session after any list
 //! of commands.
+ghost use Rattle.std.specs.Prelude.{◌≡◌, ◌↔◌, ℕ, ℤ, pos, ◌*◌, ◌+◌, ◌<◌, ◌≤◌, ◌-ℤ◌, ◌≤ℤ◌, true, false, List, length};
+ghost use Rattle.std.specs.FinSet as set;
 ghost use Rattle.counter_table.specs.Bytes.{option_bytes};
-ghost use Rattle.datasketches.specs.Clusters.{LoadKeepsShown, StrangersAreSketches, ProcessStandsForHistories, EnclosesAllStreams, KeepsBudgetOfAllStreams, CellsAreSharesOfAllStreams, ContainsWhatAnyContains};
-ghost use Rattle.datasketches.specs.Laws.{FrequentIsState, KeptWithinTotal, HoldsFew, EnclosesWeights, ExactOfFew, WithinTailBudget, SamplesItsOwn, SampleBoundsError, SmallSketchErrsLittle, LargeSketchErrsLittle, FilterIsState, HoldsWhatIsDenoted, EmptyContainsNothing, ContainsWhatIsDenoted, CountIsState, TotalIsWeight, EmptyCountsNothing, MinCellEncloses, CellsAreShares, MinCellIsRaisedByOthers, ActionKeepsFit, ActionKeepsTold, StepKeepsFit, StepKeepsTold};
+ghost use Rattle.counter_table.specs.Tables.{count_of, sum_of};
+ghost use Rattle.sketch_bloom.specs.History.{denoted_set};
+ghost use Rattle.sketch_bloom.specs.State.{IsFilterState, item_positions, contains_item};
+ghost use Rattle.sketch_countmin.specs.History.{IsExact, IsNonnegative, absolute_weight, cell_share, own_value, others_share};
+ghost use Rattle.sketch_countmin.specs.Rows.{cell_at};
+ghost use Rattle.sketch_countmin.specs.State.{IsMin, IsMinCell};
+ghost use Rattle.sketch_countmin.specs.Streams.{CellsAreSharesOfStreams};
+ghost use Rattle.sketch_frequencies.specs.History.{true_weight, total_weight, own_size, min_size, own_sample, min_sample, HasUsualSamples};
+ghost use Rattle.sketch_frequencies.specs.Stands.{HasFewItems, KeepsTailBudget};
+ghost use Rattle.sketch_frequencies.specs.State.{IsState, capacity};
+ghost use Rattle.sketch_frequencies.specs.Streams.{EnclosesStreams, KeepsBudgetOfStreams};
+ghost use Rattle.datasketches.specs.Clusters.{LoadKeepsShown, StrangersAreSketches, ProcessStandsForHistories, ContainsWhatAnyContains};
+ghost use Rattle.datasketches.specs.Laws.{OfEachFrequent, OfEachFilter, OfEachCount, CountIsState, ActionKeepsFit, ActionKeepsTold, StepKeepsFit, StepKeepsTold};
 
 use sketch_bloom::laws as bloom;
 use sketch_countmin::laws as countmin;
@@ -27,16 +40,20 @@ use sketch_frequencies::{FrequentItemValue, laws as frequencies};
 /// - `small`: it is at most 8 / 3M of the total weight if no sample size was chosen and M is at most 1024.
 /// - `large`: it is at most 1 / 512 of the total weight if no sample size was chosen and M is above 1024.
 pub fn frequent_items_bounds<T: FrequentItemValue>()
-    ensures state { FrequentIsState T.eq T.codec T.content }
-    ensures within { KeptWithinTotal T.eq T.codec T.content }
-    ensures few { HoldsFew T.eq T.codec T.content }
-    ensures encloses { EnclosesWeights T.eq T.codec T.content }
-    ensures exact { ExactOfFew T.eq T.codec T.content }
-    ensures budget { WithinTailBudget T.eq T.codec T.content }
-    ensures sample { SamplesItsOwn T.eq T.codec T.content }
-    ensures sampled { SampleBoundsError T.eq T.codec T.content }
-    ensures small { SmallSketchErrsLittle T.eq T.codec T.content }
-    ensures large { LargeSketchErrsLittle T.eq T.codec T.content }
+    ensures state { OfEachFrequent T.eq T.codec T.content (λ s h. IsState T.eq s) }
+    ensures within { OfEachFrequent T.eq T.codec T.content (λ s h. sum_of s.counters + s.error ≤ total_weight h) }
+    ensures few { OfEachFrequent T.eq T.codec T.content (λ s h. length s.counters ≤ capacity (own_size h)) }
+    ensures encloses { OfEachFrequent T.eq T.codec T.content (λ s h. (x : T)
+        → (count_of T.eq s.counters x ≤ true_weight T.eq h x)
+        × (true_weight T.eq h x ≤ count_of T.eq s.counters x + s.error)) }
+    ensures exact { OfEachFrequent T.eq T.codec T.content (λ s h. HasFewItems T.eq h → s.error ≡ 0) }
+    ensures budget { OfEachFrequent T.eq T.codec T.content (KeepsTailBudget T.eq) }
+    ensures sample { OfEachFrequent T.eq T.codec T.content (λ s h. s.sample_size ≡ own_sample h) }
+    ensures sampled { OfEachFrequent T.eq T.codec T.content (λ s h. min_sample h * s.error ≤ 2 * total_weight h) }
+    ensures small { OfEachFrequent T.eq T.codec T.content (λ s h. HasUsualSamples h
+        → min_size h ≤ 1024 → 3 * min_size h * s.error ≤ 8 * total_weight h) }
+    ensures large { OfEachFrequent T.eq T.codec T.content (λ s h. HasUsualSamples h
+        → 1024 < min_size h → 512 * s.error ≤ total_weight h) }
 {
     frequencies::error_bounds::<T>();
 }
@@ -50,10 +67,14 @@ pub fn frequent_items_bounds<T: FrequentItemValue>()
 ///   its buckets. This holds if nothing was halved or decayed.
 pub fn count_min_bounds<T: FrequentItemValue>()
     ensures state { CountIsState T.eq T.codec T.content }
-    ensures total { TotalIsWeight T.eq T.codec T.content }
-    ensures empty { EmptyCountsNothing T.eq T.codec T.content }
-    ensures cells { CellsAreShares T.eq T.codec T.content }
-    ensures raised { MinCellIsRaisedByOthers T.eq T.codec T.content }
+    ensures total { OfEachCount T.eq T.codec T.content (λ s h. s.total ≡ absolute_weight h) }
+    ensures empty { OfEachCount T.eq T.codec T.content (λ s h. absolute_weight h ≡ 0
+        → (r b : ℕ) → cell_at s.rows r b ≡ pos 0) }
+    ensures cells { OfEachCount T.eq T.codec T.content (λ s h. (r : ℕ) → r < s.hashes
+        → (b : ℕ) → b < s.buckets → cell_at s.rows r b ≡ cell_share s.buckets s.seed h r b) }
+    ensures raised { OfEachCount T.eq T.codec T.content (λ s h. IsExact h
+        → (bytes : List ℕ) (least : ℤ) → IsMinCell s bytes least
+        → IsMin s.hashes (others_share s.buckets s.seed h bytes) (least -ℤ own_value h bytes)) }
 {
     countmin::min_cell_bounds();
 }
@@ -62,7 +83,9 @@ pub fn count_min_bounds<T: FrequentItemValue>()
 ///
 /// An item's own value is at most its estimate, which is at most the total weight of the history.
 pub fn count_min_bounds_of_nonnegative_weights<T: FrequentItemValue>()
-    ensures encloses { MinCellEncloses T.eq T.codec T.content }
+    ensures encloses { OfEachCount T.eq T.codec T.content (λ s h. IsNonnegative h
+        → (bytes : List ℕ) (least : ℤ) → IsMinCell s bytes least
+        → (own_value h bytes ≤ℤ least) × (least ≤ℤ pos (absolute_weight h))) }
 {
     countmin::min_cell_bounds();
 }
@@ -73,10 +96,13 @@ pub fn count_min_bounds_of_nonnegative_weights<T: FrequentItemValue>()
 /// - `denoted`, `empty`: it contains an item exactly if that set has all of the item's positions. A filter of the empty
 ///   set contains nothing.
 pub fn bloom_filter_membership<T: FrequentItemValue>()
-    ensures state { FilterIsState T.eq T.codec T.content }
-    ensures set { HoldsWhatIsDenoted T.eq T.codec T.content }
-    ensures empty { EmptyContainsNothing T.eq T.codec T.content }
-    ensures denoted { ContainsWhatIsDenoted T.eq T.codec T.content }
+    ensures state { OfEachFilter T.eq T.codec T.content (λ s h. IsFilterState s) }
+    ensures set { OfEachFilter T.eq T.codec T.content (λ s h. s.set ≡ denoted_set h) }
+    ensures empty { OfEachFilter T.eq T.codec T.content (λ s h. s.set ≡ set.empty
+        → (bytes : List ℕ) → contains_item s bytes ≡ false) }
+    ensures denoted { OfEachFilter T.eq T.codec T.content (λ s h. (bytes : List ℕ)
+        → (contains_item s bytes ≡ true)
+        ↔ ((p : ℕ) → set.contains (item_positions s bytes) p ≡ true → set.contains (denoted_set h) p ≡ true)) }
 {
     bloom::membership();
 }
@@ -117,8 +143,12 @@ pub fn loads_keep_histories<T: FrequentItemValue>()
 ///   of each union, since the last intersection, difference or reset.
 pub fn clusters_keep_histories<T: FrequentItemValue>()
     ensures fits { ProcessStandsForHistories (option_bytes T.row) T.eq T.hash_input T.codec T.content }
-    ensures encloses { EnclosesAllStreams T.eq T.codec T.content }
-    ensures budget { KeepsBudgetOfAllStreams T.eq T.codec T.content }
-    ensures cells { CellsAreSharesOfAllStreams T.eq T.codec T.content }
+    ensures encloses { OfEachFrequent T.eq T.codec T.content (EnclosesStreams T.eq) }
+    ensures budget { OfEachFrequent T.eq T.codec T.content (KeepsBudgetOfStreams T.eq) }
+    ensures cells { OfEachCount T.eq T.codec T.content CellsAreSharesOfStreams }
     ensures contains { ContainsWhatAnyContains T.eq T.codec T.content }
-{}
+{
+    frequencies::stream_bounds::<T>();
+    countmin::stream_cells();
+    bloom::parts_are_contained();
+}

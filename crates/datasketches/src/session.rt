@@ -1,19 +1,17 @@
 //! Sessions: named sketches and images.
-ghost use Rattle.std.specs.Prelude.{◌≡◌, List, Result, [], true, None, Some, IfOk, IfErr, OnErr, IsTrue, string_bytes};
-ghost use Rattle.sketch_base.specs.Errors.{no_memory};
+ghost use Rattle.std.specs.Prelude.{◌≡◌, Result, [], None, Some, IfOk, IfErr, OnErr, IsTrue};
 ghost use Rattle.counter_table.specs.Bytes.{option_bytes};
-ghost use Rattle.datasketches.specs.Actions.{Action, Change, Join, Shape, action_of, usual_sizes};
+ghost use Rattle.datasketches.specs.Actions.{Action, Change, Join, Shape, usual_sizes};
 ghost use Rattle.datasketches.specs.SessionStandsFor.{SessionStandsFor};
-ghost use Rattle.datasketches.specs.Histories.{Assignment, History, nothing_named, after_one, after_one_told, after, after_told};
-ghost use Rattle.datasketches.specs.Loading.{IsTold, AreTold};
+ghost use Rattle.datasketches.specs.Histories.{nothing_named};
 ghost use Rattle.datasketches.specs.Names.{at_name};
 ghost use Rattle.datasketches.specs.Keyed.{PerformedByKey};
 ghost use Rattle.datasketches.specs.Performed.{Performed};
-ghost use Rattle.datasketches.specs.Replies.{done_or, told, told_as, is_refused, bounds_in, contains_in};
-ghost use Rattle.datasketches.specs.State.{SessionState, IsUnchanged};
-ghost use Rattle.datasketches.specs.Steps.{Step, Run};
+ghost use Rattle.datasketches.specs.Replies.{done_or, told, told_as, bounds_in, contains_in};
+ghost use Rattle.datasketches.specs.State.{SessionState};
 
-use crate::command::Command;
+mod running;
+
 use crate::image::Image;
 use crate::image_kind::ImageKind;
 use crate::joining::{Difference, Intersect, Joining, Merge, Union};
@@ -21,7 +19,7 @@ use crate::name_map::NameMap;
 use crate::new_sketch::{NewSketch, SignedCounts, UnsignedCounts};
 use crate::reply::{Bounds, Refusal, Reply, Status};
 use crate::sketch::Sketch;
-use sketch_base::{Error, MapState};
+use sketch_base::MapState;
 use sketch_bloom::BloomFilterBuilder;
 use sketch_countmin::CountMinSizes;
 use sketch_frequencies::{
@@ -483,168 +481,6 @@ impl<T: FrequentItemValue + Clone + Drop> Session<T> {
         self.sketch(name)?.rows(error_type, threshold)
     }
 
-    /// Runs one command: the call of its name.
-    ///
-    /// It does to the sketch or image that it creates or names what the sketch's own call does. All others are
-    /// unchanged. A rejected command changes nothing.
-    pub fn apply(&mut self, command: Command<T>) -> Reply<T>
-        requires clones { (x y : T) → T.is_clone x y → IsTrue (T.eq x y) }
-        ensures step { Step (option_bytes T.row) T.eq T.hash_input T.codec T.content self.old command result self.new }
-        ensures fits { (a : Assignment T) → SessionStandsFor T.eq T.codec T.content self.old a
-            → SessionStandsFor T.eq T.codec T.content self.new (after_one T.hash_input a command result) }
-        ensures told { (a : Assignment T) (loaded : History T) → SessionStandsFor T.eq T.codec T.content self.old a
-            → IsTold T.eq T.codec T.content command loaded
-            → SessionStandsFor T.eq T.codec T.content self.new (after_one_told T.hash_input a command loaded result) }
-        ensures refused { is_refused result ≡ true → IsUnchanged self.old self.new }
-    {
-        self.perform(command)
-    }
-
-    fn perform(&mut self, command: Command<T>) -> Reply<T>
-        requires clones { (x y : T) → T.is_clone x y → IsTrue (T.eq x y) }
-        ensures { Performed (option_bytes T.row) T.eq T.hash_input T.codec T.content
-            (action_of command) self.old result self.new }
-    {
-        match command {
-            Command::CreateFrequent { name, max_map_size } => {
-                Reply::from_outcome(self.create_frequent_items(name.as_str(), max_map_size))
-            }
-            Command::CreateFrequentSampled {
-                name,
-                max_map_size,
-                sample_size,
-            } => {
-                let sizes = FrequentItemsSizes {
-                    max_map_size,
-                    sample_size,
-                };
-                Reply::from_outcome(self.create_frequent_items_with_sizes(name.as_str(), sizes))
-            }
-            Command::CreateCountI64 {
-                name,
-                num_hashes,
-                num_buckets,
-                seed,
-            } => {
-                let sizes = CountMinSizes {
-                    num_hashes,
-                    num_buckets,
-                    seed,
-                };
-                Reply::from_outcome(self.create_count_min_i64(name.as_str(), sizes))
-            }
-            Command::CreateCountU64 {
-                name,
-                num_hashes,
-                num_buckets,
-                seed,
-            } => {
-                let sizes = CountMinSizes {
-                    num_hashes,
-                    num_buckets,
-                    seed,
-                };
-                Reply::from_outcome(self.create_count_min_u64(name.as_str(), sizes))
-            }
-            Command::CreateBloom {
-                name,
-                num_bits,
-                num_hashes,
-                seed,
-            } => {
-                let sizes = BloomFilterBuilder::with_size(num_bits, num_hashes).seed(seed);
-                Reply::from_outcome(self.create_bloom_filter(name.as_str(), sizes))
-            }
-            Command::Add { name, item, weight } => Reply::from_outcome(self.add(
-                name.as_str(),
-                item,
-                weight,
-            )),
-            Command::AddSigned { name, item, weight } => {
-                Reply::from_outcome(self.add_signed(name.as_str(), &item, weight))
-            }
-            Command::Insert { name, item } => Reply::from_outcome(self.insert(
-                name.as_str(),
-                &item,
-            )),
-            Command::Merge { into, other } => Reply::from_outcome(self.merge(
-                into.as_str(),
-                other.as_str(),
-            )),
-            Command::Union { into, other } => Reply::from_outcome(self.union(
-                into.as_str(),
-                other.as_str(),
-            )),
-            Command::Intersect { into, other } => {
-                Reply::from_outcome(self.intersect(into.as_str(), other.as_str()))
-            }
-            Command::Difference { into, other } => {
-                Reply::from_outcome(self.difference(into.as_str(), other.as_str()))
-            }
-            Command::Reset { name } => Reply::from_outcome(self.reset(name.as_str())),
-            Command::Halve { name } => Reply::from_outcome(self.halve(name.as_str())),
-            Command::Decay {
-                name,
-                numerator,
-                denominator,
-            } => Reply::from_outcome(self.decay(name.as_str(), numerator, denominator)),
-            Command::Save { name, image } => Reply::from_outcome(self.save(
-                name.as_str(),
-                image.as_str(),
-            )),
-            Command::Restore { image, name } => {
-                Reply::from_outcome(self.restore(image.as_str(), name.as_str()))
-            }
-            Command::Load {
-                name,
-                kind,
-                image,
-                max_bytes,
-            } => Reply::from_outcome(self.load(name.as_str(), kind, &image, max_bytes)),
-            Command::ShowImage { image } => match self.image(image.as_str()) {
-                Ok(bytes) => Reply::Image(bytes),
-                Err(refusal) => Reply::Refused(refusal),
-            },
-            Command::Ask { name, item } => told(self.ask(name.as_str(), &item)),
-            Command::GetStatus { name } => match self.status(name.as_str()) {
-                Ok(status) => Reply::Status(status),
-                Err(refusal) => Reply::Refused(refusal),
-            },
-            Command::ListRows {
-                name,
-                error_type,
-                threshold,
-            } => match self.rows(name.as_str(), error_type, threshold) {
-                Ok(rows) => Reply::Rows(rows),
-                Err(refusal) => Reply::Refused(refusal),
-            },
-        }
-    }
-
-    /// Runs all commands, one after another, and returns their replies in this order.
-    ///
-    /// # Errors
-    ///
-    /// Returns `NoMemory` if the replies cannot be allocated. No command is then run.
-    pub fn run(&mut self, commands: Vec<Command<T>>) -> Result<Vec<Reply<T>>, Error>
-        requires clones { (x y : T) → T.is_clone x y → IsTrue (T.eq x y) }
-        ensures run { IfOk result (λ replies. Run (option_bytes T.row) T.eq T.hash_input T.codec T.content self.old commands.items replies.items self.new) }
-        ensures fits { IfOk result (λ replies. (a : Assignment T) → SessionStandsFor T.eq T.codec T.content self.old a
-            → SessionStandsFor T.eq T.codec T.content self.new (after T.hash_input a commands.items replies.items)) }
-        ensures told { IfOk result (λ replies. (a : Assignment T) (loaded : List (History T))
-            → SessionStandsFor T.eq T.codec T.content self.old a → AreTold T.eq T.codec T.content commands.items loaded
-            → SessionStandsFor T.eq T.codec T.content self.new (after_told T.hash_input a commands.items loaded replies.items)) }
-        ensures err { OnErr result (self.new ≡ self.old) }
-        ensures memory { IfErr result (λ e. e ≡ no_memory) }
-    {
-        let mut replies = Vec::with_capacity(self.alloc, commands.len())?;
-        for command in commands {
-            let reply = self.apply(command);
-            replies.push_reserved(reply);
-        }
-        Ok(replies)
-    }
-
     fn create<S: NewSketch<T> + Drop>(&mut self, name: &str, sizes: S) -> Result<(), Refusal>
         ensures { Performed (option_bytes T.row) T.eq T.hash_input T.codec T.content
             (Action.Create name.now (S.shape sizes)) self.old (done_or result) self.new }
@@ -686,16 +522,6 @@ impl<T: FrequentItemValue + Clone + Drop> Session<T> {
             Some(image) => Ok(image),
             None => Err(Refusal::NoSuchName),
         }
-    }
-}
-
-/// Returns the reply, or `Refused` with the reason.
-fn told<T>(given: Result<Reply<T>, Refusal>) -> Reply<T>
-    ensures { result ≡ told given }
-{
-    match given {
-        Ok(reply) => reply,
-        Err(refusal) => Reply::Refused(refusal),
     }
 }
 

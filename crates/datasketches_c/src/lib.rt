@@ -15,6 +15,7 @@ mod filter;
 mod filter_joins;
 mod filter_strings;
 mod frequent;
+mod frequent_images;
 mod frequent_items;
 mod frequent_rows;
 mod frequent_sketches;

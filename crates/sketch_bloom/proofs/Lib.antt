@@ -21,3 +21,4 @@ pub mod SeriesOfLn2
 pub mod SuggestedHashes
 pub mod Logarithms
 pub mod SuggestedBits
+pub mod Parts

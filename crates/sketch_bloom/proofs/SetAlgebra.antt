@@ -35,7 +35,7 @@ pub inserted_is_contained : (a : FilterState) (bytes : List ℕ) → contains_it
 inserted_is_contained a bytes = subset_by_members (item_positions a bytes) (set.union a.set (item_positions a bytes)) (λ q h. contains-union a.set (item_positions a bytes) q ∙ or_right (set.contains a.set q) (set.contains (item_positions a bytes) q) h)
 
 -- compatible filters have the same positions of an item
-same_positions : (a b : FilterState) (bytes : List ℕ) → IsCompatible a b → item_positions a bytes ≡ item_positions b bytes
+pub same_positions : (a b : FilterState) (bytes : List ℕ) → IsCompatible a b → item_positions a bytes ≡ item_positions b bytes
 same_positions a b bytes c = λ i. positions (64 * c.num_words i) (c.num_hashes i) (xxh64 bytes (c.seed i)) (xxh64 bytes (xxh64 bytes (c.seed i)))
 
 -- the first position of an item

@@ -12,3 +12,4 @@ pub mod Preamble
 pub mod Laws
 pub mod Equality
 pub mod Sizes
+pub mod Parts

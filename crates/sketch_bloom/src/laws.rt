@@ -1,10 +1,11 @@
-//! The laws of set algebra, of equality and of images, as theorems.
+//! The laws of set algebra, of parts, of equality and of images, as theorems.
 //!
 //! Each function but `restored` does nothing: its clauses are the law. The laws are about the states that the contracts
 //! of [`BloomFilter`](crate::BloomFilter) name.
 ghost use Rattle.std.specs.Prelude.{◌≡◌, IfOk, IfErr};
 ghost use Rattle.sketch_base.specs.Errors.{no_memory};
 ghost use Rattle.sketch_bloom.specs.Laws.{SpelledIsImage, ImageIsOfOne, ImageIsOfSome, UnionCommutes, UnionAssociates, UnionIsIdempotent, UnionKeeps, UnionBrings, EmptyContainsNothing, InsertedIsContained, DifferenceTakesAway, DifferenceAddsNothing, DifferenceLeaves, EqualByParts, EqualityIsReflexive, EqualityIsSymmetric, EqualityIsTransitive};
+ghost use Rattle.sketch_bloom.specs.Parts.{PartsAreContained};
 
 use crate::bloom_filter::BloomFilter;
 use sketch_base::Error;
@@ -21,6 +22,14 @@ pub fn union_is_set_union()
     ensures idempotent { UnionIsIdempotent }
     ensures keeps { UnionKeeps }
     ensures brings { UnionBrings }
+{}
+
+/// States that a filter contains what each of its parts contains.
+///
+/// The parts are the filter itself, the filter before each insertion, and both sides of each union with their parts. They
+/// begin anew with each intersection, difference or reset, which may remove positions.
+pub fn parts_are_contained()
+    ensures { PartsAreContained }
 {}
 
 /// States that a filter with an empty set contains no item, and that an item is contained after it was inserted.

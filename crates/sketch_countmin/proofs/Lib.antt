@@ -26,6 +26,7 @@ pub mod Chains
 pub mod Fractions
 pub mod Histories
 pub mod States
+pub mod Streams
 pub mod SeriesOfE
 pub mod StringUpdates
 pub mod SuggestedBuckets

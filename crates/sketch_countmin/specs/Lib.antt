@@ -15,6 +15,7 @@ pub mod Shapes
 pub mod Sizes
 pub mod Stands
 pub mod State
+pub mod Streams
 pub mod Table
 pub mod ValueLaws
 pub mod Values

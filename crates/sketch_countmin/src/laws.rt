@@ -7,6 +7,7 @@ ghost use Rattle.sketch_countmin.specs.Rows.{cell_at};
 ghost use Rattle.sketch_countmin.specs.Sizes.{IsETimesWithin};
 ghost use Rattle.sketch_countmin.specs.Stands.{StandsFor};
 ghost use Rattle.sketch_countmin.specs.State.{CountState, margin, IsCountState, SameShape, Joins, IsMin, IsMinCell};
+ghost use Rattle.sketch_countmin.specs.Streams.{CellsAreSharesOfStreams};
 
 use crate::count_min_sketch::CountMinSketch;
 use crate::count_min_value::CountMinValue;
@@ -58,6 +59,14 @@ pub fn min_cell_bounds()
         → IsMin s.hashes (others_share s.buckets s.seed h bytes) (least -ℤ own_value h bytes) }
     ensures empty { (greatest : ℕ) (s : CountState) → IsCountState greatest s → s.total ≡ 0
         → (r b : ℕ) → cell_at s.rows r b ≡ pos 0 }
+{}
+
+/// States that each cell of a merged sketch is its bucket's share of all its streams together. Does nothing.
+///
+/// The streams are the sketch's own updates, and those of the sketches that were merged into it, since the last halving
+/// or decay. A stream counts as often as it was merged. A halved or decayed sketch is one stream from then on.
+pub fn stream_cells()
+    ensures { (s : CountState) (h : CountHistory) → StandsFor s h → CellsAreSharesOfStreams s h }
 {}
 
 /// States how far the upper bound is above the estimate. Does nothing.

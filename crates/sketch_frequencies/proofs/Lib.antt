@@ -35,6 +35,7 @@ pub mod SlotEntries
 pub mod SpelledSizes
 pub mod Spellings
 pub mod StepsByKey
+pub mod Streams
 pub mod StringUpdates
 pub mod SuggestedSizes
 pub mod Tail

@@ -17,6 +17,7 @@ pub mod Sizes
 pub mod Stands
 pub mod State
 pub mod Steps
+pub mod Streams
 pub mod Strings
 pub mod SuggestedSizes
 pub mod WeightedBatches

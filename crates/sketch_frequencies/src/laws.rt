@@ -8,6 +8,7 @@ ghost use Rattle.sketch_frequencies.specs.Image.{IsImageWritingRefusal};
 ghost use Rattle.sketch_frequencies.specs.Laws.{SpelledIsImage, ImageIsOfOne, ImageIsOfSome, ImageIsWithinTotal};
 ghost use Rattle.sketch_frequencies.specs.Stands.{Encloses, KeepsTailBudget};
 ghost use Rattle.sketch_frequencies.specs.State.{FrequentState, max_sample_size};
+ghost use Rattle.sketch_frequencies.specs.Streams.{EnclosesStreams, KeepsBudgetOfStreams};
 ghost use Rattle.sketch_frequencies.specs.SuggestedSizes.{usual_budget};
 ghost use Rattle.sketch_frequencies.specs.Steps.{HoldsSame};
 
@@ -52,6 +53,16 @@ pub fn map_size_bounds<T: Eq>()
         → n ≤ budget_size h → n * s.error ≤ total_weight h }
     ensures usual { (s : FrequentState T) (h : FrequentHistory T) (m n : ℕ) → Encloses T.eq s h → KeepsTailBudget T.eq s h
         → HasUsualSamples h → m ≤ min_size h → n ≤ usual_budget m → n * s.error ≤ total_weight h }
+{}
+
+/// Proves that the bounds and the tail budget of a merged sketch hold for all its streams together.
+///
+/// The streams are the sketch's own updates, and those of the sketches that were merged into it since its last reset. A stream
+/// counts as often as it was merged. Each true weight, summed over the streams, lies between its bounds (`encloses`). The tail
+/// budget is kept for the sum, with the smallest sample size of the streams (`budget`).
+pub fn stream_bounds<T: Eq>()
+    ensures encloses { (s : FrequentState T) (h : FrequentHistory T) → Encloses T.eq s h → EnclosesStreams T.eq s h }
+    ensures budget { (s : FrequentState T) (h : FrequentHistory T) → KeepsTailBudget T.eq s h → KeepsBudgetOfStreams T.eq s h }
 {}
 
 /// Writes an image of the sketch and reads it again.

@@ -3,7 +3,7 @@ use Rattle.counter_table.specs.Bytes.{table_bytes}
 use Rattle.sketch_frequencies.specs.Items.{u64_codec}
 use Rattle.datasketches_c.specs.FrequentImages.{u64_row}
 use Rattle.datasketches_c.proofs.Reading.{items_not_read_with}
-use Rattle.datasketches_c.proofs.frequent_sketches.ds_frequent_items_u64_deserialize_prefix_with_key.Goals as goal
+use Rattle.datasketches_c.proofs.frequent_images.ds_frequent_items_u64_deserialize_prefix_with_key.Goals as goal
 
 -- the image was refused, or the handle found no memory; the bytes of a slot are those of the type
 pub returns : goal.returns
