@@ -1,6 +1,6 @@
-use Rattle.std.proofs.Common.{◌≡◌, ◌+◌, ◌*◌, ◌-◌, ◌^◌, length, drop, take, arith, sym, ◌∙◌, ap}
+use Rattle.std.proofs.Common.{◌+◌, ◌*◌, ◌-◌, ◌^◌, length, arith, sym, ◌∙◌, ap}
 use Rattle.sketch_base.specs.Split.{separates}
-use Rattle.sketch_base.proofs.Marks.{marks, next_fits, next_marks, last_marks, none_left}
+use Rattle.sketch_base.proofs.Marks.{next_fits, next_marks, last_marks, none_left}
 use Rattle.sketch_base.proofs.separator.Separator.marks_by.Goals as goal
 
 pub overflow_add-marks : goal.overflow_add-marks
