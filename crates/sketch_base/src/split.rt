@@ -1,5 +1,5 @@
 //! Splits strings into words and lines.
-ghost use Rattle.std.specs.Prelude.{◌≡◌, ◌+◌, ◌≤◌, length, take};
+ghost use Rattle.std.specs.Prelude.{◌≡◌, ◌+◌, ◌≤◌, length, take, drop};
 ghost use Rattle.std.specs.Str.Lines.{lines, strip_carriage_return};
 ghost use Rattle.sketch_base.specs.Split.{CutsUtf8, IsBehindLast, SplitsAt, TakesLine, separates, with_word, words_by};
 ghost use Rattle.sketch_base.specs.Strings.{strings_at};
@@ -35,7 +35,8 @@ pub fn next_word(text: &str, separator: Separator) -> (&str, &str)
     text.split_at(first_separator(text.as_bytes(), separator))
 }
 
-/// Writes the first words of a string to an array, as many as it has elements. Returns their number.
+/// Writes the first words of a string to `words`, as many as it has elements. Returns their number. The elements behind
+/// them stay.
 ///
 /// # Examples
 ///
@@ -52,6 +53,7 @@ pub fn first_words<'a>(text: &'a str, separator: Separator, words: &mut [&'a str
     ensures few { result ≤ length words.new }
     ensures words { strings_at (take result words.new)
         ≡ take (length words.old) (words_by separator text.now) }
+    ensures others { drop result words.new ≡ drop result words.old }
 {
     let mut rest = MarkedText::new(text, separator);
     let mut count = 0;

@@ -1,6 +1,6 @@
 //! Bytes that are tested for UTF-8.
-ghost use Rattle.std.specs.Prelude.{ℕ, ◌≡◌, ◌+◌, ◌<◌, ◌≤◌, IsTrue, MatchResult, length, slice_index};
-ghost use Rattle.std.specs.Str.{IsAscii, IsUtf8};
+ghost use Rattle.std.specs.Prelude.{ℕ, ◌≡◌, ◌+◌, ◌<◌, ◌≤◌, IfErr, IsTrue, MatchResult, length, slice_index};
+ghost use Rattle.std.specs.Str.{IsAscii, IsErrorLen, IsUtf8, IsValidUpTo, error_len, valid_up_to};
 
 use std::simd::prelude::*;
 use std::str::Utf8Error;
@@ -22,8 +22,9 @@ use std::str::Utf8Error;
 /// ```
 #[inline]
 pub fn from_utf8(bytes: &[u8]) -> Result<&str, Utf8Error>
-    ensures { MatchResult result (λ text. (text.now ≡ bytes.now) × IsUtf8 bytes.now)
-        (λ _. ¬ (IsUtf8 bytes.now)) }
+    ensures cases { MatchResult result (λ text. (text.now ≡ bytes.now) × IsUtf8 bytes.now)
+        (λ e. ¬ (IsUtf8 bytes.now) × IsValidUpTo bytes.now (valid_up_to e)) }
+    ensures error_len { IfErr result (λ e. IsErrorLen bytes.now (valid_up_to e) (error_len e)) }
 {
     if is_ascii(bytes) {
         return Ok(unsafe { str::from_utf8_unchecked(bytes) });

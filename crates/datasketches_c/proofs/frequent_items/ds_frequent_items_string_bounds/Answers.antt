@@ -15,7 +15,7 @@ returns-in-Some-part_in-clause-utf8 c =
     let call : ℤ → Type 0 = λ z. ReadsFrequentStrings c.args.handle.now.value c.give.new.self.value z (λ s. (z ≡ ok) × AreBoundsOfString s c.args.item.now asked.new.bounds) in
     λ utf8. handed_on call asked.result asked.type_inv
     (on_kind_said (reads frequent_strings_of) c.args.handle.now.value c.give.new.self.value c.deref.result.now sketch asked.result (λ s. (asked.result ≡ ok) × AreBoundsOfString s c.args.item.now asked.new.bounds)
-    (c.in-Some.ensures.sketch ∙ ap Some (sym c.deref.ensures)) c.in-Some-part_in.ensures (asked.ensures.0, subst (λ string. AreBoundsOfString sketch string asked.new.bounds) c.in-Ok.ensures.0 asked.ensures.1))
+    (c.in-Some.ensures.sketch ∙ ap Some (sym c.deref.ensures)) c.in-Some-part_in.ensures (asked.ensures.0, subst (λ string. AreBoundsOfString sketch string asked.new.bounds) c.in-Ok.ensures.cases.0 asked.ensures.1))
 
 pub returns-in-Some-part_in-clause-untouched : goal.returns-in-Some-part_in-clause-untouched
 returns-in-Some-part_in-clause-untouched c =

@@ -15,7 +15,7 @@ returns-in-Some-part_of-clause-utf8 c =
     let call : ℤ → Type 0 = λ z. OnFrequentStrings c.args.handle.now.value c.give.new.self.value z (λ s. HoldsFrequentStrings c.give.new.self.value (λ t. UpdatesString s c.args.item.now c.args.weight t z)) in
     λ utf8. handed_on call added.result added.type_inv
     (changed frequent_strings_of (λ s t. UpdatesString s c.args.item.now c.args.weight t added.result) c.args.handle.now.value c.give.new.self.value c.deref_mut.result.now (FrequentStrings added.new.sketch) sketch added.new.sketch added.result
-    (c.in-Some.ensures.sketch ∙ ap Some (sym c.deref_mut.ensures.value)) c.in-Some-part_of.ensures.which.0 c.give.ensures refl (subst (λ string. UpdatesString sketch string c.args.weight added.new.sketch added.result) c.in-Ok.ensures.0 added.ensures.updates))
+    (c.in-Some.ensures.sketch ∙ ap Some (sym c.deref_mut.ensures.value)) c.in-Some-part_of.ensures.which.0 c.give.ensures refl (subst (λ string. UpdatesString sketch string c.args.weight added.new.sketch added.result) c.in-Ok.ensures.cases.0 added.ensures.updates))
 
 pub returns-in-Some-part_of-clause-refused : goal.returns-in-Some-part_of-clause-refused
 returns-in-Some-part_of-clause-refused c =

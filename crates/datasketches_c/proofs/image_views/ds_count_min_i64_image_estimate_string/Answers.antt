@@ -11,4 +11,4 @@ pub returns-clause-utf8 : goal.returns-clause-utf8
 returns-clause-utf8 c = λ utf8.
     let asked = c.estimate_str in
     let Said : ℤ → List ℕ → Type 0 = λ z string. AsksCount min_i64 max_i64 c.args.seed c.args.image.now (λ s. (z ≡ ok) × IsEstimate s (fed_bytes fed.str string) c.estimate_str.new.estimate) z in
-    handed_on (λ z. Said z c.args.item.now) asked.result asked.type_inv (subst (Said asked.result) c.in-Ok.ensures.0 asked.ensures.estimate)
+    handed_on (λ z. Said z c.args.item.now) asked.result asked.type_inv (subst (Said asked.result) c.in-Ok.ensures.cases.0 asked.ensures.estimate)

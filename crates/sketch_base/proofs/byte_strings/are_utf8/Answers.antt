@@ -15,14 +15,14 @@ returns-in_default c =
     let items = c.args.items.now in
     let placed : c.each.i < length items = c.each-test.true in
     let there : c.each.i < length (strings_at items) = omega (arith, length-strings_at items) in
-    (λ (t : IsTrue false). absurd (false≢true t), λ (all : All IsUtf8 (strings_at items)). absurd (c.in_default.ensures (subst IsUtf8 (get_or-strings_at items c.each.i _ placed) (all c.each.i [] there))))
+    (λ (t : IsTrue false). absurd (false≢true t), λ (all : All IsUtf8 (strings_at items)). absurd (c.in_default.ensures.cases.0 (subst IsUtf8 (get_or-strings_at items c.each.i _ placed) (all c.each.i [] there))))
 
 pub each-preserved : goal.each-preserved
 each-preserved c =
     let items = c.args.items.now in
     let placed : c.each.i < length items = c.each-test.true in
     let there : c.each.i < length (strings_at items) = omega (arith, length-strings_at items) in
-    All-more IsUtf8 (strings_at items) c.each.i [] there c.each.invariant (subst IsUtf8 (sym (get_or-strings_at items c.each.i _ placed)) c.in-Ok.ensures.1)
+    All-more IsUtf8 (strings_at items) c.each.i [] there c.each.invariant (subst IsUtf8 (sym (get_or-strings_at items c.each.i _ placed)) c.in-Ok.ensures.cases.1)
 
 pub returns : goal.returns
 returns c =

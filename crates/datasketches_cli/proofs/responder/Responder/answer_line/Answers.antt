@@ -5,10 +5,10 @@ use Rattle.datasketches_cli.proofs.responder.Responder.answer_line.Goals as goal
 
 pub returns-in_ok-write_outcome-in-Some-Ok : goal.returns-in_ok-write_outcome-in-Some-Ok
 returns-in_ok-write_outcome-in-Some-Ok c =
-    let (request, says, step) = says_request _ c.args.line.now c.in-Ok.text.now _ _ _ c.run.new.answer c.in-Some-Ok.ran c.in-Ok.ensures.0 c.in-Ok.ensures.1 c.first_words-count.ensures.words (rw c.in-Some-Ok.field-0-is at c.in-Some-Ok.ensures) in
+    let (request, says, step) = says_request _ c.args.line.now c.in-Ok.text.now _ _ _ c.run.new.answer c.in-Some-Ok.ran c.in-Ok.ensures.cases.0 c.in-Ok.ensures.cases.1 c.first_words-count.ensures.words (rw c.in-Some-Ok.field-0-is at c.in-Some-Ok.ensures) in
     (request, says, (answer_by c.run.new.answer c.in-Some-Ok.ran, step, c.in_ok-write_outcome-in-Some-Ok.ensures))
 
 pub returns-in-None : goal.returns-in-None
 returns-in-None c =
-    let (bad, stays) = says_none _ c.args.line.now c.in-Ok.text.now _ _ _ _ _ c.in-Ok.ensures.0 c.if-is_empty.false c.is_empty.ensures c.first_words-count.ensures.words c.in-None.ensures in
+    let (bad, stays) = says_none _ c.args.line.now c.in-Ok.text.now _ _ _ _ _ c.in-Ok.ensures.cases.0 c.if-is_empty.false c.is_empty.ensures c.first_words-count.ensures.words c.in-None.ensures in
     (bad, (stays, refl))
