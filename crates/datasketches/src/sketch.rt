@@ -4,11 +4,11 @@ ghost use Rattle.sketch_base.specs.Errors.{refusal_of};
 ghost use Rattle.counter_table.specs.Bytes.{option_bytes};
 ghost use Rattle.datasketches.specs.Actions.{Change};
 ghost use Rattle.datasketches.specs.Answering.{Tells, Lists, status_of};
-ghost use Rattle.datasketches.specs.Changing.{Adds, AddsSigned, Inserts, Resets, Halves, Decays};
+ghost use Rattle.datasketches.specs.Changing.{Changes};
 ghost use Rattle.datasketches.specs.Histories.{begun, changed, joined};
 ghost use Rattle.datasketches.specs.Images.{IsWrittenBy, IsReadFrom, IsWriteRefusal, IsReadRefusal, IsLoadRefusal, TakesWithin, GivesBack, load_fault};
 ghost use Rattle.datasketches.specs.Keyed.{AddsNamed};
-ghost use Rattle.datasketches.specs.Joining.{Joins, Merges};
+ghost use Rattle.datasketches.specs.Joining.{Joins};
 ghost use Rattle.datasketches.specs.Replies.{done_or, told_as};
 ghost use Rattle.datasketches.specs.Shapes.{empty_sketch, fault_of};
 ghost use Rattle.datasketches.specs.Stands.{StandsFor, Carries, CarriesBoth};
@@ -55,7 +55,7 @@ impl<T: Eq + Hash + Drop> Sketch<T> {
     /// This and the other changes return `WrongKind` if the kind does not support the change, and the error of the sketch's
     /// own call if that fails. The sketch is then unchanged.
     pub fn add(&mut self, item: T, weight: u64) -> Result<(), Refusal>
-        ensures own { Adds T.eq T.hash_input item weight self.old (done_or result) self.new }
+        ensures own { Changes T.eq T.hash_input (Change.Add item weight) self.old (done_or result) self.new }
         ensures carries { OnOk result (Carries T.eq (changed T.hash_input (Change.Add item weight)) self.old self.new) }
         ensures refused { OnErr result (self.new ≡ self.old) }
     {
@@ -84,7 +84,8 @@ impl<T: Eq + Hash + Drop> Sketch<T> {
 
     /// Adds an item with a weight to a Count-Min sketch of signed weights.
     pub fn add_signed<K: ItemKey<T>>(&mut self, item: K, weight: i64) -> Result<(), Refusal>
-        ensures own { (x : T) → IsTrue (K.names item x) → AddsSigned T.hash_input x weight self.old (done_or result) self.new }
+        ensures own { (x : T) → IsTrue (K.names item x)
+            → Changes T.eq T.hash_input (Change.AddSigned x weight) self.old (done_or result) self.new }
         ensures carries { (x : T) → IsTrue (K.names item x)
             → OnOk result (Carries T.eq (changed T.hash_input (Change.AddSigned x weight)) self.old self.new) }
         ensures refused { OnErr result (self.new ≡ self.old) }
@@ -98,7 +99,8 @@ impl<T: Eq + Hash + Drop> Sketch<T> {
     /// Inserts an item into a filter.
     #[inline(always)]
     pub fn insert<K: ItemKey<T>>(&mut self, item: K) -> Result<(), Refusal>
-        ensures own { (x : T) → IsTrue (K.names item x) → Inserts T.hash_input x self.old (done_or result) self.new }
+        ensures own { (x : T) → IsTrue (K.names item x)
+            → Changes T.eq T.hash_input (Change.Insert x) self.old (done_or result) self.new }
         ensures carries { (x : T) → IsTrue (K.names item x)
             → OnOk result (Carries T.eq (changed T.hash_input (Change.Insert x)) self.old self.new) }
         ensures refused { OnErr result (self.new ≡ self.old) }
@@ -114,7 +116,7 @@ impl<T: Eq + Hash + Drop> Sketch<T> {
 
     /// Empties a sketch of frequent items or a filter.
     pub fn reset(&mut self) -> Result<(), Refusal>
-        ensures own { Resets self.old (done_or result) self.new }
+        ensures own { Changes T.eq T.hash_input Change.Reset self.old (done_or result) self.new }
         ensures carries { OnOk result (Carries T.eq (changed T.hash_input Change.Reset) self.old self.new) }
         ensures refused { OnErr result (self.new ≡ self.old) }
     {
@@ -133,7 +135,7 @@ impl<T: Eq + Hash + Drop> Sketch<T> {
 
     /// Halves all weights of a Count-Min sketch of nonnegative weights.
     pub fn halve(&mut self) -> Result<(), Refusal>
-        ensures own { Halves self.old (done_or result) self.new }
+        ensures own { Changes T.eq T.hash_input Change.Halve self.old (done_or result) self.new }
         ensures carries { OnOk result (Carries T.eq (changed T.hash_input Change.Halve) self.old self.new) }
         ensures refused { OnErr result (self.new ≡ self.old) }
     {
@@ -150,7 +152,7 @@ impl<T: Eq + Hash + Drop> Sketch<T> {
     ///
     /// Returns `BadFraction` if the fraction is not above 0 and at most 1.
     pub fn decay(&mut self, numerator: u64, denominator: u64) -> Result<(), Refusal>
-        ensures own { Decays numerator denominator self.old (done_or result) self.new }
+        ensures own { Changes T.eq T.hash_input (Change.Decay numerator denominator) self.old (done_or result) self.new }
         ensures carries { OnOk result (Carries T.eq (changed T.hash_input (Change.Decay numerator denominator)) self.old self.new) }
         ensures refused { OnErr result (self.new ≡ self.old) }
     {
