@@ -8,7 +8,6 @@ use Rattle.std.proofs.lemmas.Slice.Eq.{bytes_eq-Decides}
 use Rattle.sketch_base.specs.Errors.{ErrorValue, refusal_of}
 use Rattle.sketch_frequencies.specs.Items.{Codec}
 use Rattle.datasketches.specs.Actions.{Action, Action as action, Change, Join, Shape}
-use Rattle.datasketches.specs.Changing.{Changes}
 use Rattle.datasketches.specs.SessionStandsFor.{Paired, SessionStandsFor}
 use Rattle.datasketches.specs.Histories.{Assignment, History, accepted_told, put_at, begun, changed, joined, of_both, restored}
 use Rattle.datasketches.specs.Images.{Image, IsSavedOf, IsImageOf, IsWrittenBy, IsReadRefusal, IsWriteRefusal, IsLoadRefusal}
@@ -17,9 +16,9 @@ use Rattle.datasketches.specs.Loading.{IsActionTold}
 use Rattle.datasketches.specs.Names.{at_name, Puts, AreSame}
 use Rattle.datasketches.specs.Replies.{is_refused}
 use Rattle.datasketches.specs.Shapes.{fault_of}
-use Rattle.datasketches.specs.Stands.{StandsFor, Does, DoesWith}
+use Rattle.datasketches.specs.Stands.{StandsFor, DoesWith}
 use Rattle.datasketches.specs.State.{SessionState, IsUnchanged}
-use Rattle.datasketches.specs.Steps.{OnSketch, Stores, Creates, IsCreated, JoinsNamed, JoinsApart, MakesFrom, Writes, Reads, IsRestored, Loads, IsLoaded, Performs}
+use Rattle.datasketches.specs.Steps.{OnSketch, Alters, Stores, Creates, IsCreated, JoinsNamed, JoinsApart, MakesFrom, Writes, Reads, IsRestored, Loads, IsLoaded, Performs}
 use Rattle.datasketches.specs.declared.image_kind.ImageKind.{ImageKind}
 use Rattle.datasketches.specs.declared.reply.Reply.{Reply}
 use Rattle.datasketches.specs.declared.sketch.Sketch.{Sketch}
@@ -101,7 +100,7 @@ module _ {T C : Type 0} (slot : ℕ) (eq : T → T → Bool) (input : T → List
 
   -- a change
   altered_as : (change : Change T) (name : List ℕ) (sketch after : Sketch T) (r : Bool) (reply : Reply T) (old new : SessionState T) → is_refused reply ≡ r → at_name name old.sketches ≡ Some sketch →
-      Does eq (Changes eq input change) (changed input change) sketch reply after → Puts name after old.sketches new.sketches → AreSame old.images new.images → Outcome (action.Alter name change) reply old new
+      Alters eq input change sketch reply after → Puts name after old.sketches new.sketches → AreSame old.images new.images → Outcome (action.Alter name change) reply old new
   altered_as change name sketch after true reply old new r e does puts images =
       inl (r, record { sketches = put_again name sketch old.sketches new.sketches e (subst (λ (s : Sketch T). Puts name s old.sketches new.sketches) (does.refused r) puts); images = images })
   altered_as change name sketch after false reply old new r e does puts images = inr (
@@ -112,7 +111,7 @@ module _ {T C : Type 0} (slot : ℕ) (eq : T → T → Bool) (input : T → List
   )
 
   alters : (change : Change T) (name : List ℕ) (found : Option (Sketch T)) (reply : Reply T) (old new : SessionState T) → at_name name old.sketches ≡ found →
-      OnSketch (Does eq (Changes eq input change) (changed input change)) name old.sketches reply new.sketches → AreSame old.images new.images → Outcome (action.Alter name change) reply old new
+      OnSketch (Alters eq input change) name old.sketches reply new.sketches → AreSame old.images new.images → Outcome (action.Alter name change) reply old new
   alters change name None reply old new e on images = let done = rw e at on in inl (ap is_refused done.0, record { sketches = done.1; images = images })
   alters change name (Some sketch) reply old new e on images = let done = rw e at on in altered_as change name sketch done.0 (is_refused reply) reply old new refl e done.1 done.2 images
 

@@ -17,9 +17,9 @@ use Rattle.datasketches.specs.Names.{at_name, Puts, AreSame, Keeps}
 use Rattle.datasketches.specs.Performed.{Performed}
 use Rattle.datasketches.specs.Replies.{done_or}
 use Rattle.datasketches.specs.Shapes.{empty_sketch, fault_of}
-use Rattle.datasketches.specs.Stands.{StandsFor, Carries, Does}
+use Rattle.datasketches.specs.Stands.{StandsFor, Carries}
 use Rattle.datasketches.specs.State.{SessionState, IsUnchanged}
-use Rattle.datasketches.specs.Steps.{Stores, JoinsNamed, IsCreated, IsRestored, IsLoaded, Performs}
+use Rattle.datasketches.specs.Steps.{Alters, Stores, JoinsNamed, IsCreated, IsRestored, IsLoaded, Performs}
 use Rattle.datasketches.specs.declared.image_kind.ImageKind.{ImageKind}
 use Rattle.datasketches.specs.declared.reply.Refusal.{Refusal}
 use Rattle.datasketches.specs.declared.reply.Refusal.TheVariants.{NameTaken}
@@ -63,11 +63,10 @@ module _ {T C : Type 0} (slot : ℕ) (eq : T → T → Bool) (input : T → List
   -- ---- a change
 
   pub altered : (change : Change T) (name : List ℕ) (seen old new : SessionState T) (result : Result ⊤ Refusal) (before after : Sketch T) → seen ≡ old → at_name name seen.sketches ≡ Some before →
-      Changes eq input change before (done_or result) after → OnOk result (Carries eq (changed input change) before after) → OnErr result (after ≡ before) → Puts name after seen.sketches new.sketches → AreSame seen.images new.images →
-      Did (Alter name change) old (done_or result) new
-  altered change name seen old new result before after same found own carries err puts images =
+      Alters eq input change before (done_or result) after → Puts name after seen.sketches new.sketches → AreSame seen.images new.images → Did (Alter name change) old (done_or result) new
+  altered change name seen old new result before after same found does puts images =
       by_parts (Alter name change) seen old new (done_or result) same
-      (on_some (Does eq (Changes eq input change) (changed input change)) name seen.sketches new.sketches (done_or result) before after found (does eq (Changes eq input change) (changed input change) before after result own carries err) puts, images)
+      (on_some (Alters eq input change) name seen.sketches new.sketches (done_or result) before after found does puts, images)
 
   -- the session is unchanged if the sketch is
   kept : (name : List ℕ) (seen old new : SessionState T) (sketch after : Sketch T) → seen ≡ old → at_name name seen.sketches ≡ Some sketch → after ≡ sketch → Puts name after seen.sketches new.sketches → AreSame seen.images new.images → IsUnchanged old new
@@ -81,7 +80,7 @@ module _ {T C : Type 0} (slot : ℕ) (eq : T → T → Bool) (input : T → List
   pub altered_by_key : (name : List ℕ) (names : T → Bool) (weight : ℕ) (seen old new : SessionState T) (result : Result ⊤ Refusal) (before after : Sketch T) → seen ≡ old → at_name name seen.sketches ≡ Some before →
       AddsNamed eq input names weight before result after → ((x : T) → IsTrue (names x) → OnOk result (Carries eq (changed input (Add x weight)) before after)) → OnErr result (after ≡ before) → Puts name after seen.sketches new.sketches → AreSame seen.images new.images → PerformedByKey slot eq input codec content name names weight old result new
   altered_by_key name names weight seen old new result before after same found (inl (item, named, own)) carries err puts images =
-      inl (item, named, altered (Add item weight) name seen old new result before after same found own (carries item named) err puts images)
+      inl (item, named, altered (Add item weight) name seen old new result before after same found (does eq (Changes eq input (Add item weight)) (changed input (Add item weight)) before after result own (carries item named) err) puts images)
   altered_by_key name names weight seen old new result before after same found (inr out) carries err puts images =
       let here = subst (λ (s : SessionState T). at_name name s.sketches ≡ Some before) same found in
       inr (kept name seen old new before after same found (ran_out names before result after out err) puts images, rw here out)

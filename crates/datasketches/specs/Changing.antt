@@ -35,34 +35,6 @@ module _ {T : Type 0} where
         → (reply ≡ refused (invalid_argument WeightOverflow)) × (new ≡ old)
     pub counted : old.total + unsigned_abs weight ≤ greatest → (reply ≡ Done) × Counts old bytes weight new
 
-module _ {T : Type 0} (eq : T → T → Bool) (input : T → List (List ℕ)) where
-  abbrev pub Adds : T → ℕ → Sketch T → Reply T → Sketch T → Type 0
-  Adds item weight (Frequent s) reply new = Becomes Frequent (AddsFrequent eq item weight s) reply new
-  Adds item weight (CountU64 s) reply new =
-      Becomes CountU64 (AddsCount max_unsigned (fed_bytes input item) (pos weight) s) reply new
-  Adds item weight old reply new = IsWrongKind old reply new
-
-module _ {T : Type 0} (input : T → List (List ℕ)) where
-  abbrev pub AddsSigned : T → ℤ → Sketch T → Reply T → Sketch T → Type 0
-  AddsSigned item weight (CountI64 s) reply new =
-      Becomes CountI64 (AddsCount max_signed (fed_bytes input item) weight s) reply new
-  AddsSigned item weight old reply new = IsWrongKind old reply new
-
-  abbrev pub Inserts : T → Sketch T → Reply T → Sketch T → Type 0
-  Inserts item (Bloom s) reply new = (reply ≡ Done) × (new ≡ Bloom (inserted s (fed_bytes input item)))
-  Inserts item old reply new = IsWrongKind old reply new
-
-module _ {T : Type 0} where
-  -- the sketch is empty, and keeps its sizes and its seed. Count-Min sketches reject it
-  abbrev pub Resets : Sketch T → Reply T → Sketch T → Type 0
-  Resets (Frequent s) reply new = (reply ≡ Done) × (new ≡ Frequent (empty_state s.max_size s.sample_size))
-  Resets (Bloom s) reply new = (reply ≡ Done) × (new ≡ Bloom (cleared s))
-  Resets old reply new = IsWrongKind old reply new
-
-  abbrev pub Halves : Sketch T → Reply T → Sketch T → Type 0
-  Halves (CountU64 s) reply new = (reply ≡ Done) × (new ≡ CountU64 (halved_state s))
-  Halves old reply new = IsWrongKind old reply new
-
   -- the Count-Min sketch was scaled by a fraction above 0 and at most 1. Any other fraction was rejected, and the sketch is
   -- unchanged
   pub record DecaysCount (numerator denominator : ℕ) (old : CountState) (reply : Reply T) (new : CountState) : Type 0 where
@@ -71,16 +43,17 @@ module _ {T : Type 0} where
     pub scaled : 0 < numerator → numerator ≤ denominator
         → (reply ≡ Done) × (new ≡ decayed_state numerator denominator old)
 
-  abbrev pub Decays : ℕ → ℕ → Sketch T → Reply T → Sketch T → Type 0
-  Decays numerator denominator (CountU64 s) reply new = Becomes CountU64 (DecaysCount numerator denominator s) reply new
-  Decays numerator denominator old reply new = IsWrongKind old reply new
-
 module _ {T : Type 0} (eq : T → T → Bool) (input : T → List (List ℕ)) where
-  -- the effect of a change on a sketch
+  -- the effect of a change on a sketch. A reset sketch is empty, and keeps its sizes and its seed
   abbrev pub Changes : Change T → Sketch T → Reply T → Sketch T → Type 0
-  Changes (Add item weight) old reply new = Adds eq input item weight old reply new
-  Changes (AddSigned item weight) old reply new = AddsSigned input item weight old reply new
-  Changes (Insert item) old reply new = Inserts input item old reply new
-  Changes Reset old reply new = Resets old reply new
-  Changes Halve old reply new = Halves old reply new
-  Changes (Decay numerator denominator) old reply new = Decays numerator denominator old reply new
+  Changes (Add item weight) (Frequent s) reply new = Becomes Frequent (AddsFrequent eq item weight s) reply new
+  Changes (Add item weight) (CountU64 s) reply new =
+      Becomes CountU64 (AddsCount max_unsigned (fed_bytes input item) (pos weight) s) reply new
+  Changes (AddSigned item weight) (CountI64 s) reply new =
+      Becomes CountI64 (AddsCount max_signed (fed_bytes input item) weight s) reply new
+  Changes (Insert item) (Bloom s) reply new = (reply ≡ Done) × (new ≡ Bloom (inserted s (fed_bytes input item)))
+  Changes Reset (Frequent s) reply new = (reply ≡ Done) × (new ≡ Frequent (empty_state s.max_size s.sample_size))
+  Changes Reset (Bloom s) reply new = (reply ≡ Done) × (new ≡ Bloom (cleared s))
+  Changes Halve (CountU64 s) reply new = (reply ≡ Done) × (new ≡ CountU64 (halved_state s))
+  Changes (Decay numerator denominator) (CountU64 s) reply new = Becomes CountU64 (DecaysCount numerator denominator s) reply new
+  Changes _ old reply new = IsWrongKind old reply new

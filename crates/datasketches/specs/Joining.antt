@@ -38,29 +38,12 @@ module _ {T : Type 0} where
     pub joined : IsCompatible old other → (reply ≡ Done) × (new ≡ joined_filter old other)
 
 module _ {T : Type 0} (eq : T → T → Bool) where
-  abbrev pub Merges : Sketch T → Sketch T → Reply T → Sketch T → Type 0
-  Merges (Frequent other) (Frequent s) reply new = Becomes Frequent (JoinsFrequent eq other s) reply new
-  Merges (CountI64 other) (CountI64 s) reply new = Becomes CountI64 (JoinsCount max_signed other s) reply new
-  Merges (CountU64 other) (CountU64 s) reply new = Becomes CountU64 (JoinsCount max_unsigned other s) reply new
-  Merges other old reply new = IsWrongKind old reply new
-
-module _ {T : Type 0} where
-  abbrev pub Unites : Sketch T → Sketch T → Reply T → Sketch T → Type 0
-  Unites (Bloom other) (Bloom s) reply new = Becomes Bloom (JoinsFilter united other s) reply new
-  Unites other old reply new = IsWrongKind old reply new
-
-  abbrev pub Intersects : Sketch T → Sketch T → Reply T → Sketch T → Type 0
-  Intersects (Bloom other) (Bloom s) reply new = Becomes Bloom (JoinsFilter intersected other s) reply new
-  Intersects other old reply new = IsWrongKind old reply new
-
-  abbrev pub Subtracts : Sketch T → Sketch T → Reply T → Sketch T → Type 0
-  Subtracts (Bloom other) (Bloom s) reply new = Becomes Bloom (JoinsFilter subtracted other s) reply new
-  Subtracts other old reply new = IsWrongKind old reply new
-
-module _ {T : Type 0} (eq : T → T → Bool) where
   -- the effect of combining another sketch into a sketch
   abbrev pub Joins : Join → Sketch T → Sketch T → Reply T → Sketch T → Type 0
-  Joins Merge other old reply new = Merges eq other old reply new
-  Joins Union other old reply new = Unites other old reply new
-  Joins Intersect other old reply new = Intersects other old reply new
-  Joins Difference other old reply new = Subtracts other old reply new
+  Joins Merge (Frequent other) (Frequent s) reply new = Becomes Frequent (JoinsFrequent eq other s) reply new
+  Joins Merge (CountI64 other) (CountI64 s) reply new = Becomes CountI64 (JoinsCount max_signed other s) reply new
+  Joins Merge (CountU64 other) (CountU64 s) reply new = Becomes CountU64 (JoinsCount max_unsigned other s) reply new
+  Joins Union (Bloom other) (Bloom s) reply new = Becomes Bloom (JoinsFilter united other s) reply new
+  Joins Intersect (Bloom other) (Bloom s) reply new = Becomes Bloom (JoinsFilter intersected other s) reply new
+  Joins Difference (Bloom other) (Bloom s) reply new = Becomes Bloom (JoinsFilter subtracted other s) reply new
+  Joins _ other old reply new = IsWrongKind old reply new

@@ -5,7 +5,7 @@ use Rattle.sketch_base.specs.Errors.{no_memory}
 use Rattle.sketch_frequencies.specs.Items.{Codec}
 use Rattle.datasketches.specs.Actions.Action.{Alter}
 use Rattle.datasketches.specs.Actions.Change.{Add}
-use Rattle.datasketches.specs.Changing.{Adds}
+use Rattle.datasketches.specs.Changing.{Changes}
 use Rattle.datasketches.specs.Names.{at_name}
 use Rattle.datasketches.specs.Performed.{Performed}
 use Rattle.datasketches.specs.Replies.{done_or}
@@ -29,7 +29,7 @@ module _ {T : Type 0} (eq : T → T → Bool) (input : T → List (List ℕ)) wh
   -- an item that the key names was added, or rejected, as it is by itself; or there was no memory for it
   abbrev pub AddsNamed : (T → Bool) → ℕ → Sketch T → Result ⊤ Refusal → Sketch T → Type 0
   AddsNamed names weight old result new =
-      ((item : T) × IsTrue (names item) × Adds eq input item weight old (done_or result) new) ⊎ RunsOut names old result
+      ((item : T) × IsTrue (names item) × Changes eq input (Add item weight) old (done_or result) new) ⊎ RunsOut names old result
 
 module _ {T C : Type 0} (slot : ℕ) (eq : T → T → Bool) (input : T → List (List ℕ)) (codec : Codec C) (content : T → C) where
   -- the same in a session, on the sketch of this name

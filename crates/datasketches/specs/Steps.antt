@@ -168,9 +168,13 @@ module _ {T C : Type 0} (slot : ℕ) (eq : T → T → Bool) (codec : Codec C) (
       (λ _. IsUnchanged old new × (reply ≡ Refused NameTaken))
 
 module _ {T : Type 0} (eq : T → T → Bool) (input : T → List (List ℕ)) where
+  -- the sketch and the histories that it stands for are changed, or an error leaves them unchanged
+  abbrev pub Alters : Change T → Sketch T → Reply T → Sketch T → Type 0
+  Alters change = Does eq (Changes eq input change) (changed input change)
+
   -- the sketch of the name is changed if it exists
   abbrev pub ChangesNamed : Change T → List ℕ → List (List ℕ × Sketch T) → Reply T → List (List ℕ × Sketch T) → Type 0
-  ChangesNamed change name = OnSketch (Does eq (Changes eq input change) (changed input change)) name
+  ChangesNamed change name = OnSketch (Alters change) name
 
 module _ {T C : Type 0} (slot : ℕ) (eq : T → T → Bool) (input : T → List (List ℕ)) (codec : Codec C)
     (content : T → C) where

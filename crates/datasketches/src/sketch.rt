@@ -1,17 +1,14 @@
 //! Sketches of four kinds, and what each kind does for a command.
-ghost use Rattle.std.specs.Prelude.{◌≡◌, ◌≢◌, None, IfOk, IfErr, IsOk, OnOk, OnErr, IsTrue, pos};
-ghost use Rattle.sketch_base.specs.Errors.{refusal_of};
+ghost use Rattle.std.specs.Prelude.{◌≡◌, None, IfOk, IfErr, IsOk, OnOk, OnErr, IsTrue, pos};
 ghost use Rattle.counter_table.specs.Bytes.{option_bytes};
 ghost use Rattle.datasketches.specs.Actions.{Change};
 ghost use Rattle.datasketches.specs.Answering.{Tells, Lists, status_of};
-ghost use Rattle.datasketches.specs.Changing.{Adds, AddsSigned, Inserts, Resets, Halves, Decays};
-ghost use Rattle.datasketches.specs.Histories.{begun, changed, joined};
+ghost use Rattle.datasketches.specs.Histories.{changed};
 ghost use Rattle.datasketches.specs.Images.{IsWrittenBy, IsReadFrom, IsWriteRefusal, IsReadRefusal, IsLoadRefusal, TakesWithin, GivesBack, load_fault};
 ghost use Rattle.datasketches.specs.Keyed.{AddsNamed};
-ghost use Rattle.datasketches.specs.Joining.{Joins, Merges};
 ghost use Rattle.datasketches.specs.Replies.{done_or, told_as};
-ghost use Rattle.datasketches.specs.Shapes.{empty_sketch, fault_of};
-ghost use Rattle.datasketches.specs.Stands.{StandsFor, Carries, CarriesBoth};
+ghost use Rattle.datasketches.specs.Stands.{Carries};
+ghost use Rattle.datasketches.specs.Steps.{Alters};
 
 use crate::image::Image;
 use crate::image_kind::ImageKind;
@@ -55,9 +52,7 @@ impl<T: Eq + Hash + Drop> Sketch<T> {
     /// This and the other changes return `WrongKind` if the kind does not support the change, and the error of the sketch's
     /// own call if that fails. The sketch is then unchanged.
     pub fn add(&mut self, item: T, weight: u64) -> Result<(), Refusal>
-        ensures own { Adds T.eq T.hash_input item weight self.old (done_or result) self.new }
-        ensures carries { OnOk result (Carries T.eq (changed T.hash_input (Change.Add item weight)) self.old self.new) }
-        ensures refused { OnErr result (self.new ≡ self.old) }
+        ensures { Alters T.eq T.hash_input (Change.Add item weight) self.old (done_or result) self.new }
     {
         match self {
             Sketch::Frequent(sketch) => Ok(sketch.update_with_count(item, weight)?),
@@ -84,10 +79,8 @@ impl<T: Eq + Hash + Drop> Sketch<T> {
 
     /// Adds an item with a weight to a Count-Min sketch of signed weights.
     pub fn add_signed<K: ItemKey<T>>(&mut self, item: K, weight: i64) -> Result<(), Refusal>
-        ensures own { (x : T) → IsTrue (K.names item x) → AddsSigned T.hash_input x weight self.old (done_or result) self.new }
-        ensures carries { (x : T) → IsTrue (K.names item x)
-            → OnOk result (Carries T.eq (changed T.hash_input (Change.AddSigned x weight)) self.old self.new) }
-        ensures refused { OnErr result (self.new ≡ self.old) }
+        ensures { (x : T) → IsTrue (K.names item x)
+            → Alters T.eq T.hash_input (Change.AddSigned x weight) self.old (done_or result) self.new }
     {
         match self {
             Sketch::CountI64(sketch) => Ok(sketch.update_with_weight(item, weight)?),
@@ -98,10 +91,8 @@ impl<T: Eq + Hash + Drop> Sketch<T> {
     /// Inserts an item into a filter.
     #[inline(always)]
     pub fn insert<K: ItemKey<T>>(&mut self, item: K) -> Result<(), Refusal>
-        ensures own { (x : T) → IsTrue (K.names item x) → Inserts T.hash_input x self.old (done_or result) self.new }
-        ensures carries { (x : T) → IsTrue (K.names item x)
-            → OnOk result (Carries T.eq (changed T.hash_input (Change.Insert x)) self.old self.new) }
-        ensures refused { OnErr result (self.new ≡ self.old) }
+        ensures { (x : T) → IsTrue (K.names item x)
+            → Alters T.eq T.hash_input (Change.Insert x) self.old (done_or result) self.new }
     {
         match self {
             Sketch::Bloom(filter) => {
@@ -114,9 +105,7 @@ impl<T: Eq + Hash + Drop> Sketch<T> {
 
     /// Empties a sketch of frequent items or a filter.
     pub fn reset(&mut self) -> Result<(), Refusal>
-        ensures own { Resets self.old (done_or result) self.new }
-        ensures carries { OnOk result (Carries T.eq (changed T.hash_input Change.Reset) self.old self.new) }
-        ensures refused { OnErr result (self.new ≡ self.old) }
+        ensures { Alters T.eq T.hash_input Change.Reset self.old (done_or result) self.new }
     {
         match self {
             Sketch::Frequent(sketch) => {
@@ -133,9 +122,7 @@ impl<T: Eq + Hash + Drop> Sketch<T> {
 
     /// Halves all weights of a Count-Min sketch of nonnegative weights.
     pub fn halve(&mut self) -> Result<(), Refusal>
-        ensures own { Halves self.old (done_or result) self.new }
-        ensures carries { OnOk result (Carries T.eq (changed T.hash_input Change.Halve) self.old self.new) }
-        ensures refused { OnErr result (self.new ≡ self.old) }
+        ensures { Alters T.eq T.hash_input Change.Halve self.old (done_or result) self.new }
     {
         match self {
             Sketch::CountU64(sketch) => {
@@ -150,9 +137,7 @@ impl<T: Eq + Hash + Drop> Sketch<T> {
     ///
     /// Returns `BadFraction` if the fraction is not above 0 and at most 1.
     pub fn decay(&mut self, numerator: u64, denominator: u64) -> Result<(), Refusal>
-        ensures own { Decays numerator denominator self.old (done_or result) self.new }
-        ensures carries { OnOk result (Carries T.eq (changed T.hash_input (Change.Decay numerator denominator)) self.old self.new) }
-        ensures refused { OnErr result (self.new ≡ self.old) }
+        ensures { Alters T.eq T.hash_input (Change.Decay numerator denominator) self.old (done_or result) self.new }
     {
         match self {
             Sketch::CountU64(sketch) => {

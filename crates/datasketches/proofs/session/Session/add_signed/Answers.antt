@@ -6,7 +6,6 @@ use Rattle.datasketches.proofs.session.Session.add_signed.Goals as goal
 
 pub returns : goal.returns
 returns g c = λ x is.
-    let e = c.add_signed.ensures in
     let weight = to_z-of_z c.ranges.weight in
-    altered _ g.T.PartialEq.eq g.T.Hash.hash_input g.T.FrequentItemValue.codec g.T.FrequentItemValue.content (AddSigned x c.args.weight) c.args.name.now _ c.args.self.now _ _ c.in-Some.sketch.now c.add_signed.new.self c.self.view_is (sym c.in-Some.ensures.value) (rw weight at (e.own x is)) (rw weight at (e.carries x is)) e.refused
+    altered _ g.T.PartialEq.eq g.T.Hash.hash_input g.T.FrequentItemValue.codec g.T.FrequentItemValue.content (AddSigned x c.args.weight) c.args.name.now _ c.args.self.now _ _ c.in-Some.sketch.now c.add_signed.new.self c.self.view_is (sym c.in-Some.ensures.value) (rw weight at (c.add_signed.ensures x is))
     (rw c.in-Some.is at (c.get_mut.follows.holds c.add_signed.new.self)) (λ name. refl)

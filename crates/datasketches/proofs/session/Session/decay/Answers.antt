@@ -5,6 +5,5 @@ use Rattle.datasketches.proofs.session.Session.decay.Goals as goal
 
 pub returns : goal.returns
 returns g c =
-    let e = c.decay.ensures in
-    altered _ g.T.PartialEq.eq g.T.Hash.hash_input g.T.FrequentItemValue.codec g.T.FrequentItemValue.content (Decay c.args.numerator c.args.denominator) c.args.name.now _ c.args.self.now _ _ c.in-Some.sketch.now c.decay.new.self c.self.view_is (sym c.in-Some.ensures.value) e.own e.carries e.refused
+    altered _ g.T.PartialEq.eq g.T.Hash.hash_input g.T.FrequentItemValue.codec g.T.FrequentItemValue.content (Decay c.args.numerator c.args.denominator) c.args.name.now _ c.args.self.now _ _ c.in-Some.sketch.now c.decay.new.self c.self.view_is (sym c.in-Some.ensures.value) c.decay.ensures
     (rw c.in-Some.is at (c.get_mut.follows.holds c.decay.new.self)) (λ name. refl)

@@ -5,6 +5,5 @@ use Rattle.datasketches.proofs.session.Session.insert.Goals as goal
 
 pub returns : goal.returns
 returns g c = λ x is.
-    let e = c.insert.ensures in
-    altered _ g.T.PartialEq.eq g.T.Hash.hash_input g.T.FrequentItemValue.codec g.T.FrequentItemValue.content (Insert x) c.args.name.now _ c.args.self.now _ _ c.in-Some.sketch.now c.insert.new.self c.self.view_is (sym c.in-Some.ensures.value) (e.own x is) (e.carries x is) e.refused
+    altered _ g.T.PartialEq.eq g.T.Hash.hash_input g.T.FrequentItemValue.codec g.T.FrequentItemValue.content (Insert x) c.args.name.now _ c.args.self.now _ _ c.in-Some.sketch.now c.insert.new.self c.self.view_is (sym c.in-Some.ensures.value) (c.insert.ensures x is)
     (rw c.in-Some.is at (c.get_mut.follows.holds c.insert.new.self)) (λ name. refl)
