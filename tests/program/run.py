@@ -20,6 +20,7 @@ import cluster  # noqa: E402
 import counted  # noqa: E402
 import examples  # noqa: E402
 import keys  # noqa: E402
+import links  # noqa: E402
 import loads  # noqa: E402
 import sessions  # noqa: E402
 import streams  # noqa: E402
@@ -595,6 +596,7 @@ def main():
         tests.failing_streams()
         tests.sizes()
         examples.check(tests)
+        links.check(tests)
         print(f"requests refused in turn: {worked} and {many} of the program, {run} of a run of a session")
         print(f"{before[0] + tests.passed} passed, {before[1] + tests.failed} failed")
     sys.exit(1 if before[1] + tests.failed else 0)
