@@ -34,7 +34,7 @@ use sketch_frequencies::{FrequentItemValue, laws as frequencies};
 /// - `budget`: it keeps the tail budget.
 /// - `sample`: its purges sample the number of counters that its history says.
 ///
-/// Let L be the least sample size and M the least greatest size of all sketches that took part.
+/// Let L be the smallest sample size and M the smallest maximum size of all sketches that took part since the last reset.
 ///
 /// - `sampled`: the error is at most 2 / L of the total weight.
 /// - `small`: it is at most 8 / 3M of the total weight if no sample size was chosen and M is at most 1024.

@@ -32,8 +32,9 @@ use std::marker::Model;
 /// to the error. So each item's true weight lies between its `lower_bound` and its `upper_bound`, which differ by
 /// `maximum_error`.
 ///
-/// The sample size is the number of counters that a purge samples. It is chosen when the sketch is created. A small sample
-/// makes a purge cheap, and a large one keeps the error small. The tail budget may set aside half as many items.
+/// The sample size is the number of counters that a purge samples. Constructors choose it, and
+/// [`set_sample_size`](Self::set_sample_size) changes it. A small sample makes a purge cheap, and a large one keeps the error
+/// small. The tail budget may set aside half as many items as the smallest sample size that the sketch had since its last reset.
 ///
 /// # Examples
 ///

@@ -31,9 +31,9 @@ pub fn image_laws<T: FrequentItemValue>()
 
 /// Proves the bounds that the tail budget gives for the error.
 ///
-/// Let W be the total weight, and L the smallest sample size of all sketches that took part: L * error <= 2 * W. Let `new`
-/// have created all of them, and let M be their smallest maximum size: 3 * M * error <= 8 * W if M <= 1024, and
-/// 512 * error <= W otherwise.
+/// Let W be the total weight, and L the smallest sample size of all sketches that took part since the last reset, also of those
+/// that were set: L * error <= 2 * W. Let `new` have created all of them with no size set, and let M be their smallest maximum
+/// size: 3 * M * error <= 8 * W if M <= 1024, and 512 * error <= W otherwise.
 pub fn error_bounds<T: Eq>()
     ensures sampled { (s : FrequentState T) (h : FrequentHistory T) → Encloses T.eq s h → KeepsTailBudget T.eq s h
         → min_sample h * s.error ≤ 2 * total_weight h }

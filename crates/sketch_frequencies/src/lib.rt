@@ -8,7 +8,7 @@
 //!
 //! The tail of the stream bounds the error (Berinde, Indyk, Cormode & Strauss 2009). Let h be half the sample size, and S any
 //! set of at most h items. The kept counts outside S plus (h - |S|) * error are at most the weight outside S. Merges keep
-//! these bounds, with the smallest sample size of all sketches that took part (Agarwal et al. 2012).
+//! these bounds, with the smallest sample size of all sketches that took part since the last reset (Agarwal et al. 2012).
 //!
 //! A sketch of items that are [`FrequentItemValue`] is written as an image of bytes, and read from one. Items are strings,
 //! 64-bit numbers, or of a user's own type. [`laws`] has the laws of images.

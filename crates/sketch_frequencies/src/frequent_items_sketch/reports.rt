@@ -202,9 +202,9 @@ impl<T: Eq + Hash + Drop> FrequentItemsSketch<T> {
 
     /// Returns the error: the difference between each item's upper and lower bound.
     ///
-    /// Let W be the total weight, and L the smallest sample size of all sketches that took part: L * error <= 2 * W. Let `new`
-    /// have created all of them, and let M be their smallest maximum size: 3 * M * error <= 8 * W if M <= 1024, and
-    /// 512 * error <= W otherwise.
+    /// Let W be the total weight, and L the smallest sample size of all sketches that took part since the last reset, also of those
+    /// that were set: L * error <= 2 * W. Let `new` have created all of them with no size set, and let M be their smallest maximum
+    /// size: 3 * M * error <= 8 * W if M <= 1024, and 512 * error <= W otherwise.
     pub fn maximum_error(&self) -> u64
         ensures value { result ≡ self.now.error }
 
