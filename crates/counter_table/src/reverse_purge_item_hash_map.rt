@@ -51,6 +51,8 @@ use std::mem;
 pub struct ReversePurgeItemHashMap<T: Eq + Hash + Drop> {
     table: SlotTable<T>,
     active: usize,
+    /// The number of purges. A keyed table begins each sample at another slot, also after a `clear`.
+    purges: u64,
 }
 
 impl<T: Eq + Hash + Drop> Model for ReversePurgeItemHashMap<T> {
@@ -89,7 +91,11 @@ impl<T: Eq + Hash + Drop> ReversePurgeItemHashMap<T> {
         ensures err { IfErr result (λ e. e ≡ no_memory) }
     {
         let table = SlotTable::new(alloc, key, map_size)?;
-        Ok(ReversePurgeItemHashMap { table, active: 0 })
+        Ok(ReversePurgeItemHashMap {
+            table,
+            active: 0,
+            purges: 0,
+        })
     }
 
     /// Returns the key under which the table hashes.
@@ -244,7 +250,8 @@ impl<T: Eq + Hash + Drop> ReversePurgeItemHashMap<T> {
             ≤ length self.old.entries }
     {
         let size = sample_size.min(self.active.min(MAX_SAMPLE_SIZE));
-        let middle = self.table.middle_of(size);
+        let middle = self.table.middle_of(self.purges, size);
+        self.purges = self.purges.wrapping_add(1);
         let removed = self.table.lower(middle);
         self.active -= removed;
         middle
@@ -347,6 +354,7 @@ impl<T: Eq + Hash + Drop> ReversePurgeItemHashMap<T> {
         Ok(ReversePurgeItemHashMap {
             table,
             active: self.active,
+            purges: self.purges,
         })
     }
 
