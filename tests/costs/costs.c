@@ -57,6 +57,9 @@ static void new_filter(ds_sketch *handle, size_t bits) { check(!ds_bloom_new(han
 static void new_count(ds_sketch *handle, size_t buckets) { check(!ds_count_min_u64_new(handle, 4, buckets, 9001), "count"); }
 static void new_signed(size_t buckets) { check(!ds_count_min_i64_new(&sketch, 4, buckets, 9001), "count"); }
 static void new_numbers(ds_sketch *handle) { check(!ds_frequent_items_u64_new(handle, SLOTS, SAMPLE), "numbers"); }
+#ifdef HAS_KEYS
+static void new_keyed(ds_sketch *handle) { check(!ds_frequent_items_u64_new_with_key(handle, SLOTS, SAMPLE, 1, 2), "key"); }
+#endif
 static void new_strings(ds_sketch *handle) { check(!ds_frequent_items_string_new(handle, SLOTS, SAMPLE), "strings"); }
 
 typedef int32_t (*writer)(ds_sketch *, uint8_t *, size_t, size_t *);
@@ -248,14 +251,30 @@ static void hostile_items(void)
 #ifdef HAS_KEYS
     enum { EACH = COLLIDING_LENGTH };
     frequent_numbers("numbers of one home", one_home);
-    COST("frequent_items_update_all, numbers of one home, given key",
-         check(!ds_frequent_items_u64_new_with_key(&sketch, SLOTS, SAMPLE, 1, 2), "new_with_key"),
+    COST("frequent_items_update_all, numbers of one home, given key", new_keyed(&sketch),
          ds_frequent_items_u64_update_all(&sketch, one_home, n))
     COST("frequent_items_update_all_string, strings of one hash", new_strings(&sketch);
          for (size_t i = 0; i <= n * 4 / 5; i++) offsets[i] = EACH * i,
          ds_frequent_items_string_update_all(&sketch, colliding, EACH * (n * 4 / 5), offsets, n * 4 / 5 + 1))
     COST("frequent_items_bounds_all_string, strings of one hash", ,
          ds_frequent_items_string_bounds_all(&sketch, colliding, EACH * (n * 4 / 5), offsets, n * 4 / 5 + 1, bounds, n * 4 / 5))
+#endif
+}
+
+/* Tables under one key, as those of a session or of a tenant's windows. A walk yields the items of one table in an order of homes,
+ * which are those of the other table. */
+static void one_key(void)
+{
+#ifdef HAS_KEYS
+    COST("frequent_items_merge, tables of one key and size", new_keyed(&sketch); new_keyed(&other);
+         ds_frequent_items_u64_update_all(&sketch, numbers, n / 2);
+         ds_frequent_items_u64_update_all(&other, numbers + n / 2, n / 2), ds_frequent_items_u64_merge(&sketch, &other))
+    COST("frequent_items_merge, an empty table of the same key", new_keyed(&sketch); new_keyed(&other);
+         ds_frequent_items_u64_update_all(&other, numbers, n), ds_frequent_items_u64_merge(&sketch, &other))
+    COST("frequent_items_deserialize, an image of a table of the same key", size_t length; new_keyed(&other);
+         ds_frequent_items_u64_update_all(&other, numbers, n);
+         check(!ds_frequent_items_u64_serialize(&other, image, sizeof image, &length), "image"),
+         ds_frequent_items_u64_deserialize_with_key(&sketch, image, length, SIZE_MAX, 1, 2))
 #endif
 }
 
@@ -300,6 +319,7 @@ int main(int argc, char **argv)
     counts();
     frequent_items();
     hostile_items();
+    one_key();
     others_calls();
     ds_free(&sketch);
     ds_free(&other);

@@ -487,9 +487,9 @@ int32_t ds_count_min_i64_image_estimate_string(const uint8_t *image, size_t leng
 
 /* --- Frequent items: the items of the largest weights, in at most three quarters of `max_map_size` counters.
  *
- * A sketch's table hashes items by SipHash-1-3 under a key of two words. No way is known to choose items that slow the sketch
- * down, for a caller who has neither the key nor rows or images of sketches under it. A clone has the key of its original. A merge
- * keeps the handle's own key. An image has no key.
+ * A sketch's table hashes items by SipHash-1-3 under a key of two words. With a secret key, no way is known to choose items that
+ * slow the sketch down, for a caller who sees no images, rows, walks or times of calls of sketches under the key. A clone has the
+ * key of its original. A merge keeps the handle's own key. An image has no key.
  *
  * `new`, `deserialize` and `deserialize_prefix` draw a key. The first call of a process asks the system for two random words. Each
  * call counts the first word up, so no two sketches of a process get the same key. After a `fork`, parent and child count on from

@@ -261,6 +261,11 @@ class Tests:
         ran = self.run([*helgrind, self.compile(f"{HERE}/sharing.c", "-g", "-O1", static=False), "joined"])
         self.check("sharing.c, races", ran.returncode == 0 and b"checks hold" in ran.stdout and not ran.stderr, ran)
 
+    def purges(self):
+        """Runs the calls of a caller who learns from errors which counters a purge samples."""
+        ran = self.run([self.compile(f"{HERE}/purges.c", "-O2")])
+        self.check("purges under a key", ran.returncode == 0 and b"checks hold" in ran.stdout, ran)
+
     def without_checks(self):
         """Runs the calls of `checks.c` that need no check, with a header that has none."""
         ran = self.run([self.compile(f"{HERE}/checks.c", *SANITIZED, "-DDS_NO_CHECKS")])
@@ -547,6 +552,7 @@ def main():
         tests.calls(f"{HERE}/prefixes.c")
         tests.calls(f"{HERE}/sharing.c")
         tests.races()
+        tests.purges()
         tests.calls(f"{HERE}/checks.c")
         tests.without_checks()
         tests.cplusplus()

@@ -5,6 +5,7 @@ pub mod Homes
 pub mod Keys
 pub mod Indices
 pub mod Probes
+pub mod Samples
 pub mod Settled
 pub mod Slots
 pub mod TableHashes

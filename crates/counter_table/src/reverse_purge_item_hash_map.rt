@@ -29,9 +29,10 @@ use std::mem;
 /// Items are compared by `==` alone. A purge subtracts a middle count of a sample from every count, and drops the entries at
 /// or below it.
 ///
-/// A look-up starts at the item's home, the slot that its hash selects. It probes slot by slot and wraps around at the end. Its
-/// cost is a function of the map and its key alone: earlier purges do not slow it down. Without a key the hash is fixed, so
-/// chosen items can form a cluster. Even then a look-up probes at most one slot for each entry and one more.
+/// A look-up starts at the item's home, the slot that its hash selects. It passes slot by slot and wraps around at the end.
+/// The number of slots that it passes for an absent item is a function of the map and its key alone. For a present item it is
+/// less than for an absent one with the same home. So earlier purges do not slow it down. Without a key the hash is fixed, so
+/// chosen items can form a cluster. Even then a look-up passes at most one slot for each entry and one more.
 /// [`with_key`](Self::with_key) creates a map whose homes a caller without the key cannot choose.
 ///
 /// # Examples
@@ -51,6 +52,8 @@ use std::mem;
 pub struct ReversePurgeItemHashMap<T: Eq + Hash + Drop> {
     table: SlotTable<T>,
     active: usize,
+    /// The number of purges. A keyed table begins each sample at another slot, also after a `clear`.
+    purges: u64,
 }
 
 impl<T: Eq + Hash + Drop> Model for ReversePurgeItemHashMap<T> {
@@ -89,7 +92,11 @@ impl<T: Eq + Hash + Drop> ReversePurgeItemHashMap<T> {
         ensures err { IfErr result (λ e. e ≡ no_memory) }
     {
         let table = SlotTable::new(alloc, key, map_size)?;
-        Ok(ReversePurgeItemHashMap { table, active: 0 })
+        Ok(ReversePurgeItemHashMap {
+            table,
+            active: 0,
+            purges: 0,
+        })
     }
 
     /// Returns the key under which the table hashes.
@@ -99,20 +106,25 @@ impl<T: Eq + Hash + Drop> ReversePurgeItemHashMap<T> {
         self.table.key()
     }
 
-    /// Returns the count of the item, 0 if it is absent. [`get_counted`](Self::get_counted) also returns the number of probes.
+    /// Returns the count of the item, 0 if it is absent. [`get_counted`](Self::get_counted) also returns the number of slots.
     pub fn get(&self, item: &T) -> u64
         ensures { result ≡ count_of T.eq self.now.entries item.now }
     {
         self.get_counted(item).0
     }
 
-    /// Returns the count of the item, 0 if it is absent, and the number of slots that were probed for it.
+    /// Returns the count of the item, 0 if it is absent, and the number of slots from its home to the one where its look-up
+    /// ended, both included.
+    ///
+    /// A look-up compares the fingerprint of each of these slots. It compares up to 16 at once, and those of slots after its
+    /// end are not counted: at most 16 for each slot that is. It reads a slot only if its fingerprint is the item's.
     ///
     /// An index is full if, for some k, at least k + 1 entries have their home among the k + 1 indices that end at it, wrapping
     /// around. An item's reach is the number of indices from its home to the first that is not full, both included.
     ///
-    /// If the item is absent, the number of probes is the reach. If it is present, it is from 1 to the reach less 1. Homes are
-    /// those under the table's key. Earlier purges have no influence. It is at most the number of entries plus 1, and at most the number of slots.
+    /// If the item is absent, the number is the reach, on which earlier purges have no influence. If it is present, it is from
+    /// 1 to the reach less 1. It is at most the number of entries plus 1, and at most the number of slots. Homes are those
+    /// under the table's key.
     pub fn get_counted(&self, item: &T) -> (u64, usize)
         ensures count { result.0 ≡ count_of T.eq self.now.entries item.now }
         ensures absent { is_tracked T.eq self.now.entries item.now ≡ false
@@ -230,8 +242,8 @@ impl<T: Eq + Hash + Drop> ReversePurgeItemHashMap<T> {
     /// Subtracts a middle count m of a sample from every count, drops the entries at or below m, and returns m.
     ///
     /// The sample has `min(sample_size, active, 1024)` entries, and m is the count at half its length in ascending order. Which
-    /// entries are sampled is unspecified. Drops at least half of the sample and one entry more. Requires an entry, and a
-    /// `sample_size` above 0. It does not allocate.
+    /// entries are sampled is unspecified. In a keyed map it depends on the key and on how many purges there were. Drops at
+    /// least half of the sample and one entry more. Requires an entry, and a `sample_size` above 0. It does not allocate.
     pub fn purge(&mut self, sample_size: usize) -> u64
         requires active { 0 < length self.old.entries }
         requires sample { 0 < sample_size }
@@ -244,7 +256,8 @@ impl<T: Eq + Hash + Drop> ReversePurgeItemHashMap<T> {
             ≤ length self.old.entries }
     {
         let size = sample_size.min(self.active.min(MAX_SAMPLE_SIZE));
-        let middle = self.table.middle_of(size);
+        let middle = self.table.middle_of(self.purges, size);
+        self.purges = self.purges.wrapping_add(1);
         let removed = self.table.lower(middle);
         self.active -= removed;
         middle
@@ -347,6 +360,7 @@ impl<T: Eq + Hash + Drop> ReversePurgeItemHashMap<T> {
         Ok(ReversePurgeItemHashMap {
             table,
             active: self.active,
+            purges: self.purges,
         })
     }
 

@@ -4,10 +4,13 @@ use std::fmt;
 
 /// How a table hashes its items: by the fixed hash that anyone can compute, or under a secret key.
 ///
-/// A caller who chooses the items can make a plain table slow: all of its items can have the same home. No way is known to
-/// choose items whose homes in a keyed table collide, for a caller who knows neither the key nor several walks or images of
-/// tables under it. They show which items are near one another. A key changes the time of calls and the order of a walk. It
-/// changes no result that a contract pins.
+/// A caller who chooses the items can make a plain table slow: all of its items can have the same home. With a secret key, no
+/// way is known to choose items that slow a table down, for a caller who sees no images, rows, walks or times of calls of tables
+/// under the key. The order of items and the time of calls show which items are near one another in a table. Errors show
+/// little of it: each purge of a table begins its sample at another slot.
+///
+/// A key changes the time of calls, the order of a walk and the entries that a purge samples. It changes no result that a
+/// contract pins.
 ///
 /// Its `Debug` output does not show the key.
 ///

@@ -10,11 +10,10 @@ use Rattle.std.proofs.lemmas.List.{length-map}
 use Rattle.std.proofs.lemmas.List.Sums.{prefix_len-le-length}
 use Rattle.std.proofs.lemmas.Simd.{bit_mask_l, mask_l-lt}
 use Rattle.std.proofs.lemmas.Str.{IsCharBoundary-start, IsUtf8-drop}
-use Rattle.sketch_base.specs.Split.{lowest_mark, separates, with_word, words_by}
+use Rattle.sketch_base.specs.Split.{IsFirstMarked, separates, with_word, words_by}
 use Rattle.sketch_base.specs.declared.separator.Separator.{Separator}
 use Rattle.sketch_base.proofs.Marks.{marks, marks_drop}
-use Rattle.sketch_base.proofs.Searching.{lowest_is_first}
-use Rattle.sketch_base.proofs.SplitWords.{HasSkipped, skips, first_boundary, first_word, plain_after}
+use Rattle.sketch_base.proofs.SplitWords.{HasSkipped, skips, first_boundary, first_word, nothing_left, plain_after}
 
 set_bit : (b : Bool) → ◌≡◌ {A = ℕ} (cond b 1 0) 1 → b ≡ true
 set_bit true e = refl
@@ -72,12 +71,12 @@ module _ (s : Separator) (text : List ℕ) (utf8 : IsUtf8 text) (few : length te
         subst (λ m. trailing_ones w64 m < length text → separates s (get_or text (trailing_ones w64 m) 0) ≡ false) (sym is) (plain_start (separates s) text few)
 
     -- the first word, if the string is cut behind the separators and then at the lowest mark
-    module _ (start end : ℕ) (behind word rest : List ℕ) (starts : start ≡ trailing_ones w64 mask) (back : behind ≡ drop start text) (ends : end ≡ lowest_mark (mask / 2 ^ start) (length behind)) where
+    module _ (start end : ℕ) (behind word rest : List ℕ) (starts : start ≡ trailing_ones w64 mask) (back : behind ≡ drop start text) (ends : IsFirstMarked (mask / 2 ^ start) (length behind) end) where
       marks_behind : mask / 2 ^ start ≡ marks (separates s) behind
       marks_behind = ap (λ n. n / 2 ^ start) is ∙ marks_drop (separates s) text start ∙ ap (marks (separates s)) (sym back)
 
       first : end ≡ position_or_len (separates s) behind
-      first = ends ∙ lowest_is_first (separates s) behind (length behind) _ refl (omega (arith, ap length back, length-drop start text)) marks_behind
+      first = ends (separates s) behind refl (omega (arith, ap length back, length-drop start text)) marks_behind
 
       within : end ≤ length behind
       within = omega (arith, first, prefix_len-le-length (λ x. not (separates s x)) behind)
@@ -94,10 +93,15 @@ module _ (s : Separator) (text : List ℕ) (utf8 : IsUtf8 text) (few : length te
         pub marks_left : mask / 2 ^ start / 2 ^ end ≡ marks (separates s) rest
         marks_left = ap (λ n. n / 2 ^ end) marks_behind ∙ marks_drop (separates s) behind end ∙ ap (marks (separates s)) (sym left)
 
+        plain_first : 0 < length behind → separates s (get_or behind 0 0) ≡ false
+        plain_first =
+            subst (λ l. 0 < length l → separates s (get_or l 0 0) ≡ false) (sym back)
+            (plain_after s text start (subst (λ k. k < length text → separates s (get_or text k 0) ≡ false) (sym starts) plain_behind))
+
         pub first_marked_word : words_by s text ≡ with_word word (words_by s rest)
         first_marked_word =
             sym (skips_marked.2) ∙ ap (λ k. words_by s (drop k text)) (sym starts) ∙ ap (words_by s) (sym back)
-            ∙ first_word s behind word rest end
-            (subst (λ l. 0 < length l → separates s (get_or l 0 0) ≡ false) (sym back)
-            (plain_after s text start (subst (λ k. k < length text → separates s (get_or text k 0) ≡ false) (sym starts) plain_behind)))
-            first within front left
+            ∙ first_word s behind word rest end plain_first first within front left
+
+        pub no_marked_word : word ≡ [] → words_by s rest ≡ []
+        no_marked_word none = ap (words_by s) (nothing_left s behind word rest end plain_first first front left none)

@@ -1,15 +1,28 @@
 -- The first place of a byte, of which a vector of bytes is seen at a time.
-use Rattle.std.proofs.Common.{◌≡◌, ℕ, ◌+◌, ◌-◌, ◌<◌, ◌≤◌, Bool, true, false, not, List, length, get_or, take, drop, map, ⊎_elim, sym, ◌∙◌, ap, arith}
+use Rattle.std.proofs.Common.{◌≡◌, ◌≢◌, ℕ, ◌+◌, ◌-◌, ◌<◌, ◌≤◌, ◌==◌, Bool, true, false, not, cond, w64, List, length, get_or, take, drop, map, ⊎_elim, inl, inr, refl, sym, ◌∙◌, ap, arith}
+use Rattle.std.specs.Int.{trailing_zeros}
 use Rattle.std.specs.List.{position_or_len, prefix_len, slice_range}
 use Rattle.std.proofs.lemmas.Bool.{cases_lt}
+use Rattle.std.proofs.lemmas.Bool.Decides.{eqb_tells}
 use Rattle.std.proofs.lemmas.List.Sums.{position_or_len_is}
 use Rattle.std.proofs.lemmas.Simd.{first_set_mask_l, run_in_chunk_fails, run_in_chunk_stops}
-use Rattle.sketch_base.specs.Split.{lowest_mark}
+use Rattle.sketch_base.specs.Split.{IsFirstMarked}
 use lib.Lanes.{mask_l, chunk}
 
 -- the lowest mark is that of the first place that passes
-pub lowest_is_first : (p : ℕ → Bool) (xs : List ℕ) (n marks : ℕ) → length xs ≡ n → n ≤ 64 → marks ≡ mask_l (map p xs) → lowest_mark marks n ≡ position_or_len p xs
-lowest_is_first p xs n marks long few e = ap (λ m. lowest_mark m n) e ∙ first_set_mask_l p xs n long few
+lowest_is_first : (b : Bool) (marks len at : ℕ) → (marks == 0) ≡ b → at ≡ cond b len (trailing_zeros w64 marks) → IsFirstMarked marks len at
+lowest_is_first b marks len at test is p xs long few e =
+    is ∙ ap (λ c. cond c len (trailing_zeros w64 marks)) (sym test) ∙ ap (λ m. cond (m == 0) len (trailing_zeros w64 m)) e ∙ first_set_mask_l p xs len long few
+
+pub no_mark : (marks len at : ℕ) → marks ≡ 0 → at ≡ len → IsFirstMarked marks len at
+no_mark marks len at none is = lowest_is_first true marks len at (rw none refl) is
+
+pub some_mark : (marks len at : ℕ) → marks ≢ 0 → at ≡ trailing_zeros w64 marks → IsFirstMarked marks len at
+some_mark marks len at some is =
+    elim (eqb_tells marks 0) [
+      | inl e ↦ absurd (some e.1)
+      | inr e ↦ lowest_is_first false marks len at e.0 is
+    ]
 
 -- a range by its length
 pub range_by_length : (xs : List ℕ) (at n : ℕ) → slice_range xs at (at + n) ≡ chunk at n xs

@@ -12,7 +12,7 @@ map_same f g same [] = refl
 map_same f g same (x ∷ xs) = rw (same x, map_same f g same xs) refl
 
 -- a lane of a comparison
-abbrev lane : Bool → ℕ
+abbrev pub lane : Bool → ℕ
 lane b = cond b 255 0
 
 or_lanes : (a b : Bool) → bit_or (lane a) (lane b) ≡ lane (a || b)
@@ -21,7 +21,7 @@ or_lanes true false = refl
 or_lanes false true = refl
 or_lanes false false = refl
 
-top_lane : (b : Bool) → top 7 (lane b) ≡ b
+pub top_lane : (b : Bool) → top 7 (lane b) ≡ b
 top_lane true = refl
 top_lane false = refl
 

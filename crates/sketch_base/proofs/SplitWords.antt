@@ -1,15 +1,15 @@
 -- The words of a string, one after another.
-use Rattle.std.proofs.Common.{◌≡◌, ℕ, zero, suc, ◌+◌, ◌<◌, ◌≤◌, ⊎_elim, Bool, true, false, ltb, List, [], ◌∷◌, length, get_or, take, drop, filter, refl, sym, ◌∙◌, ap, subst, arith, length-drop}
+use Rattle.std.proofs.Common.{◌≡◌, ℕ, zero, suc, ◌+◌, ◌<◌, ◌≤◌, ⊎_elim, Bool, true, false, ltb, List, [], ◌∷◌, ◌++◌, length, get_or, take, drop, filter, refl, sym, ◌∙◌, ap, subst, arith, length-drop}
 use Rattle.std.specs.List.{position_or_len, slice_split, onto_first}
 use Rattle.std.specs.Str.{IsUtf8, IsCharBoundary}
 use Rattle.std.specs.Char.{is_ascii_whitespace}
 use Rattle.std.proofs.lemmas.Bool.{cases_lt, eqb-true, false≢true}
 use Rattle.std.proofs.lemmas.Bool.Decides.{nat_tests}
-use Rattle.std.proofs.lemmas.List.{drop_more, take_all, drop_all}
+use Rattle.std.proofs.lemmas.List.{drop-drop, drop_more, take-append-drop, take_all, drop_all}
 use Rattle.std.proofs.lemmas.List.Sums.{passes_at_first}
 use Rattle.std.proofs.lemmas.List.Splits.{slice_split_first}
 use Rattle.std.proofs.lemmas.Str.{IsCharBoundary-end, IsCharBoundary-before_ascii, IsCharBoundary-after_ascii}
-use Rattle.sketch_base.specs.Split.{separates, with_word, words_by}
+use Rattle.sketch_base.specs.Split.{EndsWith, separates, with_word, words_by}
 use Rattle.sketch_base.specs.declared.separator.Separator.{Separator}
 use Rattle.sketch_base.specs.declared.separator.Separator.TheVariants.{Space, LineFeed, AsciiWhitespace}
 
@@ -95,3 +95,15 @@ module _ (s : Separator) where
       let nothing : rest ≡ [] = r ∙ drop_all (suc n) (x ∷ xs) ge in
       ap (filter not_empty) (no_separator (x ∷ xs) (omega (arith, e))) ∙ first_of (x ∷ xs) [] (omega arith) ∙ rw (whole, nothing) refl)
       (cases_lt (suc n) (length (x ∷ xs)))
+
+  -- if there is no word, nothing is left
+  pub nothing_left : (xs word rest : List ℕ) (at : ℕ) → (0 < length xs → separates s (get_or xs 0 0) ≡ false) → at ≡ position_or_len (separates s) xs → word ≡ take at xs → rest ≡ drop at xs → word ≡ [] → rest ≡ []
+  nothing_left [] word rest at plain e w r none = r ∙ drop_all at [] (omega arith)
+  nothing_left (x ∷ xs) word rest zero plain e w r none = absurd (false≢true (sym (plain (omega arith)) ∙ rw (← e) at (passes_at_first (separates s) (x ∷ xs) 0 (omega (arith, e)))))
+  nothing_left (x ∷ xs) word rest (suc n) plain e w r none = absurd (omega (arith, ap length (sym w ∙ none)))
+
+-- what is left of a string, cut twice, is its end
+pub ends_behind : (text rest : List ℕ) (start end : ℕ) → rest ≡ drop end (drop start text) → EndsWith text rest
+ends_behind text rest start end is =
+    let front : List ℕ = take (start + end) text in
+    (front, sym (take-append-drop (start + end) text) ∙ ap (λ (l : List ℕ). front ++ l) (sym (is ∙ drop-drop end start text)))

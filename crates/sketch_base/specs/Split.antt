@@ -1,9 +1,9 @@
 -- The words and the lines of a string.
-use Rattle.std.specs.Prelude.{◌≡◌, ℕ, ◌-◌, ◌<◌, ◌==◌, Bool, true, false, cond, nat_lt, List, [], ◌∷◌, ◌++◌, filter, length, take, drop, Option, MatchOption, slice_index}
+use Rattle.std.specs.Prelude.{◌≡◌, ℕ, ◌-◌, ◌<◌, ◌≤◌, ◌==◌, Bool, true, false, nat_lt, List, [], ◌∷◌, ◌++◌, filter, length, map, take, drop, Option, MatchOption, slice_index}
 use Rattle.std.specs.Borrow.{Bor}
 use Rattle.std.specs.Char.{is_ascii_whitespace}
-use Rattle.std.specs.Int.{w64, trailing_zeros}
-use Rattle.std.specs.List.{All, slice_split}
+use Rattle.std.specs.List.{All, position_or_len, slice_split}
+use Rattle.std.specs.Simd.Lanes.{mask_l}
 use Rattle.std.specs.Str.{IsUtf8}
 use Rattle.std.specs.Str.Lines.{lines}
 use Rattle.sketch_base.specs.declared.separator.Separator.{Separator}
@@ -15,9 +15,11 @@ separates Space byte = byte == 32
 separates LineFeed byte = byte == 10
 separates AsciiWhitespace byte = is_ascii_whitespace byte
 
--- the index of the lowest bit of a number of 64 bits that is set, or another one if none is
-abbrev pub lowest_mark : ℕ → ℕ → ℕ
-lowest_mark marks none = cond (marks == 0) none (trailing_zeros w64 marks)
+-- the index of the first element of a list that passes a test, or its length if none does. Bit i of `marks` is set exactly
+-- if element i passes
+abbrev pub IsFirstMarked : ℕ → ℕ → ℕ → Type 0
+IsFirstMarked marks len at =
+    (test : ℕ → Bool) (xs : List ℕ) → length xs ≡ len → len ≤ 64 → marks ≡ mask_l (map test xs) → at ≡ position_or_len test xs
 
 -- the words: the nonempty parts between separators
 abbrev pub words_by : Separator → List ℕ → List (List ℕ)
@@ -31,6 +33,10 @@ words_of text = words_by AsciiWhitespace text
 abbrev pub with_word : List ℕ → List (List ℕ) → List (List ℕ)
 with_word [] words = []
 with_word (x ∷ xs) words = (x ∷ xs) ∷ words
+
+-- a string ends with another
+abbrev pub EndsWith : List ℕ → List ℕ → Type 0
+EndsWith text rest = (front : List ℕ) × (text ≡ front ++ rest)
 
 -- the first line and the string after it. A string without lines is empty
 abbrev pub TakesLine : List ℕ → Option (Bor (List ℕ) × Bor (List ℕ)) → Type 0

@@ -1,5 +1,5 @@
 //! Strings whose separators are marked in a number.
-ghost use Rattle.std.specs.Prelude.{◌≡◌};
+ghost use Rattle.std.specs.Prelude.{◌≡◌, []};
 ghost use Rattle.sketch_base.specs.Split.{with_word, words_by};
 
 use crate::separator::{Separator, lowest_mark};
@@ -52,10 +52,11 @@ impl<'a> MarkedText<'a> {
         }
     }
 
-    /// Takes the first word. It is empty if there is none.
+    /// Takes the first word. It is empty if there is none, and then none is left.
     #[inline(always)]
     pub fn next_word(&mut self) -> &'a str
-        ensures { self.old ≡ with_word result.now self.new }
+        ensures words { self.old ≡ with_word result.now self.new }
+        ensures none { result.now ≡ [] → self.new ≡ [] }
     {
         if self.text.len() >= MARKED_SIZE {
             let (word, rest) = first_of_long(self.text, self.separator);
@@ -75,7 +76,8 @@ impl<'a> MarkedText<'a> {
 
 /// Returns the first word of a string and the words after it. The word is empty if there is none.
 fn first_of_long(text: &str, separator: Separator) -> (&str, MarkedText<'_>)
-    ensures { words_by separator text.now ≡ with_word result.0.now result.1 }
+    ensures words { words_by separator text.now ≡ with_word result.0.now result.1 }
+    ensures none { result.0.now ≡ [] → result.1 ≡ [] }
 {
     let (word, rest) = next_word(text, separator);
     (word, MarkedText::new(rest, separator))

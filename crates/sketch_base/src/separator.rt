@@ -2,7 +2,7 @@
 ghost use Rattle.std.specs.Prelude.{◌≡◌, ◌+◌, ◌<◌, ◌≤◌, length, map};
 ghost use Rattle.std.specs.List.{position_or_len, slice_range};
 ghost use Rattle.std.specs.Simd.Lanes.{mask_l};
-ghost use Rattle.sketch_base.specs.Split.{lowest_mark, separates};
+ghost use Rattle.sketch_base.specs.Split.{IsFirstMarked, separates};
 
 use std::simd::prelude::*;
 
@@ -139,7 +139,7 @@ fn first_separator_in<const N: usize>(bytes: &[u8], at: usize, separator: Separa
 /// Returns the index of the lowest bit that is set, or `len` if none is.
 #[inline(always)]
 pub(crate) fn lowest_mark(marks: u64, len: usize) -> usize
-    ensures { result ≡ lowest_mark marks len }
+    ensures { IsFirstMarked marks len result }
 {
     if marks == 0 {
         len

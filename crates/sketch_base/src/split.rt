@@ -1,14 +1,14 @@
 //! Splits strings into words and lines.
-ghost use Rattle.std.specs.Prelude.{◌≡◌, ◌+◌, ◌≤◌, length, take, drop};
+ghost use Rattle.std.specs.Prelude.{◌≡◌, ◌+◌, ◌≤◌, [], length, take, drop};
 ghost use Rattle.std.specs.Str.Lines.{lines, strip_carriage_return};
-ghost use Rattle.sketch_base.specs.Split.{CutsUtf8, IsBehindLast, SplitsAt, TakesLine, separates, with_word, words_by};
+ghost use Rattle.sketch_base.specs.Split.{CutsUtf8, EndsWith, IsBehindLast, SplitsAt, TakesLine, separates, with_word, words_by};
 ghost use Rattle.sketch_base.specs.Strings.{strings_at};
 ghost use Rattle.sketch_base.specs.declared.separator.Separator.TheVariants.{LineFeed};
 
 use crate::marked_text::MarkedText;
 use crate::separator::{Separator, first_separator};
 
-/// Returns the first word of a string and the string after it. The word is empty if there is none.
+/// Returns the first word of a string and the string after it. Both are empty if there is no word.
 ///
 /// # Examples
 ///
@@ -25,6 +25,8 @@ use crate::separator::{Separator, first_separator};
 pub fn next_word(text: &str, separator: Separator) -> (&str, &str)
     ensures words { words_by separator text.now ≡ with_word result.0.now (words_by separator result.1.now) }
     ensures shorter { length result.0.now + length result.1.now ≤ length text.now }
+    ensures rest { EndsWith text.now result.1.now }
+    ensures none { result.0.now ≡ [] → result.1.now ≡ [] }
 {
     let bytes = text.as_bytes();
     let mut start = 0;

@@ -14,7 +14,7 @@
 //! 64-bit numbers, or of a user's own type. [`laws`] has the laws of images.
 //!
 //! [`ReversePurgeItemHashMap`], from the crate `counter_table`, is the table of counters. For items or images from callers who
-//! are not trusted, give a sketch a secret [`TableKey`], so that they cannot slow its table down.
+//! are not trusted, give a sketch a secret [`TableKey`]. It says what they must not see.
 #![tactic(auto)]
 
 mod error_type;

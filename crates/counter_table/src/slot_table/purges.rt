@@ -2,21 +2,23 @@
 //!
 //! The sweep shifts each entry that stays back to the first free slot from its home on. Deletions by backward shift, one by one
 //! from the highest index down, would move it to the same slot.
-ghost use Rattle.std.specs.Prelude.{◌≡◌, ◌+◌, ◌<◌, ◌≤◌, false, not, length, map, take, IsPermutation};
+ghost use Rattle.std.specs.Prelude.{◌≡◌, ◌+◌, ◌<◌, ◌≤◌, false, not, length, map, min, take, IsPermutation};
 ghost use Rattle.counter_table.specs.Fingerprints.{AreFingerprints};
 ghost use Rattle.counter_table.specs.Homes.{home_in};
+ghost use Rattle.counter_table.specs.Samples.{entries_from, sample_start};
 ghost use Rattle.counter_table.specs.Settled.{HasDrift, Settles};
 ghost use Rattle.counter_table.specs.Slots.{IsTableSize, IsSlots, entries_of};
 ghost use Rattle.counter_table.specs.TableHashes.{hash_in};
 ghost use Rattle.counter_table.specs.Tables.{purged, IsSampleMiddle};
 
-use crate::fingerprints::FREE;
+use crate::fingerprints::{FREE, home};
 use crate::indices::{after, before};
 use crate::sizes::MAX_SAMPLE_SIZE;
 use crate::slot::Slot;
 use crate::slot_table::SlotTable;
 use crate::slot_table::look_ups::{FreeSlot, SlotSlices, last_free};
 use crate::table_key::TableKey;
+use sketch_base::keyed_hash;
 use std::hash::Hash;
 use std::mem;
 
@@ -24,20 +26,25 @@ use std::mem;
 const SMALL_SAMPLE_SIZE: usize = 64;
 
 impl<T: Eq + Hash + Drop> SlotTable<T> {
-    /// Returns a middle count of the first `size` entries.
+    /// Returns a middle count of the sample that the next purge takes after this number of purges: `size` entries, in the order
+    /// of the slots from one on.
     ///
     /// The buffer of a sample is cleared before it is filled, and a small sketch is purged often. So a small sample has a smaller
     /// buffer.
-    pub(crate) fn middle_of(&self, size: usize) -> u64
+    pub(crate) fn middle_of(&self, purges: u64, size: usize) -> u64
+        requires table { IsTableSize (length self.now.slots) }
         requires some { 0 < size }
         requires few { size ≤ 1024 }
         requires active { size ≤ length (entries_of self.now.slots) }
-        ensures { IsSampleMiddle size (entries_of self.now.slots) result }
+        ensures sample { IsSampleMiddle size
+            (take size (entries_from (sample_start self.now.key purges (length self.now.slots)) self.now.slots)) result }
+        ensures middle { IsSampleMiddle size (entries_of self.now.slots) result }
     {
+        let start = sample_start(self.key, purges, self.slots.len());
         if size <= SMALL_SAMPLE_SIZE {
-            middle_in::<T, SMALL_SAMPLE_SIZE>(&self.slots, size)
+            middle_in::<T, SMALL_SAMPLE_SIZE>(&self.slots, start, size)
         } else {
-            middle_in::<T, MAX_SAMPLE_SIZE>(&self.slots, size)
+            middle_in::<T, MAX_SAMPLE_SIZE>(&self.slots, start, size)
         }
     }
 
@@ -129,29 +136,57 @@ fn settle<T: Eq + Hash + Drop>(
     }
 }
 
-/// Returns a middle count of the first `size` entries, with a buffer of `N` counts.
-fn middle_in<T, const N: usize>(slots: &[Slot<T>], size: usize) -> u64
+/// Returns the index at which the next purge begins its sample, after this number of purges.
+///
+/// In a keyed table it depends on the key and the number. If it were fixed, a caller could learn from the errors after purges
+/// which items are sampled, and give them small counts: a purge would then drop little more than the sample. The number has
+/// 16 bytes, so its hash is not that of an item of 8 bytes.
+fn sample_start(key: TableKey, purges: u64, size: usize) -> usize
+    requires { IsTableSize size }
+    ensures index { result ≡ sample_start key purges size }
+    ensures within { result < size }
+{
+    match key {
+        TableKey::Plain => 0,
+        TableKey::Keyed(secret) => home(keyed_hash(secret, &(purges as u128).to_le_bytes()), size),
+    }
+}
+
+/// Returns a middle count of the first `size` entries from an index on, with a buffer of `N` counts.
+fn middle_in<T, const N: usize>(slots: &[Slot<T>], start: usize, size: usize) -> u64
+    requires start { start ≤ length slots.now }
     requires some { 0 < size }
     requires few { size ≤ N }
     requires room { N ≤ 1024 }
     requires active { size ≤ length (entries_of slots.now) }
-    ensures { IsSampleMiddle size (entries_of slots.now) result }
+    ensures { IsSampleMiddle size (take size (entries_from start slots.now)) result }
 {
     let mut room = [0; N];
     let sample = &mut room[..size];
-    gather_counts(slots, &0, sample);
+    gather_from(slots, start, sample);
     let (_, middle, _) = sample.select_nth_unstable(size / 2);
     *middle
 }
 
-/// Copies the counts of the first entries to `counts`, until it is full.
+/// Copies the counts of the first entries from an index on to `counts`, wrapping around at the end, until it is full.
+fn gather_from<T>(slots: &[Slot<T>], start: usize, counts: &mut [u64])
+    requires start { start ≤ length slots.now }
+    requires many { length counts.old ≤ length (entries_of slots.now) }
+    ensures { counts.new ≡ map (λ e. e.1) (take (length counts.old) (entries_from start slots.now)) }
+{
+    let (before, from) = slots.split_at(start);
+    let gathered = gather_counts(from, &0, counts);
+    gather_counts(before, &0, &mut counts[gathered..]);
+}
+
+/// Copies the counts of the first entries to `counts`, until it is full. Returns their number.
 ///
 /// A free slot writes `none`, which the next count overwrites, so that no branch depends on the slot. The compiler might add a
 /// branch if `none` were a number of its own. So it is a reference, and the function is not inlined.
 #[inline(never)]
-fn gather_counts<T>(slots: &[Slot<T>], none: &u64, counts: &mut [u64])
-    requires { length counts.old ≤ length (entries_of slots.now) }
-    ensures { counts.new ≡ map (λ e. e.1) (take (length counts.old) (entries_of slots.now)) }
+fn gather_counts<T>(slots: &[Slot<T>], none: &u64, counts: &mut [u64]) -> usize
+    ensures number { result ≡ min (length counts.old) (length (entries_of slots.now)) }
+    ensures counts { take result counts.new ≡ map (λ e. e.1) (take result (entries_of slots.now)) }
 {
     let mut gathered = 0;
     for slot in slots {
@@ -165,4 +200,5 @@ fn gather_counts<T>(slots: &[Slot<T>], none: &u64, counts: &mut [u64])
         counts[gathered] = *count;
         gathered += taken;
     }
+    gathered
 }

@@ -207,8 +207,8 @@ impl<T: FrequentItemValue + Drop> FrequentItemsSketch<T> {
     /// Returns the sketch of an image as [`deserialize_with_limit`](Self::deserialize_with_limit) does. Its table hashes under
     /// `key`, as that of [`with_key`](Self::with_key).
     ///
-    /// With a secret key, no way is known to write an image that takes long to read, for a caller who sees no rows or images of
-    /// sketches under the key.
+    /// With a secret key, no way is known to write an image that takes long to read, for a caller who sees no images, rows, walks
+    /// or times of calls of sketches under the key ([`TableKey`]).
     ///
     /// # Errors
     ///

@@ -7,7 +7,7 @@ pub returns-clause-middle : goal.returns-clause-middle
 returns-clause-middle g c =
     let many = ap (λ t. length t.entries) c.self.view_is in
     let size : c.min-size.result ≡ min c.args.sample_size (min (length c.args.self.now.entries) 1024) = omega (arith, c.min-size.ensures, c.min.ensures, c.self.invariant.active_is, many) in
-    rw (size, ap (λ t. t.entries) c.self.view_is) at c.middle_of-middle.ensures
+    rw (size, ap (λ t. t.entries) c.self.view_is) at c.middle_of-middle.ensures.middle
 
 pub returns-clause-entries : goal.returns-clause-entries
 returns-clause-entries g c = rw (ap (λ t. t.entries) c.self.view_is) at c.lower-removed.ensures.entries
@@ -43,3 +43,6 @@ returns-clause-distinct g c = c.lower-removed.ensures.slots.distinct
 
 pub returns-clause-key : goal.returns-clause-key
 returns-clause-key g c = c.lower-removed.ensures.key ∙ ap (λ t. t.key) c.self.view_is
+
+pub middle_of-middle-requires-clause-table : goal.middle_of-middle-requires-clause-table
+middle_of-middle-requires-clause-table g c = c.self.invariant.slots_ok.size

@@ -2,7 +2,7 @@ use Rattle.std.proofs.Common.{◌≡◌, ℕ, ◌<◌, ◌+◌, ◌++◌, ◌∷
 use Rattle.std.proofs.Math.ListN.{set}
 use Rattle.std.proofs.lemmas.List.{map-append, length-map, length-set, take_all, take-set, take_more_set}
 use Rattle.counter_table.specs.Slots.{entries_of}
-use Rattle.counter_table.proofs.PurgeSamples.{entries_taken, entries_passed, gathered_all}
+use Rattle.counter_table.proofs.PurgeSamples.{entries_taken, entries_passed, gathered_all, gathered_few, gathered_front}
 use Rattle.counter_table.proofs.slot_table.purges.gather_counts.Goals as goal
 use Rattle.counter_table.proofs.slot_table.purges.gather_counts.Goals.{in-Taken, in-Free}
 
@@ -42,17 +42,19 @@ loop-slot-preserved g c =
 
 pub returns-then-gathered-counts : goal.returns-then-gathered-counts
 returns-then-gathered-counts g c =
-    let slots = c.args.slots.now in
-    gathered_all slots c.loop-slot.counts (length c.args.counts.now) c.loop-slot.gathered c.loop-slot.slot-index c.loop-slot.auto.counts c.loop-slot.invariant.counts (omega (arith, c.loop-slot.invariant.short, c.if-gathered-counts.true, c.loop-slot.auto.counts))
+    let is = c.loop-slot.invariant.counts in
+    record {
+      number = omega (arith, gathered_few c.args.slots.now _ _ _ is c.loop-slot.invariant.short, c.loop-slot.invariant.short, c.if-gathered-counts.true, c.loop-slot.auto.counts);
+      counts = gathered_front c.args.slots.now _ _ _ is c.loop-slot.invariant.short;
+    }
 
 pub returns-after-loop-slot : goal.returns-after-loop-slot
 returns-after-loop-slot g c =
-    let slots = c.args.slots.now in
-    let i = c.loop-slot.slot-index in
-    let num : g.row.T.Denot × ℕ → ℕ = λ e. e.1 in
-    let all : length (entries_of (take i slots)) ≡ length (entries_of slots) = ap (λ l. length (entries_of l)) (take_all i slots c.loop-slot-test.false) in
-    let many = ap length c.loop-slot.invariant.counts ∙ length-map (entries_of (take i slots)) num in
-    gathered_all slots c.loop-slot.counts (length c.args.counts.now) c.loop-slot.gathered i c.loop-slot.auto.counts c.loop-slot.invariant.counts (omega (arith, all, many, length-take c.loop-slot.gathered c.loop-slot.counts, c.loop-slot.invariant.short, c.loop-slot.auto.counts, c.requires))
+    let is = c.loop-slot.invariant.counts in
+    record {
+      number = omega (arith, gathered_all c.args.slots.now _ _ _ is c.loop-slot.invariant.short c.loop-slot-test.false, c.loop-slot.invariant.short, c.loop-slot.auto.counts);
+      counts = gathered_front c.args.slots.now _ _ _ is c.loop-slot.invariant.short;
+    }
 
 pub overflow_add-gathered : goal.overflow_add-gathered
 overflow_add-gathered g c =
