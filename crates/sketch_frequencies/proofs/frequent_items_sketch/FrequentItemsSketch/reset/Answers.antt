@@ -7,13 +7,13 @@ pub clear-requires-clause-power : goal.clear-requires-clause-power
 clear-requires-clause-power g c = eight_is_power
 
 pub invariant_of-self : goal.invariant_of-self
-invariant_of-self g c = rw c.clear.ensures (fresh_state g.T.PartialEq.eq c.self.inside.max_size c.self.inside.sample_size (omega (arith, c.self.invariant.least, c.self.invariant.within)) c.self.invariant.greatest c.self.invariant.max_size_power c.self.invariant.sample)
+invariant_of-self g c = rw c.clear.ensures (fresh_state g.T.PartialEq.eq c.self.inside.max_size c.self.inside.sample_size c.self.inside.map.key (omega (arith, c.self.invariant.least, c.self.invariant.within)) c.self.invariant.greatest c.self.invariant.max_size_power c.self.invariant.sample)
 
 pub returns-clause-state : goal.returns-clause-state
 returns-clause-state g c = invariant_of-self g c
 
 pub returns-clause-stands : goal.returns-clause-stands
-returns-clause-stands g c = λ h s. rw c.clear.ensures (reset_stands g.T.PartialEq.eq c.self.inside.max_size c.self.inside.sample_size (omega (arith, c.self.invariant.least, c.self.invariant.within)) c.self.invariant.max_size_power c.self.invariant.sample h (ap (λ s. s.max_size) c.self.view_is ∙ s.encloses.max_size) (ap (λ s. s.sample_size) c.self.view_is ∙ s.sample_size))
+returns-clause-stands g c = λ h s. rw c.clear.ensures (reset_stands g.T.PartialEq.eq c.self.inside.max_size c.self.inside.sample_size c.self.inside.map.key (omega (arith, c.self.invariant.least, c.self.invariant.within)) c.self.invariant.max_size_power c.self.invariant.sample h (ap (λ s. s.max_size) c.self.view_is ∙ s.encloses.max_size) (ap (λ s. s.sample_size) c.self.view_is ∙ s.sample_size))
 
 pub returns-clause-budget : goal.returns-clause-budget
-returns-clause-budget g c = λ h. rw c.clear.ensures (reset_budget g.T.PartialEq.eq c.self.inside.max_size c.self.inside.sample_size h)
+returns-clause-budget g c = λ h. rw c.clear.ensures (reset_budget g.T.PartialEq.eq c.self.inside.max_size c.self.inside.sample_size c.self.inside.map.key h)
