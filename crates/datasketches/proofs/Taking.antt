@@ -98,7 +98,7 @@ module _ {T C : Type 0} (slot : ℕ) (eq : T → T → Bool) (input : T → List
 
   -- each session of many stands for its histories
   pub process_stands : (p : Process T) → IsProcess slot eq input codec content p → SessionStandsFor eq codec content (session_of p) (histories_of input p)
-  process_stands Began is = record { sketches = λ name. tt; images = λ name. tt }
+  process_stands (Began key) is = record { sketches = λ name. tt; images = λ name. tt }
   process_stands (Did p action reply now) is = action_fits slot eq input codec content action reply (session_of p) now (histories_of input p) (process_stands p is.0) is.1
   process_stands (Took p from image shown action reply now) is =
       took (session_of from) (session_of p) now (histories_of input from) (histories_of input p) image shown action reply

@@ -3,6 +3,7 @@ use Rattle.std.specs.Prelude.{◌≡◌, ℕ, Bool, true, List, [], Option, Some
 use Rattle.std.specs.List.{Contains}
 use Rattle.std.specs.Global.{Global}
 use Rattle.std.specs.declared.vec.Vec.{Vec}
+use Rattle.counter_table.specs.declared.table_key.TableKey.{TableKey}
 use Rattle.sketch_bloom.specs.History.{BloomHistory}
 use Rattle.sketch_bloom.specs.Parts.{parts_of}
 use Rattle.sketch_bloom.specs.State.{FilterState, IsCompatible, contains_item}
@@ -36,19 +37,19 @@ module _ {T : Type 0} where
   IsKindOf kind OfStranger = Unit {0}
   IsKindOf _ _ = ⊥
 
-  -- the session without names
-  abbrev pub empty_session : SessionState T
-  empty_session = record { sketches = []; images = [] }
+  -- the session without names under this key
+  abbrev pub empty_session : TableKey → SessionState T
+  empty_session key = record { sketches = []; images = []; key = key }
 
   -- the history that an image was saved with, or that of an untrusted image if there is none
   abbrev pub or_stranger : Option (History T) → History T
   or_stranger None = OfStranger
   or_stranger (Some h) = h
 
--- how a session came about, among others. It began with no names, performed an action, or loaded an image that another session
+-- how a session came about, among others. It began with no names and some key, performed an action, or loaded an image that another session
 -- returned
 pub data Process (T : Type 0) : Type 0 where
-  Began : Process T
+  Began : TableKey → Process T
   Did : Process T → Action T → Reply T → SessionState T → Process T
   Took : Process T → (from : Process T) → (image : List ℕ) → (shown : Vec ℕ Global) → Action T → Reply T → SessionState T
       → Process T
@@ -56,7 +57,7 @@ pub data Process (T : Type 0) : Type 0 where
 module _ {T : Type 0} where
   -- the session at the end of the process
   abbrev pub session_of : Process T → SessionState T
-  session_of Began = empty_session
+  session_of (Began key) = empty_session key
   session_of (Did p action reply now) = now
   session_of (Took p from image shown action reply now) = now
 
@@ -68,7 +69,7 @@ module _ {T : Type 0} where
 module _ {T : Type 0} (input : T → List (List ℕ)) where
   -- the histories of the session's names. An image that it loaded has the history with which the other session saved it
   abbrev pub histories_of : Process T → Assignment T
-  histories_of Began = nothing_named
+  histories_of (Began key) = nothing_named
   histories_of (Did p action reply now) = after_action input (histories_of p) action reply
   histories_of (Took p from image shown action reply now) =
       after_action_told input (histories_of p) action (or_stranger ((histories_of from).images image)) reply
@@ -81,7 +82,7 @@ module _ {T C : Type 0} (slot : ℕ) (eq : T → T → Bool) (input : T → List
 
   -- each action was performed with its reply, and each loaded image is what the other session returned
   abbrev pub IsProcess : Process T → Type 0
-  IsProcess Began = Unit {0}
+  IsProcess (Began key) = Unit {0}
   IsProcess (Did p action reply now) = IsProcess p × Performs slot eq input codec content (session_of p) action reply now
   IsProcess (Took p from image shown action reply now) =
       IsProcess p × IsProcess from × Shows (session_of from) image shown

@@ -1,6 +1,7 @@
 //! Sessions: named sketches and images.
 ghost use Rattle.std.specs.Prelude.{◌≡◌, Result, [], None, Some, IfOk, IfErr, OnErr, IsTrue};
 ghost use Rattle.counter_table.specs.Bytes.{option_bytes};
+ghost use Rattle.counter_table.specs.declared.table_key.TableKey.TheVariants.{Plain};
 ghost use Rattle.datasketches.specs.Actions.{Action, Change, Join, Shape, usual_sizes};
 ghost use Rattle.datasketches.specs.SessionStandsFor.{SessionStandsFor};
 ghost use Rattle.datasketches.specs.Histories.{nothing_named};
@@ -66,7 +67,7 @@ impl<T: Eq + Hash + Drop> Model for Session<T> {
 
     ghost coded = { Prim.hlevel (codes, state_code) };
 
-    ghost view = { λ s. record { sketches = s.sketches; images = s.images } };
+    ghost view = { λ s. record { sketches = s.sketches; images = s.images; key = s.key } };
 }
 
 /// Prints the names.
@@ -82,7 +83,7 @@ impl<T: Eq + Hash + Drop> fmt::Debug for Session<T> {
 impl<T: FrequentItemValue + Clone + Drop> Session<T> {
     /// Creates a session with no names. Does not allocate.
     pub fn new(alloc: Global) -> Self
-        ensures empty { result ≡ record { sketches = []; images = [] } }
+        ensures empty { result ≡ record { sketches = []; images = []; key = Plain } }
         ensures fits { SessionStandsFor T.eq T.codec T.content result nothing_named }
     {
         Self::with_state(alloc, TableKey::Plain, MapState::fixed())
@@ -107,7 +108,7 @@ impl<T: FrequentItemValue + Clone + Drop> Session<T> {
     /// }
     /// ```
     pub fn with_key(alloc: Global, key: TableKey) -> Self
-        ensures empty { result ≡ record { sketches = []; images = [] } }
+        ensures empty { result ≡ record { sketches = []; images = []; key = key } }
         ensures fits { SessionStandsFor T.eq T.codec T.content result nothing_named }
     {
         Self::with_state(alloc, key, MapState::fixed())
@@ -135,7 +136,7 @@ impl<T: FrequentItemValue + Clone + Drop> Session<T> {
     /// }
     /// ```
     pub fn with_key_and_hasher(alloc: Global, key: TableKey, hash_builder: RandomState) -> Self
-        ensures empty { result ≡ record { sketches = []; images = [] } }
+        ensures empty { result ≡ record { sketches = []; images = []; key = key } }
         ensures fits { SessionStandsFor T.eq T.codec T.content result nothing_named }
     {
         Self::with_state(alloc, key, MapState::Random(hash_builder))
@@ -143,7 +144,7 @@ impl<T: FrequentItemValue + Clone + Drop> Session<T> {
 
     /// Creates a session with no names and these keys.
     fn with_state(alloc: Global, key: TableKey, state: MapState) -> Self
-        ensures empty { result ≡ record { sketches = []; images = [] } }
+        ensures empty { result ≡ record { sketches = []; images = []; key = key } }
         ensures fits { SessionStandsFor T.eq T.codec T.content result nothing_named }
     {
         Session {

@@ -3,6 +3,7 @@ ghost use Rattle.std.specs.Prelude.{◌≡◌, None, IfOk, IfErr, IsOk, OnOk, On
 ghost use Rattle.counter_table.specs.Bytes.{option_bytes};
 ghost use Rattle.datasketches.specs.Actions.{Change};
 ghost use Rattle.datasketches.specs.Answering.{Tells, Lists, status_of};
+ghost use Rattle.datasketches.specs.Hashing.{IsUnder};
 ghost use Rattle.datasketches.specs.Histories.{changed};
 ghost use Rattle.datasketches.specs.Images.{IsWrittenBy, IsReadFrom, IsWriteRefusal, IsReadRefusal, IsLoadRefusal, TakesWithin, GivesBack, load_fault};
 ghost use Rattle.datasketches.specs.Keyed.{AddsNamed};
@@ -248,6 +249,7 @@ impl<T: FrequentItemValue + Drop> Sketch<T> {
     ) -> Result<Self, Error>
         ensures read { IfOk result (IsReadFrom T.codec T.content kind bytes.now) }
         ensures stands { IfOk result (GivesBack T.eq T.codec T.content kind bytes.now) }
+        ensures keyed { IfOk result (IsUnder key) }
         ensures refused { IfErr result (IsReadRefusal T.codec kind bytes.now) }
     {
         match kind {
@@ -304,6 +306,7 @@ impl<T: FrequentItemValue + Drop> Sketch<T> {
     ) -> Result<Self, Error>
         ensures read { IfOk result (IsReadFrom T.codec T.content kind bytes.now) }
         ensures stands { IfOk result (GivesBack T.eq T.codec T.content kind bytes.now) }
+        ensures keyed { IfOk result (IsUnder key) }
         ensures within { IfOk result (TakesWithin (option_bytes T.row) T.codec T.content max_bytes) }
         ensures accepted { IsOk result → load_fault (option_bytes T.row) T.codec max_bytes kind bytes.now ≡ None }
         ensures refused { IfErr result (IsLoadRefusal (option_bytes T.row) T.codec max_bytes kind bytes.now) }
