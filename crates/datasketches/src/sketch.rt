@@ -1,5 +1,5 @@
 //! Sketches of four kinds, and what each kind does for a command.
-ghost use Rattle.std.specs.Prelude.{◌≡◌, None, IfOk, IfErr, IsOk, OnOk, OnErr, IsTrue, pos};
+ghost use Rattle.std.specs.Prelude.{◌≡◌, false, None, IfOk, IfErr, IsOk, OnOk, OnErr, IsTrue, pos};
 ghost use Rattle.counter_table.specs.Bytes.{option_bytes};
 ghost use Rattle.datasketches.specs.Actions.{Change};
 ghost use Rattle.datasketches.specs.Answering.{Tells, Lists, status_of};
@@ -7,7 +7,7 @@ ghost use Rattle.datasketches.specs.Hashing.{IsUnder};
 ghost use Rattle.datasketches.specs.Histories.{changed};
 ghost use Rattle.datasketches.specs.Images.{IsWrittenBy, IsReadFrom, IsWriteRefusal, IsReadRefusal, IsLoadRefusal, TakesWithin, GivesBack, load_fault};
 ghost use Rattle.datasketches.specs.Keyed.{AddsNamed};
-ghost use Rattle.datasketches.specs.Replies.{done_or, told_as};
+ghost use Rattle.datasketches.specs.Replies.{done_or, told_as, is_refused};
 ghost use Rattle.datasketches.specs.Stands.{Carries};
 ghost use Rattle.datasketches.specs.Steps.{Alters};
 
@@ -155,7 +155,8 @@ impl<T: Eq + Hash + Drop> Sketch<T> {
     /// Returns an item's estimate and bounds, or whether a filter contains it.
     #[inline(always)]
     pub fn ask<K: ItemKey<T>>(&self, item: K) -> Reply<T>
-        ensures { (x : T) → IsTrue (K.names item x) → Tells T.eq T.hash_input x self.now result }
+        ensures tells { (x : T) → IsTrue (K.names item x) → Tells T.eq T.hash_input x self.now result }
+        ensures accepted { is_refused result ≡ false }
     {
         match self {
             Sketch::Frequent(sketch) => {

@@ -14,7 +14,7 @@ ghost use Rattle.datasketches.specs.Steps.{Step, Run};
 
 use crate::command::Command;
 use crate::reply::{Refusal, Reply};
-use crate::session::Session;
+use crate::session::{Session, told};
 use sketch_base::Error;
 use sketch_bloom::BloomFilterBuilder;
 use sketch_countmin::CountMinSizes;
@@ -186,15 +186,5 @@ impl<T: FrequentItemValue + Clone + Drop> Session<T> {
             replies.push_reserved(reply);
         }
         Ok(replies)
-    }
-}
-
-/// Returns the reply, or `Refused` with the reason.
-fn told<T>(given: Result<Reply<T>, Refusal>) -> Reply<T>
-    ensures { result ≡ told given }
-{
-    match given {
-        Ok(reply) => reply,
-        Err(refusal) => Reply::Refused(refusal),
     }
 }
