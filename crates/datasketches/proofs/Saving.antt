@@ -84,9 +84,9 @@ module _ {T C : Type 0} (slot : ℕ) (eq : T → T → Bool) (input : T → List
   kept name seen old new sketch after same found e puts rest =
       subst (λ (s : SessionState T). IsUnchanged s new) same (record { sketches = put_again name sketch seen.sketches new.sketches found (subst (λ (k : Sketch T). Puts name k seen.sketches new.sketches) e puts); images = rest.images; key = rest.key })
 
-  ran_out : (names : T → Bool) (old : Sketch T) (result : Result ⊤ Refusal) (after : Sketch T) → RunsOut names old result → OnErr result (after ≡ old) → after ≡ old
-  ran_out names old (Err refusal) after out err = err
-  ran_out names old (Ok done) after out err = cc out.0
+  ran_out : (names : T → Bool) (weight : ℕ) (old : Sketch T) (result : Result ⊤ Refusal) (after : Sketch T) → RunsOut names weight old result → OnErr result (after ≡ old) → after ≡ old
+  ran_out names weight old (Err refusal) after out err = err
+  ran_out names weight old (Ok done) after out err = cc out.error
 
   pub altered_by_key : (name : List ℕ) (names : T → Bool) (weight : ℕ) (seen old new : SessionState T) (result : Result ⊤ Refusal) (before after : Sketch T) → seen ≡ old → at_name name seen.sketches ≡ Some before →
       AddsNamed eq input names weight before result after → ((x : T) → IsTrue (names x) → OnOk result (Carries eq (changed input (Add x weight)) before after)) → OnErr result (after ≡ before) → Puts name after seen.sketches new.sketches → KeepsImages seen new → PerformedByKey slot eq input codec content name names weight old result new
@@ -94,7 +94,7 @@ module _ {T C : Type 0} (slot : ℕ) (eq : T → T → Bool) (input : T → List
       inl (item, named, altered (Add item weight) name seen old new result before after same found (does eq (Changes eq input (Add item weight)) (changed input (Add item weight)) before after result own (carries item named) err) puts rest)
   altered_by_key name names weight seen old new result before after same found (inr out) carries err puts rest =
       let here = subst (λ (s : SessionState T). at_name name s.sketches ≡ Some before) same found in
-      inr (kept name seen old new before after same found (ran_out names before result after out err) puts rest, rw here out)
+      inr (kept name seen old new before after same found (ran_out names weight before result after out err) puts rest, rw here out)
 
   -- ---- two sketches
 
