@@ -57,6 +57,9 @@ new_stands eq m n key least power sample = record {
   sample_size = refl;
 }
 
+pub new_budget : {T : Type 0} (eq : T → T → Bool) (m n : ℕ) (key : TableKey) → KeepsTailBudget eq (empty_state m n key) (New m n)
+new_budget eq m n key = λ set short. omega arith
+
 -- after a reset it stands for what was reset, and keeps the tail budget
 pub reset_stands : {T : Type 0} (eq : T → T → Bool) (m n : ℕ) (key : TableKey) → 8 ≤ m → IsTrue (is_power_of_two m) → IsSampleSize m n → (h : FrequentHistory T) → m ≡ own_size h → n ≡ own_sample h → StandsFor eq (empty_state m n key) (Reset h)
 reset_stands eq m n key least power sample h own own_n =

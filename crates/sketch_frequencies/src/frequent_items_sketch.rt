@@ -217,6 +217,10 @@ impl<T: Eq + Hash + Drop> FrequentItemsSketch<T> {
         ensures state { IsState T.eq self.new }
         ensures stands { Extends T.eq self.old self.new Reset }
         ensures budget { (h : FrequentHistory T) → KeepsTailBudget T.eq self.new (Reset h) }
+
+        // Whatever came before, also an untrusted image, the sketch represents the history of a new one.
+        ensures renewed { StandsFor T.eq self.new (New self.old.max_size self.old.sample_size) }
+        ensures renewed_budget { KeepsTailBudget T.eq self.new (New self.old.max_size self.old.sample_size) }
     {
         self.map.clear(MIN_MAP_SIZE);
         self.error = 0;

@@ -1,5 +1,5 @@
 use Rattle.std.proofs.Common.{arith, ap, ◌∙◌}
-use Rattle.sketch_frequencies.proofs.EmptySketches.{fresh_state, reset_stands, reset_budget}
+use Rattle.sketch_frequencies.proofs.EmptySketches.{fresh_state, new_stands, new_budget, reset_stands, reset_budget}
 use Rattle.sketch_frequencies.proofs.Powers.{eight_is_power}
 use Rattle.sketch_frequencies.proofs.frequent_items_sketch.FrequentItemsSketch.reset.Goals as goal
 
@@ -17,3 +17,9 @@ returns-clause-stands g c = λ h s. rw c.clear.ensures (reset_stands g.T.Partial
 
 pub returns-clause-budget : goal.returns-clause-budget
 returns-clause-budget g c = λ h. rw c.clear.ensures (reset_budget g.T.PartialEq.eq c.self.inside.max_size c.self.inside.sample_size c.self.inside.map.key h)
+
+pub returns-clause-renewed : goal.returns-clause-renewed
+returns-clause-renewed g c = rw (c.clear.ensures, ← c.self.view_is) (new_stands g.T.PartialEq.eq c.self.inside.max_size c.self.inside.sample_size c.self.inside.map.key (omega (arith, c.self.invariant.least, c.self.invariant.within)) c.self.invariant.max_size_power c.self.invariant.sample)
+
+pub returns-clause-renewed_budget : goal.returns-clause-renewed_budget
+returns-clause-renewed_budget g c = rw (c.clear.ensures, ← c.self.view_is) (new_budget g.T.PartialEq.eq c.self.inside.max_size c.self.inside.sample_size c.self.inside.map.key)
