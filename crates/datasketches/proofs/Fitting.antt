@@ -17,7 +17,7 @@ use Rattle.datasketches.specs.Names.{at_name, Puts, AreSame}
 use Rattle.datasketches.specs.Replies.{is_refused}
 use Rattle.datasketches.specs.Shapes.{fault_of}
 use Rattle.datasketches.specs.Stands.{StandsFor, DoesWith}
-use Rattle.datasketches.specs.State.{SessionState, IsUnchanged}
+use Rattle.datasketches.specs.State.{SessionState, IsUnchanged, KeepsImages}
 use Rattle.datasketches.specs.Steps.{OnSketch, Alters, Stores, Creates, IsCreated, JoinsNamed, JoinsApart, MakesFrom, Writes, Reads, IsRestored, Loads, IsLoaded, Performs}
 use Rattle.datasketches.specs.declared.image_kind.ImageKind.{ImageKind}
 use Rattle.datasketches.specs.declared.reply.Reply.{Reply}
@@ -63,22 +63,22 @@ module _ {T C : Type 0} (eq : T → T → Bool) (codec : Codec C) (content : T �
 
   -- a name has a sketch that stands for what `f` makes of a history
   with_sketch : {W : Type 0} (S : W → History T → Type 0) (f : History T → History T) (name : List ℕ) (before : W) (sketch : Sketch T) (history : Option (History T)) (old new : SessionState T) (a : Assignment T) → SessionStandsFor eq codec content old a →
-      Paired S (Some before) history → ((h : History T) → S before h → StandsFor eq sketch (f h)) → Puts name sketch old.sketches new.sketches → AreSame old.images new.images → SessionStandsFor eq codec content new (record a { sketches = put_at name (option_map f history) a.sketches })
-  with_sketch S f name before sketch (Some h) old new a fits pair carries puts images = record {
+      Paired S (Some before) history → ((h : History T) → S before h → StandsFor eq sketch (f h)) → Puts name sketch old.sketches new.sketches → KeepsImages old new → SessionStandsFor eq codec content new (record a { sketches = put_at name (option_map f history) a.sketches })
+  with_sketch S f name before sketch (Some h) old new a fits pair carries puts rest = record {
     sketches = put_pair (StandsFor eq) name sketch (f h) old.sketches new.sketches a.sketches fits.sketches (carries h pair) puts;
-    images = same_pairs (IsSavedOf eq codec content) old.images new.images a.images fits.images images;
+    images = same_pairs (IsSavedOf eq codec content) old.images new.images a.images fits.images rest.images;
   }
-  with_sketch S f name before sketch None old new a fits pair carries puts images = absurd pair
+  with_sketch S f name before sketch None old new a fits pair carries puts rest = absurd pair
 
   -- a name has a sketch that stands for the combination of two histories
   with_both : (join : Join) (into : List ℕ) (sketch from after : Sketch T) (g h : Option (History T)) (old new : SessionState T) (a : Assignment T) → SessionStandsFor eq codec content old a → Paired (StandsFor eq) (Some sketch) g → Paired (StandsFor eq) (Some from) h →
-      ((g h : History T) → StandsFor eq sketch g → StandsFor eq from h → StandsFor eq after (joined join g h)) → Puts into after old.sketches new.sketches → AreSame old.images new.images → SessionStandsFor eq codec content new (record a { sketches = put_at into (of_both (joined join) g h) a.sketches })
-  with_both join into sketch from after (Some g) (Some h) old new a fits p q carries puts images = record {
+      ((g h : History T) → StandsFor eq sketch g → StandsFor eq from h → StandsFor eq after (joined join g h)) → Puts into after old.sketches new.sketches → KeepsImages old new → SessionStandsFor eq codec content new (record a { sketches = put_at into (of_both (joined join) g h) a.sketches })
+  with_both join into sketch from after (Some g) (Some h) old new a fits p q carries puts rest = record {
     sketches = put_pair (StandsFor eq) into after (joined join g h) old.sketches new.sketches a.sketches fits.sketches (carries g h p q) puts;
-    images = same_pairs (IsSavedOf eq codec content) old.images new.images a.images fits.images images;
+    images = same_pairs (IsSavedOf eq codec content) old.images new.images a.images fits.images rest.images;
   }
-  with_both join into sketch from after None h old new a fits p q carries puts images = absurd p
-  with_both join into sketch from after (Some g) None old new a fits p q carries puts images = absurd q
+  with_both join into sketch from after None h old new a fits p q carries puts rest = absurd p
+  with_both join into sketch from after (Some g) None old new a fits p q carries puts rest = absurd q
 
   -- a name has an image of a sketch
   with_image : (image : List ℕ) (sketch : Sketch T) (saved : Image) (history : Option (History T)) (old new : SessionState T) (a : Assignment T) → SessionStandsFor eq codec content old a → Paired (StandsFor eq) (Some sketch) history →
@@ -100,48 +100,48 @@ module _ {T C : Type 0} (slot : ℕ) (eq : T → T → Bool) (input : T → List
 
   -- a change
   altered_as : (change : Change T) (name : List ℕ) (sketch after : Sketch T) (r : Bool) (reply : Reply T) (old new : SessionState T) → is_refused reply ≡ r → at_name name old.sketches ≡ Some sketch →
-      Alters eq input change sketch reply after → Puts name after old.sketches new.sketches → AreSame old.images new.images → Outcome (action.Alter name change) reply old new
-  altered_as change name sketch after true reply old new r e does puts images =
-      inl (r, record { sketches = put_again name sketch old.sketches new.sketches e (subst (λ (s : Sketch T). Puts name s old.sketches new.sketches) (does.refused r) puts); images = images })
-  altered_as change name sketch after false reply old new r e does puts images = inr (
+      Alters eq input change sketch reply after → Puts name after old.sketches new.sketches → KeepsImages old new → Outcome (action.Alter name change) reply old new
+  altered_as change name sketch after true reply old new r e does puts rest =
+      inl (r, record { sketches = put_again name sketch old.sketches new.sketches e (subst (λ (s : Sketch T). Puts name s old.sketches new.sketches) (does.refused r) puts); images = rest.images; key = rest.key })
+  altered_as change name sketch after false reply old new r e does puts rest = inr (
     r,
     λ a loaded fits told.
         let pair : Paired (StandsFor eq) (Some sketch) (a.sketches name) = rw e at (fits.sketches name) in
-        with_sketch eq codec content (StandsFor eq) (changed input change) name sketch after (a.sketches name) old new a fits pair (does.carries r) puts images,
+        with_sketch eq codec content (StandsFor eq) (changed input change) name sketch after (a.sketches name) old new a fits pair (does.carries r) puts rest,
   )
 
   alters : (change : Change T) (name : List ℕ) (found : Option (Sketch T)) (reply : Reply T) (old new : SessionState T) → at_name name old.sketches ≡ found →
-      OnSketch (Alters eq input change) name old.sketches reply new.sketches → AreSame old.images new.images → Outcome (action.Alter name change) reply old new
-  alters change name None reply old new e on images = let done = rw e at on in inl (ap is_refused done.0, record { sketches = done.1; images = images })
-  alters change name (Some sketch) reply old new e on images = let done = rw e at on in altered_as change name sketch done.0 (is_refused reply) reply old new refl e done.1 done.2 images
+      OnSketch (Alters eq input change) name old.sketches reply new.sketches → KeepsImages old new → Outcome (action.Alter name change) reply old new
+  alters change name None reply old new e on rest = let done = rw e at on in inl (ap is_refused done.0, record { sketches = done.1; images = rest.images; key = rest.key })
+  alters change name (Some sketch) reply old new e on rest = let done = rw e at on in altered_as change name sketch done.0 (is_refused reply) reply old new refl e done.1 done.2 rest
 
   -- a combination of two sketches
   joined_as : (join : Join) (into other : List ℕ) (sketch from after : Sketch T) (r : Bool) (reply : Reply T) (old new : SessionState T) → is_refused reply ≡ r → at_name into old.sketches ≡ Some sketch → at_name other old.sketches ≡ Some from →
-      DoesWith eq (Joins eq join from) (joined join) from sketch reply after → Puts into after old.sketches new.sketches → AreSame old.images new.images → Outcome (action.Combine into other join) reply old new
-  joined_as join into other sketch from after true reply old new r e f does puts images =
-      inl (r, record { sketches = put_again into sketch old.sketches new.sketches e (subst (λ (s : Sketch T). Puts into s old.sketches new.sketches) (does.refused r) puts); images = images })
-  joined_as join into other sketch from after false reply old new r e f does puts images = inr (
+      DoesWith eq (Joins eq join from) (joined join) from sketch reply after → Puts into after old.sketches new.sketches → KeepsImages old new → Outcome (action.Combine into other join) reply old new
+  joined_as join into other sketch from after true reply old new r e f does puts rest =
+      inl (r, record { sketches = put_again into sketch old.sketches new.sketches e (subst (λ (s : Sketch T). Puts into s old.sketches new.sketches) (does.refused r) puts); images = rest.images; key = rest.key })
+  joined_as join into other sketch from after false reply old new r e f does puts rest = inr (
     r,
     λ a loaded fits told.
         let p : Paired (StandsFor eq) (Some sketch) (a.sketches into) = rw e at (fits.sketches into) in
         let q : Paired (StandsFor eq) (Some from) (a.sketches other) = rw f at (fits.sketches other) in
-        with_both eq codec content join into sketch from after (a.sketches into) (a.sketches other) old new a fits p q (does.carries r) puts images,
+        with_both eq codec content join into sketch from after (a.sketches into) (a.sketches other) old new a fits p q (does.carries r) puts rest,
   )
 
   joins_as : (join : Join) (into other : List ℕ) (sketch from : Sketch T) (t : Bool) (reply : Reply T) (old new : SessionState T) → bytes_eq into other ≡ t → at_name into old.sketches ≡ Some sketch → at_name other old.sketches ≡ Some from →
-      JoinsApart eq join into other sketch from old.sketches reply new.sketches → AreSame old.images new.images → Outcome (action.Combine into other join) reply old new
-  joins_as join into other sketch from true reply old new t e f joins images =
+      JoinsApart eq join into other sketch from old.sketches reply new.sketches → KeepsImages old new → Outcome (action.Combine into other join) reply old new
+  joins_as join into other sketch from true reply old new t e f joins rest =
       let done = joins.itself ((bytes_eq-Decides into other).0 t) in
-      inl (ap is_refused done.0, record { sketches = done.1; images = images })
-  joins_as join into other sketch from false reply old new t e f joins images =
+      inl (ap is_refused done.0, record { sketches = done.1; images = rest.images; key = rest.key })
+  joins_as join into other sketch from false reply old new t e f joins rest =
       let done = joins.two (λ same. true≢false (sym ((bytes_eq-Decides into other).1 same) ∙ t)) in
-      joined_as join into other sketch from done.0 (is_refused reply) reply old new refl e f done.1 done.2 images
+      joined_as join into other sketch from done.0 (is_refused reply) reply old new refl e f done.1 done.2 rest
 
   combines : (join : Join) (into other : List ℕ) (found more : Option (Sketch T)) (reply : Reply T) (old new : SessionState T) → at_name into old.sketches ≡ found → at_name other old.sketches ≡ more →
-      JoinsNamed eq join into other old.sketches reply new.sketches → AreSame old.images new.images → Outcome (action.Combine into other join) reply old new
-  combines join into other None more reply old new e f joins images = let done = rw e at joins in inl (ap is_refused done.0, record { sketches = done.1; images = images })
-  combines join into other (Some sketch) None reply old new e f joins images = let done = rw (e, f) at joins in inl (ap is_refused done.0, record { sketches = done.1; images = images })
-  combines join into other (Some sketch) (Some from) reply old new e f joins images = joins_as join into other sketch from (bytes_eq into other) reply old new refl e f (rw (e, f) at joins) images
+      JoinsNamed eq join into other old.sketches reply new.sketches → KeepsImages old new → Outcome (action.Combine into other join) reply old new
+  combines join into other None more reply old new e f joins rest = let done = rw e at joins in inl (ap is_refused done.0, record { sketches = done.1; images = rest.images; key = rest.key })
+  combines join into other (Some sketch) None reply old new e f joins rest = let done = rw (e, f) at joins in inl (ap is_refused done.0, record { sketches = done.1; images = rest.images; key = rest.key })
+  combines join into other (Some sketch) (Some from) reply old new e f joins rest = joins_as join into other sketch from (bytes_eq into other) reply old new refl e f (rw (e, f) at joins) rest
 
   -- a value that was stored under a name, or not
   stores : {V : Type 0} (Good : V → Type 0) (Why : ErrorValue → Type 0) (name : List ℕ) (values left : List (List ℕ × V)) (action : Action T) (reply : Reply T) (old new : SessionState T) → (AreSame values left → IsUnchanged old new) →
@@ -151,11 +151,11 @@ module _ {T C : Type 0} (slot : ℕ) (eq : T → T → Bool) (input : T → List
   stores Good Why name values left action reply old new same made (inr (error, why, (reply_is, kept))) = inl (ap is_refused reply_is, same kept)
 
   -- a new sketch
-  creates : (shape : Shape) (name : List ℕ) (found : Option (Sketch T)) (reply : Reply T) (old new : SessionState T) → at_name name old.sketches ≡ found → Creates eq shape name old.sketches reply new.sketches → AreSame old.images new.images → Outcome (action.Create name shape) reply old new
-  creates shape name (Some sketch) reply old new e step images = let done = rw e at step in inl (ap is_refused done.0, record { sketches = done.1; images = images })
-  creates shape name None reply old new e step images =
-      stores (IsCreated eq shape) (λ why. why ≡ refusal_of (fault_of shape)) name old.sketches new.sketches (action.Create name shape) reply old new (λ sketches. record { sketches = sketches; images = images })
-      (λ sketch made puts a loaded fits told. with_sketch eq codec content (λ (u : ⊤). StandsFor eq sketch) (λ h. h) name tt sketch (Some (begun shape)) old new a fits made.stands (λ h stands. stands) puts images) (rw e at step)
+  creates : (shape : Shape) (name : List ℕ) (found : Option (Sketch T)) (reply : Reply T) (old new : SessionState T) → at_name name old.sketches ≡ found → Creates eq old.key shape name old.sketches reply new.sketches → KeepsImages old new → Outcome (action.Create name shape) reply old new
+  creates shape name (Some sketch) reply old new e step rest = let done = rw e at step in inl (ap is_refused done.0, record { sketches = done.1; images = rest.images; key = rest.key })
+  creates shape name None reply old new e step rest =
+      stores (IsCreated eq old.key shape) (λ why. why ≡ refusal_of (fault_of shape)) name old.sketches new.sketches (action.Create name shape) reply old new (λ sketches. record { sketches = sketches; images = rest.images; key = rest.key })
+      (λ sketch made puts a loaded fits told. with_sketch eq codec content (λ (u : ⊤). StandsFor eq sketch) (λ h. h) name tt sketch (Some (begun shape)) old new a fits made.stands (λ h stands. stands) puts rest) (rw e at step)
 
   -- something is made of what one name has, or nothing is
   makes_from : {V W : Type 0} (source : Option V) (taken : Option W) (Makes : V → Type 0) (action : Action T) (reply : Reply T) (old new : SessionState T) → ((value : V) → source ≡ Some value → Makes value → Outcome action reply old new) →
@@ -167,7 +167,7 @@ module _ {T C : Type 0} (slot : ℕ) (eq : T → T → Bool) (input : T → List
   -- an image that is saved
   writes : (name image : List ℕ) (sketch : Sketch T) (reply : Reply T) (old new : SessionState T) → at_name name old.sketches ≡ Some sketch → Writes codec content sketch image old reply new → Outcome (action.Save name image) reply old new
   writes name image sketch reply old new e done =
-      stores (λ (saved : Image). IsWrittenBy codec content sketch saved.kind saved.bytes) (IsWriteRefusal codec content sketch) image old.images new.images (action.Save name image) reply old new (λ images. record { sketches = done.sketches; images = images })
+      stores (λ (saved : Image). IsWrittenBy codec content sketch saved.kind saved.bytes) (IsWriteRefusal codec content sketch) image old.images new.images (action.Save name image) reply old new (λ images. record { sketches = done.sketches; images = images; key = done.key })
       (λ saved written puts a loaded fits told.
       let pair : Paired (StandsFor eq) (Some sketch) (a.sketches name) = rw e at (fits.sketches name) in
       with_image eq codec content image sketch saved (a.sketches name) old new a fits pair written puts done.sketches) done.outcome
@@ -175,18 +175,18 @@ module _ {T C : Type 0} (slot : ℕ) (eq : T → T → Bool) (input : T → List
   -- an image that is restored
   reads : (image name : List ℕ) (saved : Image) (reply : Reply T) (old new : SessionState T) → at_name image old.images ≡ Some saved → Reads eq codec content saved name old reply new → Outcome (action.Restore image name) reply old new
   reads image name saved reply old new e done =
-      stores (IsRestored eq codec content saved) (IsReadRefusal codec saved.kind saved.bytes) name old.sketches new.sketches (action.Restore image name) reply old new (λ sketches. record { sketches = sketches; images = done.images })
+      stores (IsRestored eq codec content old.key saved) (IsReadRefusal codec saved.kind saved.bytes) name old.sketches new.sketches (action.Restore image name) reply old new (λ sketches. record { sketches = sketches; images = done.rest.images; key = done.rest.key })
       (λ sketch back puts a loaded fits told.
       let pair : Paired (IsSavedOf eq codec content) (Some saved) (a.images image) = rw e at (fits.images image) in
-      with_sketch eq codec content (IsSavedOf eq codec content) restored name saved sketch (a.images image) old new a fits pair back.1 puts done.images) done.outcome
+      with_sketch eq codec content (IsSavedOf eq codec content) restored name saved sketch (a.images image) old new a fits pair back.stands puts done.rest) done.outcome
 
   -- an image that is loaded
   loads : (kind : ImageKind) (bytes : List ℕ) (max_bytes : ℕ) (name : List ℕ) (found : Option (Sketch T)) (reply : Reply T) (old new : SessionState T) → at_name name old.sketches ≡ found → Loads slot eq codec content kind bytes max_bytes name old reply new → Outcome (action.Load name kind bytes max_bytes) reply old new
   loads kind bytes max_bytes name (Some sketch) reply old new e step = let done = rw e at step in inl (ap is_refused done.1, done.0)
   loads kind bytes max_bytes name None reply old new e step =
       let done = rw e at step in
-      stores (IsLoaded slot eq codec content kind bytes max_bytes) (IsLoadRefusal slot codec max_bytes kind bytes) name old.sketches new.sketches (action.Load name kind bytes max_bytes) reply old new (λ sketches. record { sketches = sketches; images = done.images })
-      (λ sketch brought puts a history fits told. with_sketch eq codec content (λ (u : ⊤). IsImageOf eq codec content kind bytes) restored name tt sketch (Some history) old new a fits told brought.stands puts done.images) done.outcome
+      stores (IsLoaded slot eq codec content old.key kind bytes max_bytes) (IsLoadRefusal slot codec max_bytes kind bytes) name old.sketches new.sketches (action.Load name kind bytes max_bytes) reply old new (λ sketches. record { sketches = sketches; images = done.rest.images; key = done.rest.key })
+      (λ sketch brought puts a history fits told. with_sketch eq codec content (λ (u : ⊤). IsImageOf eq codec content kind bytes) restored name tt sketch (Some history) old new a fits told brought.stands puts done.rest) done.outcome
 
   -- a query
   tells : (action : Action T) (r : Bool) (reply : Reply T) (old new : SessionState T) → is_refused reply ≡ r → IsUnchanged old new → ((a : Assignment T) (loaded : History T) → accepted_told input a action loaded ≡ a) → Outcome action reply old new

@@ -37,7 +37,14 @@ rejected eq input names x weight old new result error named from zero overflow m
     let p = err_from_is_err_and result from in
     let said = ap done_or p.1 ∙ ap Refused p.2 in
     elim (cases_lt (old.total + weight) (2 ^ 64)) [
-      | inl room ↦ inr (p.1 ∙ ap Err (p.2 ∙ ap Call (memory room)), false_from_ne_true _ (λ tracked. false≢true (succeeds room tracked)))
+      | inl room ↦ inr (record {
+        error = p.1 ∙ ap Err (p.2 ∙ ap Call (memory room));
+        some = elim (cases_eq weight 0) [
+          | inl none ↦ absurd (false≢true (zero none).0)
+          | inr some ↦ omega (arith, some)
+        ];
+        needs = (false_from_ne_true _ (λ tracked. false≢true (succeeds room tracked)), room);
+      })
       | inr over ↦ inl (
         x,
         named,

@@ -1,6 +1,7 @@
 pub mod Cells
 pub mod Fitting
 pub mod FilterJoins
+pub mod Hashing
 pub mod Keyed
 pub mod Names
 pub mod Powers

@@ -11,6 +11,7 @@ use Rattle.sketch_countmin.specs.Stands as count
 use Rattle.sketch_countmin.specs.State.{CountState, IsCountState}
 use Rattle.sketch_frequencies.specs.Items.{Codec}
 use Rattle.datasketches.specs.SessionStandsFor.{Paired}
+use Rattle.datasketches.specs.Actions.{Shape}
 use Rattle.datasketches.specs.Histories.{History}
 use Rattle.datasketches.specs.Histories.History.{OfStranger}
 use Rattle.datasketches.specs.Laws.{IsNamed, IsCounted}
@@ -28,14 +29,14 @@ module _ {T C : Type 0} (eq : T → T → Bool) (codec : Codec C) (content : T �
       (is.fits.sketches is.name))
 
   -- one that came from a stranger is a sketch that may be
-  stranger_case : (sketch : Sketch T) → StandsFor eq sketch OfStranger → IsSketch eq sketch
-  stranger_case (Frequent s) stands = stands
-  stranger_case (CountI64 s) stands = stands
-  stranger_case (CountU64 s) stands = stands
-  stranger_case (Bloom s) stands = stands
+  stranger_case : (sketch : Sketch T) (known : Shape) → StandsFor eq sketch (OfStranger known) → IsSketch eq sketch
+  stranger_case (Frequent s) known stands = stands.0
+  stranger_case (CountI64 s) known stands = stands.0
+  stranger_case (CountU64 s) known stands = stands.0
+  stranger_case (Bloom s) known stands = stands.0
 
-  pub stranger_is : (sketch : Sketch T) → IsNamed eq codec content sketch OfStranger → IsSketch eq sketch
-  stranger_is sketch is = stranger_case sketch (named_stands sketch OfStranger is)
+  pub stranger_is : (sketch : Sketch T) (known : Shape) → IsNamed eq codec content sketch (OfStranger known) → IsSketch eq sketch
+  stranger_is sketch known is = stranger_case sketch known (named_stands sketch (OfStranger known) is)
 
   -- a Count-Min sketch of either kind
   pub counted_stands : (s : CountState) (h : CountHistory) → IsCounted eq codec content s h → count.StandsFor s h

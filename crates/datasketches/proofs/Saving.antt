@@ -1,14 +1,16 @@
 -- Calls of a session, by the clauses of the calls beneath.
-use Rattle.std.proofs.Common.{◌≡◌, ℕ, Bool, true, false, List, Option, Some, None, inl, inr, refl, sym, ap, subst}
+use Rattle.std.proofs.Common.{◌≡◌, ℕ, Bool, true, false, List, Option, Some, None, inl, inr, refl, sym, ◌∙◌, ap, subst}
 use Rattle.std.specs.Prelude.{Result, Ok, Err, ⊤, IsTrue, IfErr, IfOk, IsOk, OnErr, OnOk}
 use Rattle.std.specs.Global.{Global}
 use Rattle.std.specs.declared.vec.Vec.{Vec}
 use Rattle.std.specs.Option.{is_some}
+use Rattle.counter_table.specs.declared.table_key.TableKey.{TableKey}
 use Rattle.sketch_base.specs.Errors.{ErrorValue, no_memory, refusal_of}
 use Rattle.sketch_frequencies.specs.Items.{Codec}
 use Rattle.datasketches.specs.Actions.{Action, Change, Join, Shape}
 use Rattle.datasketches.specs.Actions.Action.{Create, Alter, Combine, Save, Restore, ShowImage, Load}
 use Rattle.datasketches.specs.Changing.{Changes}
+use Rattle.datasketches.specs.Hashing.{IsUnder}
 use Rattle.datasketches.specs.Histories.{begun, changed}
 use Rattle.datasketches.specs.Images.{Image, IsWrittenBy, IsWriteRefusal, IsReadFrom, IsReadRefusal, IsLoadRefusal, GivesBack, TakesWithin, load_fault}
 use Rattle.datasketches.specs.Actions.Change.{Add}
@@ -18,11 +20,11 @@ use Rattle.datasketches.specs.Performed.{Performed}
 use Rattle.datasketches.specs.Replies.{done_or}
 use Rattle.datasketches.specs.Shapes.{empty_sketch, fault_of}
 use Rattle.datasketches.specs.Stands.{StandsFor, Carries}
-use Rattle.datasketches.specs.State.{SessionState, IsUnchanged}
+use Rattle.datasketches.specs.State.{SessionState, IsUnchanged, KeepsImages}
 use Rattle.datasketches.specs.Steps.{Alters, Stores, JoinsNamed, IsCreated, IsRestored, IsLoaded, Performs}
 use Rattle.datasketches.specs.declared.image_kind.ImageKind.{ImageKind}
 use Rattle.datasketches.specs.declared.reply.Refusal.{Refusal}
-use Rattle.datasketches.specs.declared.reply.Refusal.TheVariants.{NameTaken}
+use Rattle.datasketches.specs.declared.reply.Refusal.TheVariants.{NameTaken, NoSuchName}
 use Rattle.datasketches.specs.declared.reply.Reply.{Reply}
 use Rattle.datasketches.specs.declared.reply.Reply.TheVariants.{Image as Shown, Refused}
 use Rattle.datasketches.specs.declared.sketch.Sketch.{Sketch}
@@ -30,7 +32,7 @@ use Rattle.datasketches.specs.declared.sketch.Sketch.TheVariants.{Frequent, Coun
 use Rattle.datasketches.proofs.Fitting.{put_again}
 use Rattle.datasketches.proofs.Saved.{read_first, load_first}
 use Rattle.datasketches.proofs.Stepping.{performed}
-use Rattle.datasketches.proofs.Steps.{on_some, does}
+use Rattle.datasketches.proofs.Steps.{on_none, on_some, does}
 
 -- a name that is not contained, and one that is
 pub free : {V : Type 0} (found : Option V) (contained : Bool) → contained ≡ false → contained ≡ is_some found → found ≡ None
@@ -60,51 +62,60 @@ module _ {T C : Type 0} (slot : ℕ) (eq : T → T → Bool) (input : T → List
   pub by_parts_alone : (action : Action T) (seen old : SessionState T) (reply : Reply T) → seen ≡ old → Performs slot eq input codec content seen action reply seen → Did action old reply old
   by_parts_alone action seen old reply same step = performed slot eq input codec content action old old reply (subst (λ (s : SessionState T). Performs slot eq input codec content s action reply s) same step)
 
+  same_end : (seen old new : SessionState T) → seen ≡ old → new ≡ seen → old ≡ new
+  same_end seen old new same stays = sym (stays ∙ same)
+
   -- ---- a change
 
   pub altered : (change : Change T) (name : List ℕ) (seen old new : SessionState T) (result : Result ⊤ Refusal) (before after : Sketch T) → seen ≡ old → at_name name seen.sketches ≡ Some before →
-      Alters eq input change before (done_or result) after → Puts name after seen.sketches new.sketches → AreSame seen.images new.images → Did (Alter name change) old (done_or result) new
-  altered change name seen old new result before after same found does puts images =
+      Alters eq input change before (done_or result) after → Puts name after seen.sketches new.sketches → KeepsImages seen new → Did (Alter name change) old (done_or result) new
+  altered change name seen old new result before after same found does puts rest =
       by_parts (Alter name change) seen old new (done_or result) same
-      (on_some (Alters eq input change) name seen.sketches new.sketches (done_or result) before after found does puts, images)
+      (on_some (Alters eq input change) name seen.sketches new.sketches (done_or result) before after found does puts, rest)
+
+  -- no sketch has the name
+  pub altered_none : (change : Change T) (name : List ℕ) (seen old new : SessionState T) → seen ≡ old → new ≡ seen → at_name name seen.sketches ≡ None → Did (Alter name change) old (Refused NoSuchName) new
+  altered_none change name seen old new same stays none =
+      subst (λ (s : SessionState T). Did (Alter name change) old (Refused NoSuchName) s) (same_end seen old new same stays)
+      (by_parts_alone (Alter name change) seen old (Refused NoSuchName) same (on_none (Alters eq input change) name seen.sketches none, record { images = λ _. refl; key = refl }))
 
   -- the session is unchanged if the sketch is
-  kept : (name : List ℕ) (seen old new : SessionState T) (sketch after : Sketch T) → seen ≡ old → at_name name seen.sketches ≡ Some sketch → after ≡ sketch → Puts name after seen.sketches new.sketches → AreSame seen.images new.images → IsUnchanged old new
-  kept name seen old new sketch after same found e puts images =
-      subst (λ (s : SessionState T). IsUnchanged s new) same (record { sketches = put_again name sketch seen.sketches new.sketches found (subst (λ (k : Sketch T). Puts name k seen.sketches new.sketches) e puts); images = images })
+  kept : (name : List ℕ) (seen old new : SessionState T) (sketch after : Sketch T) → seen ≡ old → at_name name seen.sketches ≡ Some sketch → after ≡ sketch → Puts name after seen.sketches new.sketches → KeepsImages seen new → IsUnchanged old new
+  kept name seen old new sketch after same found e puts rest =
+      subst (λ (s : SessionState T). IsUnchanged s new) same (record { sketches = put_again name sketch seen.sketches new.sketches found (subst (λ (k : Sketch T). Puts name k seen.sketches new.sketches) e puts); images = rest.images; key = rest.key })
 
-  ran_out : (names : T → Bool) (old : Sketch T) (result : Result ⊤ Refusal) (after : Sketch T) → RunsOut names old result → OnErr result (after ≡ old) → after ≡ old
-  ran_out names old (Err refusal) after out err = err
-  ran_out names old (Ok done) after out err = cc out.0
+  ran_out : (names : T → Bool) (weight : ℕ) (old : Sketch T) (result : Result ⊤ Refusal) (after : Sketch T) → RunsOut names weight old result → OnErr result (after ≡ old) → after ≡ old
+  ran_out names weight old (Err refusal) after out err = err
+  ran_out names weight old (Ok done) after out err = cc out.error
 
   pub altered_by_key : (name : List ℕ) (names : T → Bool) (weight : ℕ) (seen old new : SessionState T) (result : Result ⊤ Refusal) (before after : Sketch T) → seen ≡ old → at_name name seen.sketches ≡ Some before →
-      AddsNamed eq input names weight before result after → ((x : T) → IsTrue (names x) → OnOk result (Carries eq (changed input (Add x weight)) before after)) → OnErr result (after ≡ before) → Puts name after seen.sketches new.sketches → AreSame seen.images new.images → PerformedByKey slot eq input codec content name names weight old result new
-  altered_by_key name names weight seen old new result before after same found (inl (item, named, own)) carries err puts images =
-      inl (item, named, altered (Add item weight) name seen old new result before after same found (does eq (Changes eq input (Add item weight)) (changed input (Add item weight)) before after result own (carries item named) err) puts images)
-  altered_by_key name names weight seen old new result before after same found (inr out) carries err puts images =
+      AddsNamed eq input names weight before result after → ((x : T) → IsTrue (names x) → OnOk result (Carries eq (changed input (Add x weight)) before after)) → OnErr result (after ≡ before) → Puts name after seen.sketches new.sketches → KeepsImages seen new → PerformedByKey slot eq input codec content name names weight old result new
+  altered_by_key name names weight seen old new result before after same found (inl (item, named, own)) carries err puts rest =
+      inl (item, named, altered (Add item weight) name seen old new result before after same found (does eq (Changes eq input (Add item weight)) (changed input (Add item weight)) before after result own (carries item named) err) puts rest)
+  altered_by_key name names weight seen old new result before after same found (inr out) carries err puts rest =
       let here = subst (λ (s : SessionState T). at_name name s.sketches ≡ Some before) same found in
-      inr (kept name seen old new before after same found (ran_out names before result after out err) puts images, rw here out)
+      inr (kept name seen old new before after same found (ran_out names weight before result after out err) puts rest, rw here out)
 
   -- ---- two sketches
 
-  pub combined : (join : Join) (into other : List ℕ) (seen old new : SessionState T) (reply : Reply T) → seen ≡ old → JoinsNamed eq join into other seen.sketches reply new.sketches → AreSame seen.images new.images → Did (Combine into other join) old reply new
-  combined join into other seen old new reply same joins images = by_parts (Combine into other join) seen old new reply same (joins, images)
+  pub combined : (join : Join) (into other : List ℕ) (seen old new : SessionState T) (reply : Reply T) → seen ≡ old → JoinsNamed eq join into other seen.sketches reply new.sketches → KeepsImages seen new → Did (Combine into other join) old reply new
+  combined join into other seen old new reply same joins rest = by_parts (Combine into other join) seen old new reply same (joins, rest)
 
   -- ---- a new sketch
 
   pub creates_taken : (shape : Shape) (name : List ℕ) (seen old : SessionState T) → seen ≡ old → (sketch : Sketch T) × (at_name name seen.sketches ≡ Some sketch) → Did (Create name shape) old (Refused NameTaken) old
-  creates_taken shape name seen old same (sketch, found) = by_parts_alone (Create name shape) seen old (Refused NameTaken) same (rw found (refl, λ _. refl), λ _. refl)
+  creates_taken shape name seen old same (sketch, found) = by_parts_alone (Create name shape) seen old (Refused NameTaken) same (rw found (refl, λ _. refl), record { images = λ _. refl; key = refl })
 
-  created : (shape : Shape) (made : Result (Sketch T) ErrorValue) → IfOk made (λ sketch. sketch ≡ empty_sketch shape) → IfOk made (λ sketch. StandsFor eq sketch (begun shape)) → (IsOk made → fault_of shape ≡ None) → IfOk made (IsCreated eq shape)
-  created shape (Ok sketch) empty stands accepted = record { accepted = accepted refl; empty = empty; stands = stands }
-  created shape (Err error) empty stands accepted = tt
+  created : (key : TableKey) (shape : Shape) (made : Result (Sketch T) ErrorValue) → IfOk made (λ sketch. sketch ≡ empty_sketch key shape) → IfOk made (λ sketch. StandsFor eq sketch (begun shape)) → (IsOk made → fault_of shape ≡ None) → IfOk made (IsCreated eq key shape)
+  created key shape (Ok sketch) empty stands accepted = record { accepted = accepted refl; empty = empty; stands = stands }
+  created key shape (Err error) empty stands accepted = tt
 
   pub creates : (shape : Shape) (name : List ℕ) (seen old new : SessionState T) (made : Result (Sketch T) ErrorValue) (result : Result ⊤ Refusal) → seen ≡ old → at_name name seen.sketches ≡ None →
-      IfOk made (λ sketch. sketch ≡ empty_sketch shape) → IfOk made (λ sketch. StandsFor eq sketch (begun shape)) → (IsOk made → fault_of shape ≡ None) → IfErr made (λ e. e ≡ refusal_of (fault_of shape)) →
-      Keeps name made seen.sketches result new.sketches → AreSame seen.images new.images → Did (Create name shape) old (done_or result) new
-  creates shape name seen old new made result same none empty stands accepted why keeps images = by_parts (Create name shape) seen old new (done_or result) same (
-    rw none (stored (IsCreated eq shape) (λ e. e ≡ refusal_of (fault_of shape)) name seen.sketches new.sketches made result (created shape made empty stands accepted) (λ sketch good. sym (ap refusal_of good.accepted)) why keeps),
-    images,
+      IfOk made (λ sketch. sketch ≡ empty_sketch seen.key shape) → IfOk made (λ sketch. StandsFor eq sketch (begun shape)) → (IsOk made → fault_of shape ≡ None) → IfErr made (λ e. e ≡ refusal_of (fault_of shape)) →
+      Keeps name made seen.sketches result new.sketches → KeepsImages seen new → Did (Create name shape) old (done_or result) new
+  creates shape name seen old new made result same none empty stands accepted why keeps rest = by_parts (Create name shape) seen old new (done_or result) same (
+    rw none (stored (IsCreated eq seen.key shape) (λ e. e ≡ refusal_of (fault_of shape)) name seen.sketches new.sketches made result (created seen.key shape made empty stands accepted) (λ sketch good. sym (ap refusal_of good.accepted)) why keeps),
+    rest,
   )
 
   -- ---- an image that is saved
@@ -117,14 +128,15 @@ module _ {T C : Type 0} (slot : ℕ) (eq : T → T → Bool) (input : T → List
 
   pub saves_taken : (name image : List ℕ) (seen old : SessionState T) (sketch : Sketch T) → seen ≡ old → at_name name seen.sketches ≡ Some sketch → (saved : Image) × (at_name image seen.images ≡ Some saved) → Did (Save name image) old (Refused NameTaken) old
   saves_taken name image seen old sketch same found (saved, taken) =
-      by_parts_alone (Save name image) seen old (Refused NameTaken) same (rw (found, taken) (record { sketches = λ _. refl; images = λ _. refl }, refl))
+      by_parts_alone (Save name image) seen old (Refused NameTaken) same (rw (found, taken) (record { sketches = λ _. refl; images = λ _. refl; key = refl }, refl))
 
   -- a sketch that was written, or not, under a free name
   pub saves : (name image : List ℕ) (seen old new : SessionState T) (sketch : Sketch T) (made : Result Image ErrorValue) (result : Result ⊤ Refusal) → seen ≡ old → at_name name seen.sketches ≡ Some sketch → at_name image seen.images ≡ None →
       IfOk made (λ saved. IsWrittenBy codec content sketch saved.kind saved.bytes) → IfErr made (IsWriteRefusal codec content sketch) →
-      Keeps image made seen.images result new.images → AreSame seen.sketches new.sketches → Did (Save name image) old (done_or result) new
-  saves name image seen old new sketch made result same found none written why keeps sketches = by_parts (Save name image) seen old new (done_or result) same (rw (found, none) (record {
+      Keeps image made seen.images result new.images → AreSame seen.sketches new.sketches → new.key ≡ seen.key → Did (Save name image) old (done_or result) new
+  saves name image seen old new sketch made result same found none written why keeps sketches key = by_parts (Save name image) seen old new (done_or result) same (rw (found, none) (record {
     sketches = sketches;
+    key = key;
     outcome = stored (λ (saved : Image). IsWrittenBy codec content sketch saved.kind saved.bytes) (IsWriteRefusal codec content sketch) image seen.images new.images made result written (λ saved good. write_memory sketch) why keeps;
   }))
 
@@ -133,41 +145,41 @@ module _ {T C : Type 0} (slot : ℕ) (eq : T → T → Bool) (input : T → List
   pub restores_taken : (image name : List ℕ) (seen old : SessionState T) (saved : Image) → seen ≡ old → at_name image old.images ≡ Some saved → (sketch : Sketch T) × (at_name name seen.sketches ≡ Some sketch) → Did (Restore image name) old (Refused NameTaken) old
   restores_taken image name seen old saved same found (sketch, taken) =
       let here = subst (λ (s : SessionState T). at_name image s.images ≡ Some saved) (sym same) found in
-      by_parts_alone (Restore image name) seen old (Refused NameTaken) same (rw (here, taken) (record { sketches = λ _. refl; images = λ _. refl }, refl))
+      by_parts_alone (Restore image name) seen old (Refused NameTaken) same (rw (here, taken) (record { sketches = λ _. refl; images = λ _. refl; key = refl }, refl))
 
-  read_back : (saved : Image) (made : Result (Sketch T) ErrorValue) → IfOk made (IsReadFrom codec content saved.kind saved.bytes) → IfOk made (GivesBack eq codec content saved.kind saved.bytes) → IfOk made (IsRestored eq codec content saved)
-  read_back saved (Ok sketch) read back = (read, back)
-  read_back saved (Err error) read back = tt
+  read_back : (key : TableKey) (saved : Image) (made : Result (Sketch T) ErrorValue) → IfOk made (IsReadFrom codec content saved.kind saved.bytes) → IfOk made (GivesBack eq codec content saved.kind saved.bytes) → IfOk made (IsUnder key) → IfOk made (IsRestored eq codec content key saved)
+  read_back key saved (Ok sketch) read back keyed = record { read = read; stands = back; keyed = keyed }
+  read_back key saved (Err error) read back keyed = tt
 
   pub restores : (image name : List ℕ) (seen old new : SessionState T) (saved : Image) (made : Result (Sketch T) ErrorValue) (result : Result ⊤ Refusal) → seen ≡ old → at_name image old.images ≡ Some saved → at_name name seen.sketches ≡ None →
-      IfOk made (IsReadFrom codec content saved.kind saved.bytes) → IfOk made (GivesBack eq codec content saved.kind saved.bytes) → IfErr made (IsReadRefusal codec saved.kind saved.bytes) →
-      Keeps name made seen.sketches result new.sketches → AreSame seen.images new.images → Did (Restore image name) old (done_or result) new
-  restores image name seen old new saved made result same found none read back why keeps images =
+      IfOk made (IsReadFrom codec content saved.kind saved.bytes) → IfOk made (GivesBack eq codec content saved.kind saved.bytes) → IfOk made (IsUnder seen.key) → IfErr made (IsReadRefusal codec saved.kind saved.bytes) →
+      Keeps name made seen.sketches result new.sketches → KeepsImages seen new → Did (Restore image name) old (done_or result) new
+  restores image name seen old new saved made result same found none read back keyed why keeps rest =
       let here = subst (λ (s : SessionState T). at_name image s.images ≡ Some saved) (sym same) found in
       by_parts (Restore image name) seen old new (done_or result) same (rw (here, none) (record {
-        images = images;
-        outcome = stored (IsRestored eq codec content saved) (IsReadRefusal codec saved.kind saved.bytes) name seen.sketches new.sketches made result (read_back saved made read back) (λ sketch good. read_first codec content saved.kind saved.bytes sketch good.0) why keeps;
+        rest = rest;
+        outcome = stored (IsRestored eq codec content seen.key saved) (IsReadRefusal codec saved.kind saved.bytes) name seen.sketches new.sketches made result (read_back seen.key saved made read back keyed) (λ sketch good. read_first codec content saved.kind saved.bytes sketch good.read) why keeps;
       }))
 
   -- ---- an image that is shown
 
   pub shows : (name : List ℕ) (old : SessionState T) (saved : Image) (bytes : Vec ℕ Global) → at_name name old.images ≡ Some saved → bytes.items ≡ saved.bytes → Did (ShowImage name) old (Shown bytes) old
-  shows name old saved bytes found same = by_parts_alone (ShowImage name) old old (Shown bytes) refl (rw found (record { sketches = λ _. refl; images = λ _. refl }, inl (bytes, refl, same)))
+  shows name old saved bytes found same = by_parts_alone (ShowImage name) old old (Shown bytes) refl (rw found (record { sketches = λ _. refl; images = λ _. refl; key = refl }, inl (bytes, refl, same)))
 
   -- ---- an image that is loaded
 
   pub loads_taken : (kind : ImageKind) (bytes : List ℕ) (most : ℕ) (name : List ℕ) (seen old : SessionState T) → seen ≡ old → (sketch : Sketch T) × (at_name name seen.sketches ≡ Some sketch) → Did (Load name kind bytes most) old (Refused NameTaken) old
   loads_taken kind bytes most name seen old same (sketch, taken) =
-      by_parts_alone (Load name kind bytes most) seen old (Refused NameTaken) same (rw taken (record { sketches = λ _. refl; images = λ _. refl }, refl))
+      by_parts_alone (Load name kind bytes most) seen old (Refused NameTaken) same (rw taken (record { sketches = λ _. refl; images = λ _. refl; key = refl }, refl))
 
-  loaded : (kind : ImageKind) (bytes : List ℕ) (most : ℕ) (made : Result (Sketch T) ErrorValue) → IfOk made (IsReadFrom codec content kind bytes) → IfOk made (GivesBack eq codec content kind bytes) → IfOk made (TakesWithin slot codec content most) → (IsOk made → load_fault slot codec most kind bytes ≡ None) → IfOk made (IsLoaded slot eq codec content kind bytes most)
-  loaded kind bytes most (Ok sketch) read back within accepted = record { read = read; stands = back; within = within; accepted = accepted refl }
-  loaded kind bytes most (Err error) read back within accepted = tt
+  loaded : (key : TableKey) (kind : ImageKind) (bytes : List ℕ) (most : ℕ) (made : Result (Sketch T) ErrorValue) → IfOk made (IsReadFrom codec content kind bytes) → IfOk made (GivesBack eq codec content kind bytes) → IfOk made (IsUnder key) → IfOk made (TakesWithin slot codec content most) → (IsOk made → load_fault slot codec most kind bytes ≡ None) → IfOk made (IsLoaded slot eq codec content key kind bytes most)
+  loaded key kind bytes most (Ok sketch) read back keyed within accepted = record { read = read; stands = back; keyed = keyed; within = within; accepted = accepted refl }
+  loaded key kind bytes most (Err error) read back keyed within accepted = tt
 
   pub loads : (kind : ImageKind) (bytes : List ℕ) (most : ℕ) (name : List ℕ) (seen old new : SessionState T) (made : Result (Sketch T) ErrorValue) (result : Result ⊤ Refusal) → seen ≡ old → at_name name seen.sketches ≡ None →
-      IfOk made (IsReadFrom codec content kind bytes) → IfOk made (GivesBack eq codec content kind bytes) → IfOk made (TakesWithin slot codec content most) → (IsOk made → load_fault slot codec most kind bytes ≡ None) → IfErr made (IsLoadRefusal slot codec most kind bytes) →
-      Keeps name made seen.sketches result new.sketches → AreSame seen.images new.images → Did (Load name kind bytes most) old (done_or result) new
-  loads kind bytes most name seen old new made result same none read back within accepted why keeps images = by_parts (Load name kind bytes most) seen old new (done_or result) same (rw none (record {
-    images = images;
-    outcome = stored (IsLoaded slot eq codec content kind bytes most) (IsLoadRefusal slot codec most kind bytes) name seen.sketches new.sketches made result (loaded kind bytes most made read back within accepted) (λ sketch good. load_first slot codec content most kind bytes sketch good.read good.accepted) why keeps;
+      IfOk made (IsReadFrom codec content kind bytes) → IfOk made (GivesBack eq codec content kind bytes) → IfOk made (IsUnder seen.key) → IfOk made (TakesWithin slot codec content most) → (IsOk made → load_fault slot codec most kind bytes ≡ None) → IfErr made (IsLoadRefusal slot codec most kind bytes) →
+      Keeps name made seen.sketches result new.sketches → KeepsImages seen new → Did (Load name kind bytes most) old (done_or result) new
+  loads kind bytes most name seen old new made result same none read back keyed within accepted why keeps rest = by_parts (Load name kind bytes most) seen old new (done_or result) same (rw none (record {
+    rest = rest;
+    outcome = stored (IsLoaded slot eq codec content seen.key kind bytes most) (IsLoadRefusal slot codec most kind bytes) name seen.sketches new.sketches made result (loaded seen.key kind bytes most made read back keyed within accepted) (λ sketch good. load_first slot codec content most kind bytes sketch good.read good.accepted) why keeps;
   }))

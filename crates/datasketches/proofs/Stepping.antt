@@ -5,7 +5,8 @@ use Rattle.std.proofs.lemmas.List.{length-append}
 use Rattle.sketch_frequencies.specs.Items.{Codec}
 use Rattle.datasketches.specs.Actions.{action_of, Action, Action as action}
 use Rattle.datasketches.specs.SessionStandsFor.{SessionStandsFor}
-use Rattle.datasketches.specs.Histories.{History, Assignment, after_action, after_action_told, after_one, after_one_told, after, after_told}
+use Rattle.datasketches.specs.Hashing.{HasOneKey}
+use Rattle.datasketches.specs.Histories.{History, Assignment, stated_shape, stranger_of, after_action, after_action_told, after_one, after_one_told, after, after_told}
 use Rattle.datasketches.specs.Histories.History.{OfStranger}
 use Rattle.datasketches.specs.Images.{IsImageOf}
 use Rattle.datasketches.specs.Loading.{IsActionTold, IsTold, AreTold}
@@ -19,16 +20,17 @@ use Rattle.datasketches.specs.declared.image_kind.ImageKind.{ImageKind}
 use Rattle.datasketches.specs.declared.image_kind.ImageKind.TheVariants as kind
 use Rattle.datasketches.specs.declared.reply.Reply.{Reply}
 use Rattle.datasketches.proofs.Fitting.{Outcome, outcome_of, unchanged_fits}
+use Rattle.datasketches.proofs.Hashing.{key_kept, one_key_kept}
 
 module _ {T C : Type 0} (eq : T → T → Bool) (codec : Codec C) (content : T → C) where
-  -- a stranger may have written any image
-  pub of_stranger : (kind : ImageKind) (bytes : List ℕ) → IsImageOf eq codec content kind bytes OfStranger
-  of_stranger kind.Frequent bytes = tt
+  -- any image states a shape
+  of_stranger : (kind : ImageKind) (bytes : List ℕ) → IsImageOf eq codec content kind bytes (OfStranger (stated_shape kind bytes))
+  of_stranger kind.Frequent bytes = inr refl
   of_stranger (kind.CountI64 seed) bytes = tt
   of_stranger (kind.CountU64 seed) bytes = tt
-  of_stranger kind.Bloom bytes = tt
+  of_stranger kind.Bloom bytes = inr refl
 
-  pub stranger_told : (action : Action T) → IsActionTold eq codec content action OfStranger
+  pub stranger_told : (action : Action T) → IsActionTold eq codec content action (stranger_of action)
   stranger_told (action.Load name kind bytes max_bytes) = of_stranger kind bytes
   stranger_told _ = tt
 
@@ -48,7 +50,7 @@ module _ {T C : Type 0} (slot : ℕ) (eq : T → T → Bool) (input : T → List
   action_fits_told action loaded reply old new a fits told step = fits_by action loaded reply old new a fits told (outcome_of slot eq input codec content action reply old new step)
 
   pub action_fits : (action : Action T) (reply : Reply T) (old new : SessionState T) (a : Assignment T) → SessionStandsFor eq codec content old a → Performs slot eq input codec content old action reply new → SessionStandsFor eq codec content new (after_action input a action reply)
-  action_fits action reply old new a fits step = action_fits_told action OfStranger reply old new a fits (stranger_told eq codec content action) step
+  action_fits action reply old new a fits step = action_fits_told action (stranger_of action) reply old new a fits (stranger_told eq codec content action) step
 
   -- an action that was refused changed nothing
   same_by : (action : Action T) (reply : Reply T) (old new : SessionState T) → is_refused reply ≡ true → Outcome slot eq input codec content action reply old new → IsUnchanged old new
@@ -64,6 +66,8 @@ module _ {T C : Type 0} (slot : ℕ) (eq : T → T → Bool) (input : T → List
     step = step;
     fits = λ a fits. action_fits action reply old new a fits step;
     told = λ a loaded fits told. action_fits_told action loaded reply old new a fits told step;
+    key = key_kept slot eq input codec content action reply old new step;
+    keyed = one_key_kept slot eq input codec content action reply old new step;
     refused = λ r. action_same action reply old new r step;
   }
 
@@ -80,7 +84,7 @@ module _ {T C : Type 0} (slot : ℕ) (eq : T → T → Bool) (input : T → List
   run_fits_told [] loaded (reply ∷ replies) old new a fits told run = absurd run
   run_fits_told (command ∷ commands) loaded [] old new a fits told run = absurd run
   run_fits_told (command ∷ commands) [] (reply ∷ replies) old new a fits told run =
-      run_fits_told commands [] replies run.0 new (after_one_told input a command OfStranger reply) (step_fits command reply old run.0 a fits run.1) (nothing_told eq codec content commands) run.2
+      run_fits_told commands [] replies run.0 new (after_one_told input a command (stranger_of (action_of command)) reply) (step_fits command reply old run.0 a fits run.1) (nothing_told eq codec content commands) run.2
   run_fits_told (command ∷ commands) (history ∷ loaded) (reply ∷ replies) old new a fits told run =
       run_fits_told commands loaded replies run.0 new (after_one_told input a command history reply) (step_fits_told command history reply old run.0 a fits told.0 run.1) told.1 run.2
 
@@ -93,6 +97,20 @@ module _ {T C : Type 0} (slot : ℕ) (eq : T → T → Bool) (input : T → List
   pub run_fits : (commands : List (Command T)) (replies : List (Reply T)) (old new : SessionState T) (a : Assignment T) → SessionStandsFor eq codec content old a → Run slot eq input codec content old commands replies new → SessionStandsFor eq codec content new (after input a commands replies)
   run_fits commands replies old new a fits run =
       subst (λ (b : Assignment T). SessionStandsFor eq codec content new b) (untold commands replies a) (run_fits_told commands [] replies old new a fits (nothing_told eq codec content commands) run)
+
+  pub run_keeps_key : (commands : List (Command T)) (replies : List (Reply T)) (old new : SessionState T) → Run slot eq input codec content old commands replies new → new.key ≡ old.key
+  run_keeps_key [] [] old new run = ap (λ (s : SessionState T). s.key) run
+  run_keeps_key [] (reply ∷ replies) old new run = absurd run
+  run_keeps_key (command ∷ commands) [] old new run = absurd run
+  run_keeps_key (command ∷ commands) (reply ∷ replies) old new run =
+      run_keeps_key commands replies run.0 new run.2 ∙ key_kept slot eq input codec content (action_of command) reply old run.0 run.1
+
+  pub run_has_one_key : (commands : List (Command T)) (replies : List (Reply T)) (old new : SessionState T) → Run slot eq input codec content old commands replies new → HasOneKey old → HasOneKey new
+  run_has_one_key [] [] old new run one = subst (λ (s : SessionState T). HasOneKey s) (sym run) one
+  run_has_one_key [] (reply ∷ replies) old new run one = absurd run
+  run_has_one_key (command ∷ commands) [] old new run one = absurd run
+  run_has_one_key (command ∷ commands) (reply ∷ replies) old new run one =
+      run_has_one_key commands replies run.0 new run.2 (one_key_kept slot eq input codec content (action_of command) reply old run.0 run.1 one)
 
   -- ---- the loop of a run
 

@@ -3,13 +3,14 @@ use Rattle.std.specs.Prelude.{◌≡◌, ℕ, Bool, true, List, [], Option, Some
 use Rattle.std.specs.List.{Contains}
 use Rattle.std.specs.Global.{Global}
 use Rattle.std.specs.declared.vec.Vec.{Vec}
+use Rattle.counter_table.specs.declared.table_key.TableKey.{TableKey}
 use Rattle.sketch_bloom.specs.History.{BloomHistory}
 use Rattle.sketch_bloom.specs.Parts.{parts_of}
 use Rattle.sketch_bloom.specs.State.{FilterState, IsCompatible, contains_item}
 use Rattle.sketch_countmin.specs.History as count
 use Rattle.sketch_frequencies.specs.Items.{Codec}
-use Rattle.datasketches.specs.Actions.{Action}
-use Rattle.datasketches.specs.Histories.{History, Assignment, nothing_named, after_action, after_action_told}
+use Rattle.datasketches.specs.Actions.{Action, Shape, Shape as shape}
+use Rattle.datasketches.specs.Histories.{History, Assignment, nothing_named, stranger_of, after_action, after_action_told}
 use Rattle.datasketches.specs.Histories.History.{OfFrequent, OfCountI64, OfCountU64, OfBloom, OfStranger}
 use Rattle.datasketches.specs.Laws.{IsNamed}
 use Rattle.datasketches.specs.SessionStandsFor.{SessionStandsFor}
@@ -27,28 +28,31 @@ use Rattle.datasketches.specs.declared.sketch.Sketch.TheVariants.{Bloom}
 -- ---- from one session to another
 
 module _ {T : Type 0} where
-  -- the kind is that of an image of a sketch with this history, and has the sketch's seed. Any kind fits an untrusted image
+  -- the kind is that of an image of a sketch with this history, and has the sketch's seed. Any seed fits an untrusted image
   abbrev pub IsKindOf : ImageKind → History T → Type 0
   IsKindOf kind.Frequent (OfFrequent h) = Unit {0}
   IsKindOf (kind.CountI64 seed) (OfCountI64 h) = seed ≡ count.seed_of h
   IsKindOf (kind.CountU64 seed) (OfCountU64 h) = seed ≡ count.seed_of h
   IsKindOf kind.Bloom (OfBloom h) = Unit {0}
-  IsKindOf kind OfStranger = Unit {0}
+  IsKindOf kind.Frequent (OfStranger (shape.Frequent sizes)) = Unit {0}
+  IsKindOf (kind.CountI64 seed) (OfStranger (shape.CountI64 sizes)) = Unit {0}
+  IsKindOf (kind.CountU64 seed) (OfStranger (shape.CountU64 sizes)) = Unit {0}
+  IsKindOf kind.Bloom (OfStranger (shape.Bloom request)) = Unit {0}
   IsKindOf _ _ = ⊥
 
-  -- the session without names
-  abbrev pub empty_session : SessionState T
-  empty_session = record { sketches = []; images = [] }
+  -- the session without names under this key
+  abbrev pub empty_session : TableKey → SessionState T
+  empty_session key = record { sketches = []; images = []; key = key }
 
-  -- the history that an image was saved with, or that of an untrusted image if there is none
-  abbrev pub or_stranger : Option (History T) → History T
-  or_stranger None = OfStranger
-  or_stranger (Some h) = h
+  -- the history that an image was saved with. If there is none, it is that of what the action loads, as an untrusted image
+  abbrev pub or_stranger : Action T → Option (History T) → History T
+  or_stranger action None = stranger_of action
+  or_stranger action (Some h) = h
 
--- how a session came about, among others. It began with no names, performed an action, or loaded an image that another session
+-- how a session came about, among others. It began with no names and some key, performed an action, or loaded an image that another session
 -- returned
 pub data Process (T : Type 0) : Type 0 where
-  Began : Process T
+  Began : TableKey → Process T
   Did : Process T → Action T → Reply T → SessionState T → Process T
   Took : Process T → (from : Process T) → (image : List ℕ) → (shown : Vec ℕ Global) → Action T → Reply T → SessionState T
       → Process T
@@ -56,7 +60,7 @@ pub data Process (T : Type 0) : Type 0 where
 module _ {T : Type 0} where
   -- the session at the end of the process
   abbrev pub session_of : Process T → SessionState T
-  session_of Began = empty_session
+  session_of (Began key) = empty_session key
   session_of (Did p action reply now) = now
   session_of (Took p from image shown action reply now) = now
 
@@ -68,10 +72,10 @@ module _ {T : Type 0} where
 module _ {T : Type 0} (input : T → List (List ℕ)) where
   -- the histories of the session's names. An image that it loaded has the history with which the other session saved it
   abbrev pub histories_of : Process T → Assignment T
-  histories_of Began = nothing_named
+  histories_of (Began key) = nothing_named
   histories_of (Did p action reply now) = after_action input (histories_of p) action reply
   histories_of (Took p from image shown action reply now) =
-      after_action_told input (histories_of p) action (or_stranger ((histories_of from).images image)) reply
+      after_action_told input (histories_of p) action (or_stranger action ((histories_of from).images image)) reply
 
 module _ {T C : Type 0} (slot : ℕ) (eq : T → T → Bool) (input : T → List (List ℕ)) (codec : Codec C) (content : T → C) where
   -- the session returns these bytes for the image
@@ -81,11 +85,11 @@ module _ {T C : Type 0} (slot : ℕ) (eq : T → T → Bool) (input : T → List
 
   -- each action was performed with its reply, and each loaded image is what the other session returned
   abbrev pub IsProcess : Process T → Type 0
-  IsProcess Began = Unit {0}
+  IsProcess (Began key) = Unit {0}
   IsProcess (Did p action reply now) = IsProcess p × Performs slot eq input codec content (session_of p) action reply now
   IsProcess (Took p from image shown action reply now) =
       IsProcess p × IsProcess from × Shows (session_of from) image shown
-      × LoadsShown shown (or_stranger ((histories_of input from).images image)) action
+      × LoadsShown shown (or_stranger action ((histories_of input from).images image)) action
       × Performs slot eq input codec content (session_of p) action reply now
 
   -- the law of two sessions. If one returns the bytes of an image and another loads them, the other stands for the image's
@@ -114,4 +118,5 @@ module _ {T C : Type 0} (eq : T → T → Bool) (codec : Codec C) (content : T �
 
   -- a sketch that was loaded from an untrusted image is valid, so its counts and error are at most its total
   abbrev pub StrangersAreSketches : Type 0
-  StrangersAreSketches = (sketch : Sketch T) → IsNamed eq codec content sketch OfStranger → IsSketch eq sketch
+  StrangersAreSketches = (sketch : Sketch T) (known : Shape)
+      → IsNamed eq codec content sketch (OfStranger known) → IsSketch eq sketch

@@ -1,30 +1,40 @@
 -- Histories of sketches of every kind, and how each accepted command extends the history of a name.
-use Rattle.std.specs.Prelude.{ℕ, ◌==◌, List, [], ◌∷◌, Option, Some, None, option_map, bytes_eq, if◌then◌else◌, pos, unsigned_abs}
+use Rattle.std.specs.Prelude.{ℕ, ◌*◌, ◌==◌, List, [], ◌∷◌, Option, Some, None, option_map, bytes_eq, if◌then◌else◌, pos, unsigned_abs}
 use Rattle.sketch_base.specs.Hashes.{fed_bytes}
 use Rattle.sketch_bloom.specs.Building.{words_for}
 use Rattle.sketch_bloom.specs.History as bloom
+use Rattle.sketch_bloom.specs.Image as bloom_image
 use Rattle.sketch_bloom.specs.History.{BloomHistory}
 use Rattle.sketch_countmin.specs.History as count
+use Rattle.sketch_countmin.specs.Image as count_image
 use Rattle.sketch_countmin.specs.History.{CountHistory}
 use Rattle.sketch_frequencies.specs.History as frequent
+use Rattle.sketch_frequencies.specs.Image as frequent_image
 use Rattle.sketch_frequencies.specs.History.{FrequentHistory}
-use Rattle.datasketches.specs.Actions.{action_of, Action, Action as action, Change, Change as change, Join, Join as join, Shape, Shape as shape}
+use Rattle.datasketches.specs.Actions.{action_of, Action, Action as action, Change, Change as change, Join, Join as join, Shape, Shape as shape, usual_sizes}
 use Rattle.datasketches.specs.Replies.{is_refused}
 use Rattle.datasketches.specs.declared.command.Command.{Command}
+use Rattle.datasketches.specs.declared.image_kind.ImageKind.{ImageKind}
+use Rattle.datasketches.specs.declared.image_kind.ImageKind.TheVariants as kind
 use Rattle.datasketches.specs.declared.reply.Reply.{Reply}
 
--- the history of a sketch of one kind, or of an untrusted image, of which nothing is known
+-- the history of a sketch of one kind. Of a sketch from an untrusted image only the shape is known
 pub data History (T : Type 0) : Type 0 where
   OfFrequent : FrequentHistory T → History T
   OfCountI64 : CountHistory → History T
   OfCountU64 : CountHistory → History T
   OfBloom : BloomHistory → History T
-  OfStranger : History T
+  OfStranger : Shape → History T
 
 -- a kind and a history for each name of a sketch and each name of an image
 pub record Assignment (T : Type 0) : Type 0 where
   pub sketches : List ℕ → Option (History T)
   pub images : List ℕ → Option (History T)
+
+-- the shape of a sketch that was restored from an image of a sketch of this shape: an image does not keep the sample size
+abbrev pub restored_shape : Shape → Shape
+restored_shape (shape.Frequent sizes) = shape.Frequent (usual_sizes sizes.max_map_size)
+restored_shape known = known
 
 -- f of both histories if both exist, otherwise the first
 abbrev pub of_both : {X : Type 0} → (X → X → X) → Option X → Option X → Option X
@@ -48,13 +58,25 @@ module _ {T : Type 0} where
   begun (shape.CountU64 sizes) = OfCountU64 (count.New sizes.num_hashes sizes.num_buckets sizes.seed)
   begun (shape.Bloom request) = OfBloom (bloom.New (words_for request.num_bits) request.num_hashes request.seed)
 
+  -- the shape of a sketch with this history
+  abbrev pub shape_of : History T → Shape
+  shape_of (OfFrequent h) =
+      shape.Frequent (record { max_map_size = frequent.own_size h; sample_size = frequent.own_sample h })
+  shape_of (OfCountI64 h) =
+      shape.CountI64 (record { num_hashes = count.hashes_of h; num_buckets = count.buckets_of h; seed = count.seed_of h })
+  shape_of (OfCountU64 h) =
+      shape.CountU64 (record { num_hashes = count.hashes_of h; num_buckets = count.buckets_of h; seed = count.seed_of h })
+  shape_of (OfBloom h) =
+      shape.Bloom (record { num_bits = 64 * bloom.words_of h; num_hashes = bloom.hashes_of h; seed = bloom.seed_of h })
+  shape_of (OfStranger known) = known
+
   -- the history of a sketch that was restored from an image of this history
   abbrev pub restored : History T → History T
   restored (OfFrequent h) = OfFrequent (frequent.Restored h)
   restored (OfCountI64 h) = OfCountI64 (count.Restored h)
   restored (OfCountU64 h) = OfCountU64 (count.Restored h)
   restored (OfBloom h) = OfBloom (bloom.Restored h)
-  restored OfStranger = OfStranger
+  restored (OfStranger known) = OfStranger (restored_shape known)
 
   -- the history of the first sketch after the second was combined into it. If one is untrusted, the result is untrusted
   abbrev pub joined : Join → History T → History T → History T
@@ -64,12 +86,32 @@ module _ {T : Type 0} where
   joined join.Union (OfBloom g) (OfBloom h) = OfBloom (bloom.Union g h)
   joined join.Intersect (OfBloom g) (OfBloom h) = OfBloom (bloom.Intersection g h)
   joined join.Difference (OfBloom g) (OfBloom h) = OfBloom (bloom.Difference g h)
-  joined _ _ OfStranger = OfStranger
+  joined _ own (OfStranger other) = OfStranger (shape_of own)
   joined _ history _ = history
+
+-- the shape that an image of the kind states
+abbrev pub stated_shape : ImageKind → List ℕ → Shape
+stated_shape kind.Frequent bytes = shape.Frequent (usual_sizes (frequent_image.max_size_at bytes))
+stated_shape (kind.CountI64 seed) bytes =
+    shape.CountI64 (record { num_hashes = count_image.hashes_at bytes; num_buckets = count_image.buckets_at bytes; seed = seed })
+stated_shape (kind.CountU64 seed) bytes =
+    shape.CountU64 (record { num_hashes = count_image.hashes_at bytes; num_buckets = count_image.buckets_at bytes; seed = seed })
+stated_shape kind.Bloom bytes = shape.Bloom (record {
+  num_bits = 64 * bloom_image.num_words_at bytes;
+  num_hashes = bloom_image.num_hashes_at bytes;
+  seed = bloom_image.seed_at bytes;
+})
+
+-- the history of the bytes that the action loads, if they are untrusted. An action that loads none has no such history, and a
+-- shape stands for it
+abbrev pub stranger_of : {T : Type 0} → Action T → History T
+stranger_of (action.Load name kind bytes max_bytes) = OfStranger (stated_shape kind bytes)
+stranger_of _ = OfStranger (shape.Frequent (usual_sizes 0))
 
 -- `input` is what an item feeds to a hasher
 module _ {T : Type 0} (input : T → List (List ℕ)) where
-  -- the history of a sketch after a change. A weight of 0 changes nothing
+  -- the history of a sketch after a change. A weight of 0 changes nothing. After a reset the history is known: if it was not
+  -- before, it is that of a new sketch
   abbrev pub changed : Change T → History T → History T
   changed (change.Add item weight) (OfFrequent h) = OfFrequent (if weight == 0 then h else frequent.Update h item weight)
   changed (change.Add item weight) (OfCountU64 h) =
@@ -79,6 +121,7 @@ module _ {T : Type 0} (input : T → List (List ℕ)) where
   changed (change.Insert item) (OfBloom h) = OfBloom (bloom.Insert h (fed_bytes input item))
   changed change.Reset (OfFrequent h) = OfFrequent (frequent.Reset h)
   changed change.Reset (OfBloom h) = OfBloom (bloom.Reset h)
+  changed change.Reset (OfStranger known) = begun known
   changed change.Halve (OfCountU64 h) = OfCountU64 (count.Halve h)
   changed (change.Decay numerator denominator) (OfCountU64 h) = OfCountU64 (count.Decay h numerator denominator)
   changed _ history = history
@@ -126,20 +169,20 @@ module _ {T : Type 0} (input : T → List (List ℕ)) where
   after_told a [] loaded replies = a
   after_told a (command ∷ commands) loaded [] = a
   after_told a (command ∷ commands) [] (reply ∷ replies) =
-      after_told (after_one_told a command OfStranger reply) commands [] replies
+      after_told (after_one_told a command (stranger_of (action_of command)) reply) commands [] replies
   after_told a (command ∷ commands) (history ∷ loaded) (reply ∷ replies) =
       after_told (after_one_told a command history reply) commands loaded replies
 
   -- ---- the same if nothing is known of the bytes that are loaded: they are untrusted
 
   abbrev pub accepted : Assignment T → Action T → Assignment T
-  accepted a action = accepted_told a action OfStranger
+  accepted a action = accepted_told a action (stranger_of action)
 
   abbrev pub after_action : Assignment T → Action T → Reply T → Assignment T
-  after_action a action reply = after_action_told a action OfStranger reply
+  after_action a action reply = after_action_told a action (stranger_of action) reply
 
   abbrev pub after_one : Assignment T → Command T → Reply T → Assignment T
-  after_one a command reply = after_one_told a command OfStranger reply
+  after_one a command reply = after_one_told a command (stranger_of (action_of command)) reply
 
   abbrev pub after : Assignment T → List (Command T) → List (Reply T) → Assignment T
   after a [] replies = a

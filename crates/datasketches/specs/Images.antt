@@ -1,5 +1,5 @@
 -- Images of sketches: how they are written and read, and for which histories they stand.
-use Rattle.std.specs.Prelude.{◌≡◌, ◌≤◌, ℕ, ◌*◌, nat_lt, ℤ, Bool, List, Option, Some, None, if◌then◌else◌}
+use Rattle.std.specs.Prelude.{◌≡◌, ◌⊎◌, ◌≤◌, ℕ, ◌*◌, nat_lt, ℤ, Bool, List, Option, Some, None, if◌then◌else◌}
 use Rattle.counter_table.specs.Bytes.{slots_bytes}
 use Rattle.sketch_base.specs.Checks.{IsImageRefusal, or_else}
 use Rattle.sketch_base.specs.Errors.{ErrorValue, no_memory}
@@ -20,10 +20,11 @@ use Rattle.sketch_frequencies.specs.Items.{Codec, max_owned}
 use Rattle.sketch_frequencies.specs.Memory.{memory_bytes, owned_by}
 use Rattle.sketch_frequencies.specs.Stands as frequent_stands
 use Rattle.sketch_frequencies.specs.State.{FrequentState, max_sample_size}
-use Rattle.datasketches.specs.Histories.{History, restored}
+use Rattle.datasketches.specs.Actions.{Shape, Shape as shape}
+use Rattle.datasketches.specs.Histories.{History, restored, stated_shape}
 use Rattle.datasketches.specs.Histories.History.{OfFrequent, OfCountI64, OfCountU64, OfBloom, OfStranger}
 use Rattle.datasketches.specs.Replies.{min_signed, max_signed, min_unsigned, max_unsigned}
-use Rattle.datasketches.specs.Stands.{StandsFor}
+use Rattle.datasketches.specs.Stands.{StandsFor, HasShape}
 use Rattle.datasketches.specs.declared.image_kind.ImageKind.{ImageKind}
 use Rattle.datasketches.specs.declared.image_kind.ImageKind.TheVariants as kind
 use Rattle.datasketches.specs.declared.sketch.Sketch.{Sketch}
@@ -129,6 +130,22 @@ pub record IsCountImage (least : ℤ) (greatest seed : ℕ) (bytes : List ℕ) (
   pub spelled : count.IsSpelled least greatest bytes sketch
   pub stands : count_stands.StandsFor sketch h
 
+module _ {T C : Type 0} (codec : Codec C) (content : T → C) where
+  -- a sketch of this shape has written the image, or the image states the shape
+  abbrev pub IsWrittenOrStated : {State : Type 0} → (State → Sketch T) → ImageKind → List ℕ → Shape → Type 0
+  IsWrittenOrStated {State} of_state kind bytes known =
+      ((s : State) × IsWrittenBy codec content (of_state s) kind bytes × HasShape (of_state s) known)
+      ⊎ (known ≡ stated_shape kind bytes)
+
+  -- the shape is of the image's kind. If that has a reset, a sketch of this shape has written the image, or the image states it
+  abbrev pub IsImageOfShape : ImageKind → List ℕ → Shape → Type 0
+  IsImageOfShape kind.Frequent bytes (shape.Frequent sizes) =
+      IsWrittenOrStated Frequent kind.Frequent bytes (shape.Frequent sizes)
+  IsImageOfShape (kind.CountI64 seed) bytes (shape.CountI64 sizes) = Unit {0}
+  IsImageOfShape (kind.CountU64 seed) bytes (shape.CountU64 sizes) = Unit {0}
+  IsImageOfShape kind.Bloom bytes (shape.Bloom request) = IsWrittenOrStated Bloom kind.Bloom bytes (shape.Bloom request)
+  IsImageOfShape _ _ _ = ⊥
+
 module _ {T C : Type 0} (eq : T → T → Bool) (codec : Codec C) (content : T → C) where
   -- the bytes were written by a frequent items sketch that encloses the history and keeps its tail budget, whatever its sample
   -- size
@@ -138,7 +155,7 @@ module _ {T C : Type 0} (eq : T → T → Bool) (codec : Codec C) (content : T �
     pub encloses : frequent_stands.Encloses eq sketch h
     pub budget : frequent_stands.KeepsTailBudget eq sketch h
 
-  -- the image was written by a sketch that stands for the history. Of an untrusted image nothing is known
+  -- the image was written by a sketch that stands for the history. Of an untrusted image only the shape is known
   abbrev pub IsImageOf : ImageKind → List ℕ → History T → Type 0
   IsImageOf kind.Frequent bytes (OfFrequent h) = IsFrequentImage bytes h
   IsImageOf (kind.CountI64 seed) bytes (OfCountI64 h) =
@@ -146,7 +163,7 @@ module _ {T C : Type 0} (eq : T → T → Bool) (codec : Codec C) (content : T �
   IsImageOf (kind.CountU64 seed) bytes (OfCountU64 h) =
       IsCountImage min_unsigned max_unsigned seed bytes h
   IsImageOf kind.Bloom bytes (OfBloom h) = IsFilterImage bytes h
-  IsImageOf _ _ OfStranger = Unit {0}
+  IsImageOf kind bytes (OfStranger known) = IsImageOfShape codec content kind bytes known
   IsImageOf _ _ _ = ⊥
 
   abbrev pub IsSavedOf : Image → History T → Type 0

@@ -12,6 +12,7 @@ pub mod Answering
 pub mod Images
 pub mod Loading
 pub mod State
+pub mod Hashing
 pub mod Indices
 pub mod Steps
 pub mod SessionStandsFor
@@ -21,6 +22,7 @@ pub mod Performed
 pub mod Keyed
 pub mod Running
 -- names of lower crates that upper crates use
+pub use Rattle.counter_table.specs.declared.table_key.TableKey
 pub use Rattle.sketch_base.specs.Faults
 pub use Rattle.sketch_frequencies.specs.RowValue
 pub use Rattle.sketch_bloom.specs.Building

@@ -2,6 +2,7 @@
 use Rattle.std.specs.Prelude.{◌≡◌, ℕ, Bool, true, List}
 use Rattle.sketch_frequencies.specs.Items.{Codec}
 use Rattle.datasketches.specs.Actions.{Action}
+use Rattle.datasketches.specs.Hashing.{HasOneKey}
 use Rattle.datasketches.specs.Histories.{History, Assignment, after_action, after_action_told}
 use Rattle.datasketches.specs.Loading.{IsActionTold}
 use Rattle.datasketches.specs.Replies.{is_refused}
@@ -22,5 +23,8 @@ pub record Performed {T C : Type 0} (slot : ℕ) (eq : T → T → Bool) (input 
   pub told : (a : Assignment T) (loaded : History T) → SessionStandsFor eq codec content old a
       → IsActionTold eq codec content action loaded
       → SessionStandsFor eq codec content new (after_action_told input a action loaded reply)
+  -- the session keeps its key, and its sketches have it if they had it before
+  pub key : new.key ≡ old.key
+  pub keyed : HasOneKey old → HasOneKey new
   -- a rejected action changed nothing
   pub refused : is_refused reply ≡ true → IsUnchanged old new

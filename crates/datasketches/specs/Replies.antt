@@ -46,16 +46,17 @@ module _ {T : Type 0} where
   is_refused (Refused refusal) = true
   is_refused _ = false
 
-  -- the bounds, or the answer of a filter, that a call returned. Another reply is that of the wrong kind of sketch
-  abbrev pub bounds_in : Result (Reply T) Refusal → Result Bounds Refusal
-  bounds_in (Ok (reply.Bounds estimate lower upper)) = Ok (record { estimate = estimate; lower = lower; upper = upper })
-  bounds_in (Ok _) = Err WrongKind
-  bounds_in (Err refusal) = Err refusal
+  -- the bounds, or the answer of a filter, that a reply has. A rejection keeps its reason. Another reply is that of the wrong kind
+  -- of sketch
+  abbrev pub bounds_in : Reply T → Result Bounds Refusal
+  bounds_in (reply.Bounds estimate lower upper) = Ok (record { estimate = estimate; lower = lower; upper = upper })
+  bounds_in (Refused refusal) = Err refusal
+  bounds_in _ = Err WrongKind
 
-  abbrev pub contains_in : Result (Reply T) Refusal → Result Bool Refusal
-  contains_in (Ok (reply.Contains found)) = Ok found
-  contains_in (Ok _) = Err WrongKind
-  contains_in (Err refusal) = Err refusal
+  abbrev pub contains_in : Reply T → Result Bool Refusal
+  contains_in (reply.Contains found) = Ok found
+  contains_in (Refused refusal) = Err refusal
+  contains_in _ = Err WrongKind
 
   -- the sketch is of a kind without this command, and is unchanged
   abbrev pub IsWrongKind : Sketch T → Reply T → Sketch T → Type 0

@@ -1,5 +1,6 @@
 -- When a sketch stands for a history, and how a command preserves that.
 use Rattle.std.specs.Prelude.{◌≡◌, ◌≤◌, ℕ, Bool, true, false, length}
+use Rattle.sketch_bloom.specs.Building.{words_for}
 use Rattle.sketch_bloom.specs.History.{BloomHistory}
 use Rattle.sketch_bloom.specs.Stands as bloom
 use Rattle.sketch_bloom.specs.State.{FilterState, IsFilterState}
@@ -9,12 +10,23 @@ use Rattle.sketch_countmin.specs.State.{CountState, IsCountState}
 use Rattle.sketch_frequencies.specs.History.{FrequentHistory, own_size}
 use Rattle.sketch_frequencies.specs.Stands as frequent
 use Rattle.sketch_frequencies.specs.State.{FrequentState, IsState, capacity}
+use Rattle.datasketches.specs.Actions.{Shape, Shape as shape}
 use Rattle.datasketches.specs.Histories.{History}
 use Rattle.datasketches.specs.Histories.History.{OfFrequent, OfCountI64, OfCountU64, OfBloom, OfStranger}
 use Rattle.datasketches.specs.Replies.{is_refused, max_signed, max_unsigned}
 use Rattle.datasketches.specs.declared.reply.Reply.{Reply}
 use Rattle.datasketches.specs.declared.sketch.Sketch.{Sketch}
 use Rattle.datasketches.specs.declared.sketch.Sketch.TheVariants.{Frequent, CountI64, CountU64, Bloom}
+
+-- a reset leaves the empty sketch of this shape. Of a Count-Min sketch, which has no reset, only the kind is stated
+abbrev pub HasShape : {T : Type 0} → Sketch T → Shape → Type 0
+HasShape (Frequent s) (shape.Frequent sizes) =
+    (s.max_size ≡ sizes.max_map_size) × (s.sample_size ≡ sizes.sample_size)
+HasShape (CountI64 s) (shape.CountI64 sizes) = Unit {0}
+HasShape (CountU64 s) (shape.CountU64 sizes) = Unit {0}
+HasShape (Bloom s) (shape.Bloom request) =
+    (s.num_words ≡ words_for request.num_bits) × (s.num_hashes ≡ request.num_hashes) × (s.seed ≡ request.seed)
+HasShape _ _ = ⊥
 
 -- the Count-Min sketch is valid and stands for this history. `greatest` is the maximum of the weight type
 pub record KeepsCounts (greatest : ℕ) (s : CountState) (h : CountHistory) : Type 0 where
@@ -42,13 +54,13 @@ module _ {T : Type 0} (eq : T → T → Bool) where
   IsSketch (CountU64 s) = IsCountState max_unsigned s
   IsSketch (Bloom s) = IsFilterState s
 
-  -- the sketch is valid and stands for this history. A sketch from an untrusted image is only known to be valid
+  -- the sketch is valid and stands for this history. A sketch from an untrusted image is only known to be valid, and has a shape
   abbrev pub StandsFor : Sketch T → History T → Type 0
   StandsFor (Frequent s) (OfFrequent h) = KeepsPromise s h
   StandsFor (CountI64 s) (OfCountI64 h) = KeepsCounts max_signed s h
   StandsFor (CountU64 s) (OfCountU64 h) = KeepsCounts max_unsigned s h
   StandsFor (Bloom s) (OfBloom h) = KeepsPositions s h
-  StandsFor sketch OfStranger = IsSketch sketch
+  StandsFor sketch (OfStranger known) = IsSketch sketch × HasShape sketch known
   StandsFor _ _ = ⊥
 
   -- for each history that the old sketch stood for, the new one stands for the history after the command

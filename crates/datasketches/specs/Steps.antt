@@ -2,19 +2,21 @@
 use Rattle.std.specs.Prelude.{◌≡◌, ◌≢◌, ℕ, ◌⊎◌, Bool, List, [], ◌∷◌, Option, None, MatchOption}
 use Rattle.std.specs.Global.{Global}
 use Rattle.std.specs.declared.vec.Vec.{Vec}
+use Rattle.counter_table.specs.declared.table_key.TableKey.{TableKey}
 use Rattle.sketch_frequencies.specs.Items.{Codec}
 use Rattle.sketch_base.specs.Errors.{ErrorValue, no_memory, refusal_of}
 use Rattle.datasketches.specs.Actions.{action_of, Action, Action as action, Change, Join, Shape}
 use Rattle.datasketches.specs.Answering.{Tells, Lists, status_of}
 use Rattle.datasketches.specs.Changing.{Changes}
 use Rattle.datasketches.specs.Histories.{begun, changed, joined}
+use Rattle.datasketches.specs.Hashing.{IsUnder}
 use Rattle.datasketches.specs.Images.{Image, IsWriteRefusal, IsReadRefusal, IsLoadRefusal, IsWrittenBy, IsReadFrom, GivesBack, TakesWithin, load_fault}
 use Rattle.datasketches.specs.Joining.{Joins}
 use Rattle.datasketches.specs.Names.{at_name, Puts, AreSame}
 use Rattle.datasketches.specs.Replies.{refused}
 use Rattle.datasketches.specs.Shapes.{empty_sketch, fault_of}
 use Rattle.datasketches.specs.Stands.{StandsFor, Does, DoesWith}
-use Rattle.datasketches.specs.State.{SessionState, IsUnchanged}
+use Rattle.datasketches.specs.State.{SessionState, IsUnchanged, KeepsImages}
 use Rattle.datasketches.specs.declared.command.Command.{Command}
 use Rattle.datasketches.specs.declared.image_kind.ImageKind.{ImageKind}
 use Rattle.datasketches.specs.declared.reply.Refusal.TheVariants.{NoSuchName, NameTaken, SameName}
@@ -45,18 +47,18 @@ module _ {T : Type 0} where
       (λ sketch. (after : Sketch T) × DoesThis sketch reply after × Puts name after old new)
 
 module _ {T : Type 0} (eq : T → T → Bool) where
-  -- the shape has no fault, and the sketch is the empty one of the shape, which stands for a new history
-  pub record IsCreated (shape : Shape) (sketch : Sketch T) : Type 0 where
+  -- the shape has no fault, and the sketch is the empty one of the shape under the key, which stands for a new history
+  pub record IsCreated (key : TableKey) (shape : Shape) (sketch : Sketch T) : Type 0 where
     pub accepted : fault_of shape ≡ None
-    pub empty : sketch ≡ empty_sketch shape
+    pub empty : sketch ≡ empty_sketch key shape
     pub stands : StandsFor eq sketch (begun shape)
 
   -- a sketch is created if the name is free and the shape has no fault. The error is the fault, or `NoMemory` if there is none.
   -- An error changes nothing
-  abbrev pub Creates : Shape → List ℕ → List (List ℕ × Sketch T) → Reply T → List (List ℕ × Sketch T) → Type 0
-  Creates shape name old reply new =
+  abbrev pub Creates : TableKey → Shape → List ℕ → List (List ℕ × Sketch T) → Reply T → List (List ℕ × Sketch T) → Type 0
+  Creates key shape name old reply new =
       MatchOption (at_name name old)
-      (Stores (IsCreated shape) (λ e. e ≡ refusal_of (fault_of shape)) name old reply new)
+      (Stores (IsCreated key shape) (λ e. e ≡ refusal_of (fault_of shape)) name old reply new)
       (λ _. Refuses (Refused NameTaken) old reply new)
 
   -- the sketch `from` is combined into `sketch`. If both have the same name, the reply is `SameName` and nothing changes
@@ -79,11 +81,11 @@ module _ {T : Type 0} (eq : T → T → Bool) where
 -- ---- on a session
 
 module _ {T : Type 0} where
-  -- the step is done on the session's sketches, and each image is unchanged
+  -- the step is done on the session's sketches. Each image and the key are unchanged
   abbrev pub OnSketches :
       (List (List ℕ × Sketch T) → Reply T → List (List ℕ × Sketch T) → Type 0) →
       SessionState T → Reply T → SessionState T → Type 0
-  OnSketches DoesThis old reply new = DoesThis old.sketches reply new.sketches × AreSame old.images new.images
+  OnSketches DoesThis old reply new = DoesThis old.sketches reply new.sketches × KeepsImages old new
 
   -- the reply is what `Says` states of the sketch of the name, or `NoSuchName` if there is none. The session is unchanged
   abbrev pub Answers : (Sketch T → Reply T → Type 0) → List ℕ → SessionState T → Reply T → SessionState T → Type 0
@@ -114,10 +116,11 @@ module _ {T : Type 0} where
       (λ _. IsUnchanged old new × (reply ≡ Refused NameTaken)))
 
 module _ {T C : Type 0} (codec : Codec C) (content : T → C) where
-  -- the name now has an image of the sketch, or an error left all images unchanged. Sketches are unchanged
+  -- the name now has an image of the sketch, or an error left all images unchanged. Sketches and the key are unchanged
   pub record Writes (sketch : Sketch T) (name : List ℕ) (old : SessionState T) (reply : Reply T) (new : SessionState T)
       : Type 0 where
     pub sketches : AreSame old.sketches new.sketches
+    pub key : new.key ≡ old.key
     pub outcome : Stores (λ (image : Image). IsWrittenBy codec content sketch image.kind image.bytes)
         (IsWriteRefusal codec content sketch) name old.images reply new.images
 
@@ -128,16 +131,17 @@ module _ {T C : Type 0} (codec : Codec C) (content : T → C) where
       old reply new
 
 module _ {T C : Type 0} (eq : T → T → Bool) (codec : Codec C) (content : T → C) where
-  -- the sketch was read from the image and stands for what was saved
-  abbrev pub IsRestored : Image → Sketch T → Type 0
-  IsRestored image sketch =
-      IsReadFrom codec content image.kind image.bytes sketch × GivesBack eq codec content image.kind image.bytes sketch
+  -- the sketch was read from the image, stands for what was saved, and has the key
+  pub record IsRestored (key : TableKey) (image : Image) (sketch : Sketch T) : Type 0 where
+    pub read : IsReadFrom codec content image.kind image.bytes sketch
+    pub stands : GivesBack eq codec content image.kind image.bytes sketch
+    pub keyed : IsUnder key sketch
 
-  -- the name now has the restored sketch, or an error left all sketches unchanged. Images are unchanged
+  -- the name now has the restored sketch, or an error left all sketches unchanged. Images and the key are unchanged
   pub record Reads (image : Image) (name : List ℕ) (old : SessionState T) (reply : Reply T) (new : SessionState T)
       : Type 0 where
-    pub images : AreSame old.images new.images
-    pub outcome : Stores (IsRestored image) (IsReadRefusal codec image.kind image.bytes) name old.sketches reply new.sketches
+    pub rest : KeepsImages old new
+    pub outcome : Stores (IsRestored old.key image) (IsReadRefusal codec image.kind image.bytes) name old.sketches reply new.sketches
 
   -- the image of the name is restored if it exists and the sketch's name is free
   abbrev pub Restores : List ℕ → List ℕ → SessionState T → Reply T → SessionState T → Type 0
@@ -146,18 +150,20 @@ module _ {T C : Type 0} (eq : T → T → Bool) (codec : Codec C) (content : T �
       old reply new
 
 module _ {T C : Type 0} (slot : ℕ) (eq : T → T → Bool) (codec : Codec C) (content : T → C) where
-  -- the sketch was read from the image within the limit, takes no more than that, and stands for the image's histories, restored
-  pub record IsLoaded (kind : ImageKind) (bytes : List ℕ) (max_bytes : ℕ) (sketch : Sketch T) : Type 0 where
+  -- the sketch was read from the image within the limit, takes no more than that, stands for the image's histories, restored,
+  -- and has the key
+  pub record IsLoaded (key : TableKey) (kind : ImageKind) (bytes : List ℕ) (max_bytes : ℕ) (sketch : Sketch T) : Type 0 where
     pub read : IsReadFrom codec content kind bytes sketch
     pub stands : GivesBack eq codec content kind bytes sketch
+    pub keyed : IsUnder key sketch
     pub within : TakesWithin slot codec content max_bytes sketch
     pub accepted : load_fault slot codec max_bytes kind bytes ≡ None
 
-  -- the name now has the loaded sketch, or an error left all sketches unchanged. Images are unchanged
+  -- the name now has the loaded sketch, or an error left all sketches unchanged. Images and the key are unchanged
   pub record Brings (kind : ImageKind) (bytes : List ℕ) (max_bytes : ℕ) (name : List ℕ) (old : SessionState T) (reply : Reply T)
       (new : SessionState T) : Type 0 where
-    pub images : AreSame old.images new.images
-    pub outcome : Stores (IsLoaded kind bytes max_bytes) (IsLoadRefusal slot codec max_bytes kind bytes) name
+    pub rest : KeepsImages old new
+    pub outcome : Stores (IsLoaded old.key kind bytes max_bytes) (IsLoadRefusal slot codec max_bytes kind bytes) name
         old.sketches reply new.sketches
 
   -- an untrusted image is loaded if the sketch's name is free
@@ -180,7 +186,7 @@ module _ {T C : Type 0} (slot : ℕ) (eq : T → T → Bool) (input : T → List
     (content : T → C) where
   -- the effect of one action
   abbrev pub Performs : SessionState T → Action T → Reply T → SessionState T → Type 0
-  Performs old (action.Create name shape) reply new = OnSketches (Creates eq shape name) old reply new
+  Performs old (action.Create name shape) reply new = OnSketches (Creates eq old.key shape name) old reply new
   Performs old (action.Alter name change) reply new = OnSketches (ChangesNamed eq input change name) old reply new
   Performs old (action.Combine into other join) reply new = OnSketches (JoinsNamed eq join into other) old reply new
   Performs old (action.Save name image) reply new = Saves codec content name image old reply new

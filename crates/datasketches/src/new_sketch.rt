@@ -25,7 +25,7 @@ pub trait NewSketch<T: Eq + Hash + Drop> {
     ///
     /// Returns the error of the kind's own constructor.
     fn create(self, alloc: Global, key: TableKey) -> Result<Sketch<T>, Error>
-        ensures ok { IfOk result (λ sketch. sketch ≡ empty_sketch (shape self)) }
+        ensures ok { IfOk result (λ sketch. sketch ≡ empty_sketch key (shape self)) }
         ensures stands { IfOk result (λ sketch. StandsFor T.eq sketch (begun (shape self))) }
         ensures accepted { IsOk result → fault_of (shape self) ≡ None }
         ensures refused { IfErr result (λ e. e ≡ refusal_of (fault_of (shape self))) };

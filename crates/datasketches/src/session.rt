@@ -1,13 +1,14 @@
 //! Sessions: named sketches and images.
-ghost use Rattle.std.specs.Prelude.{◌≡◌, Result, [], None, Some, IfOk, IfErr, OnErr, IsTrue};
+ghost use Rattle.std.specs.Prelude.{◌≡◌, false, [], None, Some, IfOk, IfErr, OnErr, IsTrue};
 ghost use Rattle.counter_table.specs.Bytes.{option_bytes};
+ghost use Rattle.counter_table.specs.declared.table_key.TableKey.TheVariants.{Plain};
 ghost use Rattle.datasketches.specs.Actions.{Action, Change, Join, Shape, usual_sizes};
 ghost use Rattle.datasketches.specs.SessionStandsFor.{SessionStandsFor};
 ghost use Rattle.datasketches.specs.Histories.{nothing_named};
 ghost use Rattle.datasketches.specs.Names.{at_name};
 ghost use Rattle.datasketches.specs.Keyed.{PerformedByKey};
 ghost use Rattle.datasketches.specs.Performed.{Performed};
-ghost use Rattle.datasketches.specs.Replies.{done_or, told, told_as, bounds_in, contains_in};
+ghost use Rattle.datasketches.specs.Replies.{done_or, told, told_as, is_refused, bounds_in, contains_in};
 ghost use Rattle.datasketches.specs.State.{SessionState};
 
 mod running;
@@ -66,7 +67,7 @@ impl<T: Eq + Hash + Drop> Model for Session<T> {
 
     ghost coded = { Prim.hlevel (codes, state_code) };
 
-    ghost view = { λ s. record { sketches = s.sketches; images = s.images } };
+    ghost view = { λ s. record { sketches = s.sketches; images = s.images; key = s.key } };
 }
 
 /// Prints the names.
@@ -82,7 +83,7 @@ impl<T: Eq + Hash + Drop> fmt::Debug for Session<T> {
 impl<T: FrequentItemValue + Clone + Drop> Session<T> {
     /// Creates a session with no names. Does not allocate.
     pub fn new(alloc: Global) -> Self
-        ensures empty { result ≡ record { sketches = []; images = [] } }
+        ensures empty { result ≡ record { sketches = []; images = []; key = Plain } }
         ensures fits { SessionStandsFor T.eq T.codec T.content result nothing_named }
     {
         Self::with_state(alloc, TableKey::Plain, MapState::fixed())
@@ -107,7 +108,7 @@ impl<T: FrequentItemValue + Clone + Drop> Session<T> {
     /// }
     /// ```
     pub fn with_key(alloc: Global, key: TableKey) -> Self
-        ensures empty { result ≡ record { sketches = []; images = [] } }
+        ensures empty { result ≡ record { sketches = []; images = []; key = key } }
         ensures fits { SessionStandsFor T.eq T.codec T.content result nothing_named }
     {
         Self::with_state(alloc, key, MapState::fixed())
@@ -135,7 +136,7 @@ impl<T: FrequentItemValue + Clone + Drop> Session<T> {
     /// }
     /// ```
     pub fn with_key_and_hasher(alloc: Global, key: TableKey, hash_builder: RandomState) -> Self
-        ensures empty { result ≡ record { sketches = []; images = [] } }
+        ensures empty { result ≡ record { sketches = []; images = []; key = key } }
         ensures fits { SessionStandsFor T.eq T.codec T.content result nothing_named }
     {
         Self::with_state(alloc, key, MapState::Random(hash_builder))
@@ -143,7 +144,7 @@ impl<T: FrequentItemValue + Clone + Drop> Session<T> {
 
     /// Creates a session with no names and these keys.
     fn with_state(alloc: Global, key: TableKey, state: MapState) -> Self
-        ensures empty { result ≡ record { sketches = []; images = [] } }
+        ensures empty { result ≡ record { sketches = []; images = []; key = key } }
         ensures fits { SessionStandsFor T.eq T.codec T.content result nothing_named }
     {
         Session {
@@ -226,7 +227,8 @@ impl<T: FrequentItemValue + Clone + Drop> Session<T> {
 
     /// Adds the item that the key names, as [`add`](Self::add) does. A session of `String`s takes a `&str` as the key.
     ///
-    /// Creates an owned item only if a sketch of frequent items tracks none. So `NoMemory` may also come for that item.
+    /// Creates an owned item only if a sketch of frequent items tracks none. Then this may also return `NoMemory` for that
+    /// item, but not if the weight is 0, and not in place of `WeightOverflow`.
     #[inline(always)]
     pub fn add_by_key<K: OwnedKey<T>>(
         &mut self,
@@ -430,31 +432,34 @@ impl<T: FrequentItemValue + Clone + Drop> Session<T> {
     /// Returns what a sketch tells of an item: `Reply::Contains` if it is a filter, and `Reply::Bounds` otherwise.
     #[inline(always)]
     pub fn ask<K: ItemKey<T>>(&self, name: &str, item: K) -> Result<Reply<T>, Refusal>
-        ensures { (x : T) → IsTrue (K.names item x)
+        ensures performed { (x : T) → IsTrue (K.names item x)
             → Performed (option_bytes T.row) T.eq T.hash_input T.codec T.content
             (Action.Ask name.now x) self.now (told result) self.now }
+        ensures accepted { IfOk result (λ reply. is_refused reply ≡ false) }
     {
         Ok(self.sketch(name)?.ask(item))
     }
 
     /// Returns an item's estimate and bounds. Also returns `WrongKind` if the sketch is a filter.
     pub fn bounds<K: ItemKey<T>>(&self, name: &str, item: K) -> Result<Bounds, Refusal>
-        ensures { (x : T) → IsTrue (K.names item x) → (given : Result (Reply T) Refusal)
+        ensures { (x : T) → IsTrue (K.names item x) → (reply : Reply T)
             × Performed (option_bytes T.row) T.eq T.hash_input T.codec T.content
-            (Action.Ask name.now x) self.now (told given) self.now
-            × (result ≡ bounds_in given) }
+            (Action.Ask name.now x) self.now reply self.now
+            × (result ≡ bounds_in reply) }
     {
-        bounds_in(self.ask(name, item))
+        let reply = told(self.ask(name, item));
+        bounds_in(&reply)
     }
 
     /// Returns whether a filter contains an item. Also returns `WrongKind` if the sketch is no filter.
     pub fn contains<K: ItemKey<T>>(&self, name: &str, item: K) -> Result<bool, Refusal>
-        ensures { (x : T) → IsTrue (K.names item x) → (given : Result (Reply T) Refusal)
+        ensures { (x : T) → IsTrue (K.names item x) → (reply : Reply T)
             × Performed (option_bytes T.row) T.eq T.hash_input T.codec T.content
-            (Action.Ask name.now x) self.now (told given) self.now
-            × (result ≡ contains_in given) }
+            (Action.Ask name.now x) self.now reply self.now
+            × (result ≡ contains_in reply) }
     {
-        contains_in(self.ask(name, item))
+        let reply = told(self.ask(name, item));
+        contains_in(&reply)
     }
 
     /// Returns the numbers of a sketch.
@@ -525,34 +530,42 @@ impl<T: FrequentItemValue + Clone + Drop> Session<T> {
     }
 }
 
-/// Returns the bounds that a reply has, or `WrongKind`.
-fn bounds_in<T: Drop>(given: Result<Reply<T>, Refusal>) -> Result<Bounds, Refusal>
-    ensures { result ≡ bounds_in given }
+/// Returns the reply, or `Refused` with the reason.
+fn told<T>(given: Result<Reply<T>, Refusal>) -> Reply<T>
+    ensures { result ≡ told given }
 {
     match given {
-        Ok(
-            Reply::Bounds {
-                estimate,
-                lower,
-                upper,
-            },
-        ) => Ok(Bounds {
+        Ok(reply) => reply,
+        Err(refusal) => Reply::Refused(refusal),
+    }
+}
+
+/// Returns the bounds that a reply has, the reason of a rejection, or `WrongKind`.
+fn bounds_in<T>(reply: &Reply<T>) -> Result<Bounds, Refusal>
+    ensures { result ≡ bounds_in reply.now }
+{
+    match *reply {
+        Reply::Bounds {
+            estimate,
+            lower,
+            upper,
+        } => Ok(Bounds {
             estimate,
             lower,
             upper,
         }),
-        Ok(_) => Err(Refusal::WrongKind),
-        Err(refusal) => Err(refusal),
+        Reply::Refused(refusal) => Err(refusal),
+        _ => Err(Refusal::WrongKind),
     }
 }
 
-/// Returns whether a reply says that an item is contained, or `WrongKind`.
-fn contains_in<T: Drop>(given: Result<Reply<T>, Refusal>) -> Result<bool, Refusal>
-    ensures { result ≡ contains_in given }
+/// Returns whether a reply says that an item is contained, the reason of a rejection, or `WrongKind`.
+fn contains_in<T>(reply: &Reply<T>) -> Result<bool, Refusal>
+    ensures { result ≡ contains_in reply.now }
 {
-    match given {
-        Ok(Reply::Contains(found)) => Ok(found),
-        Ok(_) => Err(Refusal::WrongKind),
-        Err(refusal) => Err(refusal),
+    match *reply {
+        Reply::Contains(found) => Ok(found),
+        Reply::Refused(refusal) => Err(refusal),
+        _ => Err(Refusal::WrongKind),
     }
 }

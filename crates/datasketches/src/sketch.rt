@@ -1,12 +1,13 @@
 //! Sketches of four kinds, and what each kind does for a command.
-ghost use Rattle.std.specs.Prelude.{◌≡◌, None, IfOk, IfErr, IsOk, OnOk, OnErr, IsTrue, pos};
+ghost use Rattle.std.specs.Prelude.{◌≡◌, false, None, IfOk, IfErr, IsOk, OnOk, OnErr, IsTrue, pos};
 ghost use Rattle.counter_table.specs.Bytes.{option_bytes};
 ghost use Rattle.datasketches.specs.Actions.{Change};
 ghost use Rattle.datasketches.specs.Answering.{Tells, Lists, status_of};
+ghost use Rattle.datasketches.specs.Hashing.{IsUnder};
 ghost use Rattle.datasketches.specs.Histories.{changed};
 ghost use Rattle.datasketches.specs.Images.{IsWrittenBy, IsReadFrom, IsWriteRefusal, IsReadRefusal, IsLoadRefusal, TakesWithin, GivesBack, load_fault};
 ghost use Rattle.datasketches.specs.Keyed.{AddsNamed};
-ghost use Rattle.datasketches.specs.Replies.{done_or, told_as};
+ghost use Rattle.datasketches.specs.Replies.{done_or, told_as, is_refused};
 ghost use Rattle.datasketches.specs.Stands.{Carries};
 ghost use Rattle.datasketches.specs.Steps.{Alters};
 
@@ -154,7 +155,8 @@ impl<T: Eq + Hash + Drop> Sketch<T> {
     /// Returns an item's estimate and bounds, or whether a filter contains it.
     #[inline(always)]
     pub fn ask<K: ItemKey<T>>(&self, item: K) -> Reply<T>
-        ensures { (x : T) → IsTrue (K.names item x) → Tells T.eq T.hash_input x self.now result }
+        ensures tells { (x : T) → IsTrue (K.names item x) → Tells T.eq T.hash_input x self.now result }
+        ensures accepted { is_refused result ≡ false }
     {
         match self {
             Sketch::Frequent(sketch) => {
@@ -248,6 +250,7 @@ impl<T: FrequentItemValue + Drop> Sketch<T> {
     ) -> Result<Self, Error>
         ensures read { IfOk result (IsReadFrom T.codec T.content kind bytes.now) }
         ensures stands { IfOk result (GivesBack T.eq T.codec T.content kind bytes.now) }
+        ensures keyed { IfOk result (IsUnder key) }
         ensures refused { IfErr result (IsReadRefusal T.codec kind bytes.now) }
     {
         match kind {
@@ -304,6 +307,7 @@ impl<T: FrequentItemValue + Drop> Sketch<T> {
     ) -> Result<Self, Error>
         ensures read { IfOk result (IsReadFrom T.codec T.content kind bytes.now) }
         ensures stands { IfOk result (GivesBack T.eq T.codec T.content kind bytes.now) }
+        ensures keyed { IfOk result (IsUnder key) }
         ensures within { IfOk result (TakesWithin (option_bytes T.row) T.codec T.content max_bytes) }
         ensures accepted { IsOk result → load_fault (option_bytes T.row) T.codec max_bytes kind bytes.now ≡ None }
         ensures refused { IfErr result (IsLoadRefusal (option_bytes T.row) T.codec max_bytes kind bytes.now) }

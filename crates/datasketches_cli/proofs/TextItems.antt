@@ -55,14 +55,14 @@ from_unchanged name change old mid new reply same did = (
   λ n. did.1 n ∙ same.images n,
 )
 
-out_case : (found : Option (Sketch Text)) (names : Text → Bool) (result : Result ⊤ Refusal) → MatchOption found ⊥ (λ sketch. RunsOut names sketch result) → result ≡ Err (Call no_memory)
-out_case None names result out = absurd out
-out_case (Some sketch) names result out = out.0
+out_case : (found : Option (Sketch Text)) (names : Text → Bool) (weight : ℕ) (result : Result ⊤ Refusal) → MatchOption found ⊥ (λ sketch. RunsOut names weight sketch result) → result ≡ Err (Call no_memory)
+out_case None names weight result out = absurd out
+out_case (Some sketch) names weight result out = out.error
 
 -- a string was added by its bytes, where memory did not run out
 pub added : (name bytes : List ℕ) (weight : ℕ) (old new : SessionState Text) (result : Result ⊤ Refusal) → result ≢ Err (Call no_memory) → DidByBytes name bytes weight old result new → DidWith bytes (λ x. Alter name (Add x weight)) old (done_or result) new
 added name bytes weight old new result some (inl (item, named, did)) = (item, sym ((bytes_decides bytes (string_bytes item)).0 named), did.step)
-added name bytes weight old new result some (inr (same, out)) = absurd (some (out_case (at_name name old.sketches) (λ x. bytes_eq bytes (string_bytes x)) result out))
+added name bytes weight old new result some (inr (same, out)) = absurd (some (out_case (at_name name old.sketches) (λ x. bytes_eq bytes (string_bytes x)) weight result out))
 
 was_refused : (result : Result ⊤ Refusal) → IsErr result → is_refused (done_or {T = Text} result) ≡ true
 was_refused (Err refusal) err = refl

@@ -3,6 +3,7 @@ use Rattle.std.proofs.Common.{◌≡◌, ℕ, ◌+◌, ◌<◌, ◌^◌, Bool, L
 use Rattle.std.proofs.Math.Nat.{eq-zero-or-pos}
 use Rattle.std.proofs.lemmas.List.Sums.{sum_by-cons}
 use Rattle.std.specs.List.{fold}
+use Rattle.counter_table.specs.declared.table_key.TableKey.{TableKey}
 use Rattle.sketch_frequencies.specs.History.{FrequentHistory}
 use Rattle.sketch_frequencies.specs.History.FrequentHistory.{Merge}
 use Rattle.sketch_frequencies.specs.Stands.{StandsFor, KeepsTailBudget, ExtendsBoth, ExtendsBothBudgets}
@@ -59,10 +60,10 @@ module _ {T : Type 0} (eq : T → T → Bool) where
   }
 
   -- none of the windows makes the total pass the greatest `u64`
-  pub next_fits : (max_map_size : ℕ) (first merged window : FrequentState T) (windows rest : List (FrequentState T))
-      → first ≡ fresh_state max_map_size → windows_total windows < 2 ^ 64 → Continues first windows merged (window ∷ rest)
+  pub next_fits : (max_map_size : ℕ) (key : TableKey) (first merged window : FrequentState T) (windows rest : List (FrequentState T))
+      → first ≡ fresh_state max_map_size key → windows_total windows < 2 ^ 64 → Continues first windows merged (window ∷ rest)
       → merged.total + window.total < 2 ^ 64
-  next_fits max_map_size first merged window windows rest e fits c =
+  next_fits max_map_size key first merged window windows rest e fits c =
       let none : first.total ≡ 0 = ap (λ s. s.total) e in
       let whole = c.total in
       omega (arith, fits, none, whole, sum_by-cons (λ (s : FrequentState T). s.total) window rest)
@@ -101,11 +102,11 @@ module _ {T : Type 0} (eq : T → T → Bool) where
       })
       z.1
 
-  pub chain_merged : (max_map_size : ℕ) (first : FrequentState T) (windows : List (FrequentState T)) (merged : FrequentState T)
-      → first ≡ fresh_state max_map_size → Chain first windows merged → IsState eq merged
+  pub chain_merged : (max_map_size : ℕ) (key : TableKey) (first : FrequentState T) (windows : List (FrequentState T)) (merged : FrequentState T)
+      → first ≡ fresh_state max_map_size key → Chain first windows merged → IsState eq merged
       → StandsFor eq first (fresh_history max_map_size) → KeepsTailBudget eq first (fresh_history max_map_size)
-      → IsMerged eq max_map_size windows merged
-  chain_merged max_map_size first windows merged e chain state stands budget = record {
+      → IsMerged eq max_map_size key windows merged
+  chain_merged max_map_size key first windows merged e chain state stands budget = record {
     merges = subst (λ s. MergesAll eq s windows merged) e (chain_merges first windows merged chain);
     state = state;
     stands = λ hs z. (chain_stands max_map_size first windows merged (fresh_history max_map_size) hs chain (record { stands = stands; budget = budget }) z).stands;

@@ -14,7 +14,7 @@ fits_none total weight none fits = omega arith
 module _ {T : Type 0} where
   -- the newest window of an unknown tenant is a fresh one, so each weight has room there
   room_there : (tenant : ℕ) (s : WindowsState T) → at_tenant tenant s ≡ [] → (newest_of tenant s).total ≡ 0
-  room_there tenant s unknown = ap (λ (w : FrequentState T). w.total) (ap (newest (fresh_state s.max_map_size)) unknown)
+  room_there tenant s unknown = ap (λ (w : FrequentState T). w.total) (ap (newest (fresh_state s.max_map_size s.key)) unknown)
 
   refused : (eq : T → T → Bool) (tenant weight : ℕ) (item : T) (s : WindowsState T) → weight ≢ 0 → weight < 2 ^ 64 → at_tenant tenant s ≡ []
       → IsAddition eq tenant weight item s (Err no_memory) s
@@ -22,7 +22,7 @@ module _ {T : Type 0} where
     zero = λ none. absurd (some none);
     adds = tt;
     stands = tt;
-    others = record { limit = refl; max_map_size = refl; others = λ other apart. refl };
+    others = record { limit = refl; max_map_size = refl; key = refl; hasher = refl; others = λ other apart. refl };
     err = refl;
     overflow = λ positive over. absurd (omega (arith, room_there tenant s unknown));
     memory = λ room. refl;

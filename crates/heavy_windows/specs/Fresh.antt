@@ -1,12 +1,13 @@
 -- A window to which nothing was added.
 use Rattle.std.specs.Prelude.{◌≡◌, ℕ, ◌/◌}
+use Rattle.counter_table.specs.declared.table_key.TableKey.{TableKey}
 use Rattle.sketch_frequencies.specs.History.{FrequentHistory, min_sample}
 use Rattle.sketch_frequencies.specs.History.FrequentHistory.{New}
 use Rattle.sketch_frequencies.specs.State.{FrequentState, empty_state, max_sample_size}
 
--- a new sketch of this maximum size
-abbrev pub fresh_state : {T : Type 0} → ℕ → FrequentState T
-fresh_state max_map_size = empty_state max_map_size (max_sample_size max_map_size)
+-- a new sketch of this maximum size under this key
+abbrev pub fresh_state : {T : Type 0} → ℕ → TableKey → FrequentState T
+fresh_state max_map_size key = empty_state max_map_size (max_sample_size max_map_size) key
 
 -- the history of a new sketch
 abbrev pub fresh_history : {T : Type 0} → ℕ → FrequentHistory T

@@ -1,5 +1,6 @@
 -- Windows merged into one sketch, oldest first (mergeable summaries, Agarwal et al. 2012).
 use Rattle.std.specs.Prelude.{◌≡◌, ℕ, Bool, List, [], ◌∷◌}
+use Rattle.counter_table.specs.declared.table_key.TableKey.{TableKey}
 use Rattle.sketch_frequencies.specs.History.{FrequentHistory}
 use Rattle.sketch_frequencies.specs.Stands.{StandsFor, KeepsTailBudget}
 use Rattle.sketch_frequencies.specs.State.{FrequentState, IsState}
@@ -15,10 +16,11 @@ module _ {T : Type 0} (eq : T → T → Bool) where
   MergesAll old (window ∷ windows) new =
       (mid : FrequentState T) × JoinsEqual eq old window mid × MergesAll mid windows new
 
-  -- the windows were merged into a new sketch of this maximum size, oldest first; it stands for the merged histories
+  -- the windows were merged into a new sketch of this maximum size and key, oldest first; it stands for the merged histories
   -- and keeps their tail budget
-  pub record IsMerged (max_map_size : ℕ) (windows : List (FrequentState T)) (merged : FrequentState T) : Type 0 where
-    pub merges : MergesAll (fresh_state max_map_size) windows merged
+  pub record IsMerged (max_map_size : ℕ) (key : TableKey) (windows : List (FrequentState T)) (merged : FrequentState T)
+      : Type 0 where
+    pub merges : MergesAll (fresh_state max_map_size key) windows merged
     pub state : IsState eq merged
     pub stands :
         (hs : List (FrequentHistory T)) → WindowsStandFor eq max_map_size windows hs →

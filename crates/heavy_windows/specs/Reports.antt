@@ -1,6 +1,7 @@
 -- A report on the windows of a tenant, and what it guarantees for their histories.
 use Rattle.std.specs.Prelude.{◌≡◌, ℕ, ◌-◌, ◌*◌, ◌<◌, ◌≤◌, max, Bool, true, List, length, All}
 use Rattle.std.specs.List.{list_any}
+use Rattle.counter_table.specs.declared.table_key.TableKey.{TableKey}
 use Rattle.sketch_frequencies.specs.History.{FrequentHistory, true_weight, total_weight, weight_outside}
 use Rattle.sketch_frequencies.specs.Rows.{ShowsExactly, Descends}
 use Rattle.sketch_frequencies.specs.State.{FrequentState}
@@ -13,10 +14,10 @@ use Rattle.heavy_windows.specs.declared.report.Report.{Report}
 
 module _ {T : Type 0} (eq : T → T → Bool) where
   -- the report has the rows, the error and the total of the windows merged into one sketch
-  pub record Reports (kind : ErrorType) (threshold max_map_size : ℕ) (windows : List (FrequentState T))
+  pub record Reports (kind : ErrorType) (threshold max_map_size : ℕ) (key : TableKey) (windows : List (FrequentState T))
       (report : Report T) : Type 0 where
     pub merged : FrequentState T
-    pub is_merged : IsMerged eq max_map_size windows merged
+    pub is_merged : IsMerged eq max_map_size key windows merged
     pub rows : ShowsExactly eq kind threshold merged report.rows.items
     pub descending : Descends report.rows.items
     pub error : report.maximum_error ≡ merged.error

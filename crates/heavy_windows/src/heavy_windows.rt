@@ -1,6 +1,7 @@
 //! The windows of all tenants.
 ghost use Rattle.std.specs.Prelude.{◌≡◌, ℕ, ◌<◌, ◌≤◌, ◌^◌, [], None, IfOk, IfErr, IsOk, IsTrue, OnOk, IsErrOf};
 ghost use Rattle.sketch_base.specs.Errors.{invalid_argument, no_memory, refusal_of};
+ghost use Rattle.counter_table.specs.declared.table_key.TableKey.TheVariants.{Plain};
 ghost use Rattle.heavy_windows.specs.Calls.{IsMade, IsAddition, IsTurn, IsReport};
 ghost use Rattle.heavy_windows.specs.Merging.{IsMerged};
 ghost use Rattle.heavy_windows.specs.Sizes.{limits_fault};
@@ -50,14 +51,13 @@ pub struct HeavyWindows<T: Eq + Hash + Drop> {
 }
 
 impl<T: Eq + Hash + Drop> Model for HeavyWindows<T> {
-    ghost use Rattle.heavy_windows.specs.State.{WindowsState, IsWindows};
+    ghost use Rattle.heavy_windows.specs.State.{WindowsState, IsWindows, windows_of};
 
     ghost Value = { WindowsState T };
 
-    ghost view = { λ w. record { limit = w.limit; max_map_size = w.max_map_size; tenants = w.tenants.entries } };
+    ghost view = { λ w. windows_of w.limit w.max_map_size w.key w.tenants };
 
-    ghost invariant = { λ w. IsWindows
-        (record { limit = w.limit; max_map_size = w.max_map_size; tenants = w.tenants.entries }) };
+    ghost invariant = { λ w. IsWindows (windows_of w.limit w.max_map_size w.key w.tenants) };
 }
 
 impl<T: Eq + Hash + Drop> HeavyWindows<T> {
@@ -75,7 +75,7 @@ impl<T: Eq + Hash + Drop> HeavyWindows<T> {
     /// - `MapSizeTooSmall` if it is below 8;
     /// - `MapSizeTooLarge` if it is above 2^30.
     pub fn new(alloc: Global, windows: usize, max_map_size: usize) -> Result<Self, Error>
-        ensures call { IsMade windows max_map_size result }
+        ensures call { IsMade windows max_map_size Plain result }
         ensures state { IfOk result IsWindows }
         ensures stands { IfOk result (λ w. (tenant : ℕ) → WindowsStandFor T.eq max_map_size (at_tenant tenant w) []) }
     {
@@ -116,7 +116,7 @@ impl<T: Eq + Hash + Drop> HeavyWindows<T> {
         max_map_size: usize,
         key: TableKey,
     ) -> Result<Self, Error>
-        ensures call { IsMade windows max_map_size result }
+        ensures call { IsMade windows max_map_size key result }
         ensures state { IfOk result IsWindows }
         ensures stands { IfOk result (λ w. (tenant : ℕ) → WindowsStandFor T.eq max_map_size (at_tenant tenant w) []) }
     {
@@ -154,7 +154,8 @@ impl<T: Eq + Hash + Drop> HeavyWindows<T> {
         key: TableKey,
         hash_builder: RandomState,
     ) -> Result<Self, Error>
-        ensures call { IsMade windows max_map_size result }
+        ensures call { IsMade windows max_map_size key result }
+        ensures hasher { IfOk result (λ w. w.hasher ≡ MapState.Random hash_builder) }
         ensures state { IfOk result IsWindows }
         ensures stands { IfOk result (λ w. (tenant : ℕ) → WindowsStandFor T.eq max_map_size (at_tenant tenant w) []) }
     {
@@ -170,7 +171,8 @@ impl<T: Eq + Hash + Drop> HeavyWindows<T> {
         key: TableKey,
         state: MapState,
     ) -> Result<Self, Error>
-        ensures call { IsMade windows max_map_size result }
+        ensures call { IsMade windows max_map_size key result }
+        ensures hasher { IfOk result (λ w. w.hasher ≡ state) }
         ensures state { IfOk result IsWindows }
         ensures stands { IfOk result (λ w. (tenant : ℕ) → WindowsStandFor T.eq max_map_size (at_tenant tenant w) []) }
     {
@@ -281,7 +283,7 @@ impl<T: Eq + Hash + Drop> HeavyWindows<T> {
         T: Clone,
         requires clones { (x y : T) → T.is_clone x y → IsTrue (T.eq x y) }
         ensures merged { IfOk result (λ merged.
-            IsMerged T.eq self.now.max_map_size (at_tenant tenant self.now) merged) }
+            IsMerged T.eq self.now.max_map_size self.now.key (at_tenant tenant self.now) merged) }
         ensures overflow { 2 ^ 64 ≤ windows_total (at_tenant tenant self.now)
             → IsErrOf result (invalid_argument Fault.WeightOverflow) }
         ensures memory { windows_total (at_tenant tenant self.now) < 2 ^ 64 → IfErr result (λ e. e ≡ no_memory) }

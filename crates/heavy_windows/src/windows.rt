@@ -106,7 +106,7 @@ impl<T: Eq + Hash + Clone + Drop> Windows<T> {
     ) -> Result<FrequentItemsSketch<T>, Error>
         requires clones { (x y : T) → T.is_clone x y → IsTrue (T.eq x y) }
         requires size { size_fault max_map_size ≡ None }
-        ensures merged { IfOk result (λ merged. IsMerged T.eq max_map_size self.now merged) }
+        ensures merged { IfOk result (λ merged. IsMerged T.eq max_map_size key self.now merged) }
         ensures overflow { 2 ^ 64 ≤ windows_total self.now → IsErrOf result (invalid_argument Fault.WeightOverflow) }
         ensures memory { windows_total self.now < 2 ^ 64 → IfErr result (λ e. e ≡ no_memory) }
     {

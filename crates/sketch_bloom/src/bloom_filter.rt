@@ -4,10 +4,10 @@ ghost use Rattle.std.specs.FinSet as set;
 ghost use Rattle.std.specs.Hash as fed;
 ghost use Rattle.sketch_base.specs.Errors.{invalid_argument, no_memory};
 ghost use Rattle.sketch_base.specs.Hashes.{fed_bytes};
-ghost use Rattle.sketch_bloom.specs.History.BloomHistory.{Insert, Union, Intersection, Difference, Reset};
+ghost use Rattle.sketch_bloom.specs.History.BloomHistory.{New, Insert, Union, Intersection, Difference, Reset};
 ghost use Rattle.sketch_bloom.specs.Operations.{on_sets};
 ghost use Rattle.sketch_bloom.specs.Pairs.{contains_pair, with_pair};
-ghost use Rattle.sketch_bloom.specs.Stands.{Extends, ExtendsBoth};
+ghost use Rattle.sketch_bloom.specs.Stands.{StandsFor, Extends, ExtendsBoth};
 ghost use Rattle.sketch_bloom.specs.State.{IsFilterState, IsCompatible, capacity_of, empty_state, contains_item, inserted, cleared, united, intersected, subtracted};
 
 mod batches;
@@ -195,6 +195,8 @@ impl BloomFilter {
         ensures cleared { self.new ≡ cleared self.old }
         ensures state { IsFilterState self.new }
         ensures stands { Extends self.old self.new Reset }
+        // Whatever came before, also an untrusted image, the filter stands for the history of a new one.
+        ensures renewed { StandsFor self.new (New self.old.num_words self.old.num_hashes self.old.seed) }
     {
         self.bits.clear();
         self.bits_used = 0;

@@ -15,6 +15,7 @@ use Rattle.sketch_frequencies.specs.Reading.{AreCounters}
 use Rattle.sketch_frequencies.specs.State.{FrequentState, IsState, IsSampleSize, capacity, max_sample_size, empty_state}
 use Rattle.sketch_frequencies.specs.Steps.{HoldsSame}
 use Rattle.counter_table.specs.Tables.{count_of, sum_of}
+use Rattle.counter_table.specs.declared.table_key.TableKey.{TableKey}
 use Rattle.sketch_frequencies.proofs.SameStates.{encloses_alike, budget_alike}
 use Rattle.sketch_frequencies.proofs.Cases.{by_test}
 use Rattle.sketch_frequencies.proofs.ImageCounting.{distinct_contents}
@@ -33,7 +34,7 @@ positive_from_contents {T} {C} content (e ∷ es) h =
 
 -- a state stays one where its counters are replaced by as many of other items, of the same weight together
 with_counters : {A B : Type 0} (eq : A → A → Bool) (other : B → B → Bool) (s : FrequentState A) (counters : List (B × ℕ)) → IsState eq s → IsDistinct other (keys_of counters) → All (λ e. 0 < e.1) counters → length counters ≡ length s.counters → sum_of counters ≡ sum_of s.counters →
-    IsState other (record { counters = counters; error = s.error; total = s.total; max_size = s.max_size; size = s.size; sample_size = s.sample_size })
+    IsState other (record { counters = counters; error = s.error; total = s.total; max_size = s.max_size; size = s.size; sample_size = s.sample_size; key = s.key })
 with_counters eq other s counters h distinct positive long weight = record {
   distinct = distinct;
   positive = positive;
@@ -118,10 +119,10 @@ module _ {T C : Type 0} (codec : Codec C) (content : T → C) (eq : T → T → 
   restores_budget laws image new is old was h stands keeps = λ set short. budget_alike laws old new (one_sketch laws image old new was is) h keeps set short
 
   -- an image that says 'empty'
-  pub image_of_none : (image : List ℕ) (m n : ℕ) → IsState eq (empty_state m n) → first_failing (header_checks image) ≡ None → says_empty image ≡ true → m ≡ max_size_at image → IsImageOf codec content image (empty_state m n)
-  image_of_none image m n state checks empty max_size = record {
+  pub image_of_none : (image : List ℕ) (m n : ℕ) (key : TableKey) → IsState eq (empty_state m n key) → first_failing (header_checks image) ≡ None → says_empty image ≡ true → m ≡ max_size_at image → IsImageOf codec content image (empty_state m n key)
+  image_of_none image m n key state checks empty max_size = record {
     no_fault = rw (checks, empty) refl;
-    state = contents_state (empty_state m n) state;
+    state = contents_state (empty_state m n key) state;
     max_size = max_size;
     size = rw empty refl;
     total = rw empty refl;

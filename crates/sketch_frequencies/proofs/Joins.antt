@@ -12,10 +12,9 @@ use Rattle.std.proofs.lemmas.List.Folds.{list_any-append}
 use Rattle.std.proofs.lemmas.Map.Entries.{length-keys_of}
 use Rattle.std.proofs.lemmas.Map.Made.{length-le_from_is_member}
 use Rattle.counter_table.specs.Tables.{Table, count_of, is_tracked, put, sum_of, sum_outside}
-use Rattle.counter_table.specs.declared.table_key.TableKey.TheVariants.{Plain}
 use Rattle.sketch_frequencies.specs.History.{FrequentHistory, true_weight, total_weight, weight_outside, min_size, min_sample, budget_size}
 use Rattle.sketch_frequencies.specs.History.FrequentHistory.{New, Update, Merge, Reset, Restored}
-use Rattle.sketch_frequencies.specs.State.{FrequentState, IsState, IsSampleSize, capacity}
+use Rattle.sketch_frequencies.specs.State.{FrequentState, IsState, IsSampleSize, capacity, state_of}
 use Rattle.sketch_frequencies.specs.Stands.{Encloses, StandsFor, KeepsTailBudget, HasFewItems}
 use Rattle.sketch_frequencies.specs.Steps.{Steps, StepsAlong, AddsAll, Joins}
 use Rattle.sketch_frequencies.specs.Growth.{Adds}
@@ -37,17 +36,17 @@ state_step {T} {eq} laws old new x w pos ok step =
     let k = step.doubled over below in
     let fits = doubled_fits old.size old.max_size ok.size_power ok.max_size_power below in
     let some : 0 < old.total = omega (arith, over, length_put_le eq old.counters x w, length_le_sum old.counters ok.positive, ok.sum, ok.least) in
-    let wide : Table T = record { entries = old.counters; size = 2 * old.size; key = Plain } in
-    let mid : FrequentState T = record { counters = old.counters; error = old.error; total = old.total; max_size = old.max_size; size = 2 * old.size; sample_size = old.sample_size } in
+    let wide : Table T = record { entries = old.counters; size = 2 * old.size; key = old.key } in
+    let mid : FrequentState T = state_of wide old.error old.total old.max_size old.sample_size in
     let made : IsState eq mid = state_made laws old wide ok (IsPermutation-refl old.counters) refl fits some in
-    let adds : Adds eq mid x w new = record { total = step.total; max_size = step.max_size; sample_size = step.sample_size; kept = λ _. k; purge = λ more. absurd (omega (arith, more, length_put_le eq old.counters x w, ok.few, ok.least)) } in
+    let adds : Adds eq mid x w new = record { total = step.total; max_size = step.max_size; sample_size = step.sample_size; key = step.key; kept = λ _. k; purge = λ more. absurd (omega (arith, more, length_put_le eq old.counters x w, ok.few, ok.least)) } in
     state_after laws mid new x w pos made adds)
     (λ at.
     let k = step.purge over (omega (arith, ok.within)) in
-    state_after laws old new x w pos ok (record { total = step.total; max_size = step.max_size; sample_size = step.sample_size; kept = λ room. absurd (omega (arith, room, over)); purge = λ _. k })))
+    state_after laws old new x w pos ok (record { total = step.total; max_size = step.max_size; sample_size = step.sample_size; key = step.key; kept = λ room. absurd (omega (arith, room, over)); purge = λ _. k })))
     (λ room.
     let k = step.kept room in
-    state_after laws old new x w pos ok (record { total = step.total; max_size = step.max_size; sample_size = step.sample_size; kept = λ _. k; purge = λ over. absurd (omega (arith, room, over)) }))
+    state_after laws old new x w pos ok (record { total = step.total; max_size = step.max_size; sample_size = step.sample_size; key = step.key; kept = λ _. k; purge = λ over. absurd (omega (arith, room, over)) }))
 
 -- one step more
 pub steps_more : {T : Type 0} (eq : T → T → Bool) (old mid new : FrequentState T) (ps : List (T × ℕ)) (p : T × ℕ) → StepsAlong eq old ps mid → Steps eq mid p.0 p.1 new → StepsAlong eq old (ps ++ p ∷ []) new

@@ -108,6 +108,7 @@ module _ {T : Type 0} {eq : T → T → Bool} (laws : IsEquivalence eq) where
       size = second.holds.size ∙ first.holds.size;
     };
     sample_size = second.sample_size ∙ first.sample_size;
+    key = second.key ∙ first.key;
   }
 
   -- a join with a sketch that is the same as old is one with old

@@ -64,12 +64,12 @@ module _ {T : Type 0} {eq : T → T → Bool} (laws : IsEquivalence eq) where
       record { order = so_far.done; same = record { order = given; whole = whole; same = so_far.same }; steps = so_far.steps }
 
   -- what a run of steps does to the numbers
-  steps_total : (old new : FrequentState T) (ps : List (T × ℕ)) → StepsAlong eq old ps new → (new.total ≡ old.total + sum_of ps) × (new.max_size ≡ old.max_size) × (new.sample_size ≡ old.sample_size)
-  steps_total old new [] is = subst (λ (s : FrequentState T). (s.total ≡ old.total + 0) × (s.max_size ≡ old.max_size) × (s.sample_size ≡ old.sample_size)) (sym is) (omega arith, refl, refl)
+  steps_total : (old new : FrequentState T) (ps : List (T × ℕ)) → StepsAlong eq old ps new → (new.total ≡ old.total + sum_of ps) × (new.max_size ≡ old.max_size) × (new.sample_size ≡ old.sample_size) × (new.key ≡ old.key)
+  steps_total old new [] is = subst (λ (s : FrequentState T). (s.total ≡ old.total + 0) × (s.max_size ≡ old.max_size) × (s.sample_size ≡ old.sample_size) × (s.key ≡ old.key)) (sym is) (omega arith, refl, refl, refl)
   steps_total old new (p ∷ ps) run =
       let num : T × ℕ → ℕ = λ p. p.1 in
       let rest = steps_total run.0 new ps run.2 in
-      (omega (arith, rest.0, run.1.total, sum_by-cons num p ps), rest.1 ∙ run.1.max_size, rest.2 ∙ run.1.sample_size)
+      (omega (arith, rest.0, run.1.total, sum_by-cons num p ps), rest.1 ∙ run.1.max_size, rest.2 ∙ run.1.sample_size, rest.3 ∙ run.1.key)
 
   -- the other's error fits behind its counters
   pub settle_fits : (old other own last : FrequentState T) → IsState eq other → IsState eq last → IsSameState eq old own → AddsCounters eq own other.counters last → sum_of last.counters + last.error + other.error ≤ old.total + other.total
@@ -89,12 +89,13 @@ module _ {T : Type 0} {eq : T → T → Bool} (laws : IsEquivalence eq) where
         total = omega (arith, same.holds.total);
         max_size = (steps_total own last adds.order adds.steps).1;
         sample_size = (steps_total own last adds.order adds.steps).2;
+        key = (steps_total own last adds.order adds.steps).3;
       } in
       record {
         own = own;
         same_own = same;
         more = more;
-        same_more = record { holds = record { counters = adds.same; error = refl; total = refl; max_size = refl; size = refl }; sample_size = refl };
+        same_more = record { holds = record { counters = adds.same; error = refl; total = refl; max_size = refl; size = refl }; sample_size = refl; key = refl };
         join = record { nothing = λ none. absurd (omega (arith, none, some)); added = λ _. subst (λ s. AddsAll eq own more s) (sym is) added };
       }
 

@@ -28,6 +28,7 @@ module _ {T : Type 0} {eq : T → T → Bool} (laws : IsEquivalence eq) where
   same_state_refl s = record {
     holds = record { counters = same_map_refl s.counters; error = refl; total = refl; max_size = refl; size = refl };
     sample_size = refl;
+    key = refl;
   }
 
   -- the same sketch is a state

@@ -5,7 +5,7 @@ use Rattle.std.proofs.lemmas.Bool.{cases_lt, le-ltb}
 use Rattle.std.proofs.lemmas.Bool.Decides.{nat_tests}
 use Rattle.std.proofs.lemmas.List.Sorted.{length_permutation, IsPermutation-trans}
 use Rattle.counter_table.specs.Tables.{Table, is_tracked, put, IsSampleMiddle}
-use Rattle.sketch_frequencies.specs.State.{FrequentState, IsState, capacity, must_grow, must_double}
+use Rattle.sketch_frequencies.specs.State.{FrequentState, IsState, capacity, must_grow, must_double, state_of}
 use Rattle.sketch_frequencies.specs.Steps.{Steps}
 use Rattle.sketch_frequencies.specs.Growth.{MakesRoom, Adds}
 use Rattle.sketch_frequencies.proofs.Cases.{by_cases}
@@ -54,14 +54,15 @@ step_with_room eq old new x w room adds = record {
   total = adds.total;
   max_size = adds.max_size;
   sample_size = adds.sample_size;
+  key = adds.key;
   kept = adds.kept;
   doubled = λ over _. absurd (omega (arith, over, length_put eq old.counters x w, room));
   purge = λ over _. absurd (omega (arith, over, length_put eq old.counters x w, room));
 }
 
 -- from what the table's call says of a tracked item
-pub adds_tracked : {T : Type 0} (eq : T → T → Bool) (old : FrequentState T) (x : T) (w : ℕ) (t : Table T) → IsState eq old → is_tracked eq old.counters x ≡ true → IsPermutation (put eq old.counters x w) t.entries → t.size ≡ old.size → Adds eq old x w (record { counters = t.entries; error = old.error; total = old.total + w; max_size = old.max_size; size = t.size; sample_size = old.sample_size })
-adds_tracked eq old x w t ok there p size = adds_kept eq old x w t p size (omega (arith, length_permutation (put eq old.counters x w) t.entries p, length_tracked eq old.counters x w there, ok.few, size))
+pub adds_tracked : {T : Type 0} (eq : T → T → Bool) (old : FrequentState T) (x : T) (w : ℕ) (t : Table T) → IsState eq old → is_tracked eq old.counters x ≡ true → IsPermutation (put eq old.counters x w) t.entries → t.size ≡ old.size → t.key ≡ old.key → Adds eq old x w (state_of t old.error (old.total + w) old.max_size old.sample_size)
+adds_tracked eq old x w t ok there p size key = adds_kept eq old x w t p size key (omega (arith, length_permutation (put eq old.counters x w) t.entries p, length_tracked eq old.counters x w there, ok.few, size))
 
 -- the step of a tracked item
 pub step_tracked : {T : Type 0} (eq : T → T → Bool) (old new : FrequentState T) (x : T) (w : ℕ) → IsState eq old → is_tracked eq old.counters x ≡ true → Adds eq old x w new → Steps eq old x w new
@@ -71,6 +72,7 @@ step_tracked eq old new x w ok there adds =
       total = adds.total;
       max_size = adds.max_size;
       sample_size = adds.sample_size;
+      key = adds.key;
       kept = adds.kept;
       doubled = λ over _. absurd (omega (arith, over, same, ok.few));
       purge = λ over _. absurd (omega (arith, over, same, ok.few));
@@ -109,6 +111,7 @@ module _ {T : Type 0} {eq : T → T → Bool} (laws : IsEquivalence eq) (old mid
     total = adds.total ∙ ap (λ n. n + w) made.total;
     max_size = adds.max_size ∙ made.max_size;
     sample_size = adds.sample_size ∙ made.sample_size;
+    key = adds.key ∙ made.key;
     kept = λ h.
         let same = stays h in
         let k = adds.kept (omega (arith, put_made_length, h, same)) in

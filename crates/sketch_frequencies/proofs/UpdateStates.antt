@@ -12,7 +12,7 @@ use Rattle.std.proofs.lemmas.Map.Keys.{IsDistinct-IsPermutation}
 use Rattle.std.specs.Prelude.{IsTrue}
 use Rattle.std.specs.Int.{is_power_of_two}
 use Rattle.counter_table.specs.Tables.{Table, put, sum_of, purged, IsSampleMiddle}
-use Rattle.sketch_frequencies.specs.State.{FrequentState, IsState, IsSampleSize, capacity}
+use Rattle.sketch_frequencies.specs.State.{FrequentState, IsState, IsSampleSize, capacity, state_of}
 use Rattle.sketch_frequencies.specs.Growth.{Adds}
 use Rattle.sketch_frequencies.proofs.Puts.{IsDistinct-put, positive-put, sum_of-put, length_put_le}
 use Rattle.sketch_frequencies.proofs.Permutations.{IsDistinct-purged, purged-permutation, IsSampleMiddle-permutation}
@@ -73,23 +73,25 @@ state_after {T} {eq} laws old new x w pos ok adds =
     })
 
 -- from what the table's calls say
-pub adds_kept : {T : Type 0} (eq : T → T → Bool) (old : FrequentState T) (x : T) (w : ℕ) (t : Table T) → IsPermutation (put eq old.counters x w) t.entries → t.size ≡ old.size → length t.entries ≤ capacity t.size → Adds eq old x w (record { counters = t.entries; error = old.error; total = old.total + w; max_size = old.max_size; size = t.size; sample_size = old.sample_size })
-adds_kept eq old x w t p size few = record {
+pub adds_kept : {T : Type 0} (eq : T → T → Bool) (old : FrequentState T) (x : T) (w : ℕ) (t : Table T) → IsPermutation (put eq old.counters x w) t.entries → t.size ≡ old.size → t.key ≡ old.key → length t.entries ≤ capacity t.size → Adds eq old x w (state_of t old.error (old.total + w) old.max_size old.sample_size)
+adds_kept eq old x w t p size key few = record {
   total = refl;
   max_size = refl;
   sample_size = refl;
+  key = key;
   kept = λ _. record { counters = p; error = refl; size = size };
   purge = λ over. absurd (omega (arith, over, few, length_permutation (put eq old.counters x w) t.entries p, size));
 }
 
-pub adds_purged : {T : Type 0} (eq : T → T → Bool) (old : FrequentState T) (x : T) (w : ℕ) (t u : Table T) (m n : ℕ) → IsPermutation (put eq old.counters x w) t.entries → t.size ≡ old.size → capacity t.size < length t.entries → old.size ≡ old.max_size → n ≡ old.sample_size → IsState eq old → IsSampleMiddle (min n (min (length t.entries) 1024)) t.entries m → IsPermutation (purged m t.entries) u.entries → u.size ≡ t.size → Adds eq old x w (record { counters = u.entries; error = old.error + m; total = old.total + w; max_size = old.max_size; size = u.size; sample_size = old.sample_size })
-adds_purged {T} eq old x w t u m n p size over same sample ok middle q size' =
+pub adds_purged : {T : Type 0} (eq : T → T → Bool) (old : FrequentState T) (x : T) (w : ℕ) (t u : Table T) (m n : ℕ) → IsPermutation (put eq old.counters x w) t.entries → t.size ≡ old.size → capacity t.size < length t.entries → old.size ≡ old.max_size → n ≡ old.sample_size → IsState eq old → IsSampleMiddle (min n (min (length t.entries) 1024)) t.entries m → IsPermutation (purged m t.entries) u.entries → u.size ≡ t.size → u.key ≡ old.key → Adds eq old x w (state_of u (old.error + m) (old.total + w) old.max_size old.sample_size)
+adds_purged {T} eq old x w t u m n p size over same sample ok middle q size' key =
     let c1 = put eq old.counters x w in
     let is : min n (min (length t.entries) 1024) ≡ old.sample_size = omega (arith, size, over, same, sample, ok.sample.greatest) in
     record {
       total = refl;
       max_size = refl;
       sample_size = refl;
+      key = key;
       kept = λ room. absurd (omega (arith, room, over, length_permutation c1 t.entries p, size));
       purge = λ _. record {
         m = m;
@@ -99,7 +101,7 @@ adds_purged {T} eq old x w t u m n p size over same sample ok middle q size' =
     }
 
 -- a table of another size with the same counters
-pub state_made : {T : Type 0} {eq : T → T → Bool} → IsEquivalence eq → (old : FrequentState T) (t : Table T) → IsState eq old → IsPermutation old.counters t.entries → t.size ≡ 2 * old.size → 2 * old.size ≤ old.max_size → 0 < old.total → IsState eq (record { counters = t.entries; error = old.error; total = old.total; max_size = old.max_size; size = t.size; sample_size = old.sample_size })
+pub state_made : {T : Type 0} {eq : T → T → Bool} → IsEquivalence eq → (old : FrequentState T) (t : Table T) → IsState eq old → IsPermutation old.counters t.entries → t.size ≡ 2 * old.size → 2 * old.size ≤ old.max_size → 0 < old.total → IsState eq (state_of t old.error old.total old.max_size old.sample_size)
 state_made {T} {eq} laws old t ok p size fits some =
     let key : T × ℕ → T = λ e. e.0 in
     let num : T × ℕ → ℕ = λ e. e.1 in

@@ -11,6 +11,7 @@ pub record MakesRoom {T : Type 0} (old new : FrequentState T) : Type 0 where
   pub total : new.total ≡ old.total
   pub max_size : new.max_size ≡ old.max_size
   pub sample_size : new.sample_size ≡ old.sample_size
+  pub key : new.key ≡ old.key
   pub doubled : must_grow old ≡ true → new.size ≡ 2 * old.size
   pub stays : must_grow old ≡ false → new.size ≡ old.size
 
@@ -20,6 +21,7 @@ module _ {T : Type 0} (eq : T → T → Bool) where
     pub total : new.total ≡ old.total + w
     pub max_size : new.max_size ≡ old.max_size
     pub sample_size : new.sample_size ≡ old.sample_size
+    pub key : new.key ≡ old.key
     pub kept :
         length (put eq old.counters x w) ≤ capacity old.size →
         Becomes (put eq old.counters x w) old.error old.size new

@@ -12,6 +12,7 @@ module _ {C : Type 0} (codec : Codec C) where
   SpelledIsImage = (image : List ℕ) (s : FrequentState C) → IsSpelled codec image s → IsImage codec image s
 
   -- no bytes are an image of two sketches, up to which of equal items they hold and up to their sample sizes
+  -- and keys
   abbrev pub ImageIsOfOne : Type 0
   ImageIsOfOne =
       (image : List ℕ) (s t : FrequentState C) → IsImage codec image s → IsImage codec image t →

@@ -1,11 +1,13 @@
--- A frequent-items sketch as its counters and five numbers.
+-- A frequent-items sketch as its counters, five numbers and the key of its table.
 use Rattle.std.specs.Prelude.{◌≡◌, ℕ, ◌+◌, ◌*◌, ◌/◌, ◌%◌, ◌^◌, ◌<◌, ◌≤◌, min, nat_lt, nat_le, not, ◌&&◌, Bool, IsTrue, List, [], length, All, if◌then◌else◌}
 use Rattle.std.specs.Int.{is_power_of_two}
 use Rattle.std.specs.List.{IsDistinct}
 use Rattle.std.specs.Map.{keys_of}
 use Rattle.counter_table.specs.Tables.{Table, count_by_key, count_of, is_tracked_by_key, is_tracked, sum_of}
+use Rattle.counter_table.specs.declared.table_key.TableKey.{TableKey}
 
--- the counters in some order, the error, the total, the maximum and the current size of the table, and the sample size
+-- the counters in some order, the error, the total, the maximum and the current size of the table, the sample size, and the
+-- key of the table
 pub record FrequentState (T : Type 0) : Type 0 where
   pub counters : List (T × ℕ)
   pub error : ℕ
@@ -13,6 +15,7 @@ pub record FrequentState (T : Type 0) : Type 0 where
   pub max_size : ℕ
   pub size : ℕ
   pub sample_size : ℕ
+  pub key : TableKey
 
 -- the counters of a table, with the other numbers
 abbrev pub state_of : {T : Type 0} → Table T → (error total max_size sample_size : ℕ) → FrequentState T
@@ -23,6 +26,7 @@ state_of map error total max_size sample_size = record {
   max_size = max_size;
   size = map.size;
   sample_size = sample_size;
+  key = map.key;
 }
 
 -- how many counters a table of this size may hold: three quarters
@@ -61,10 +65,17 @@ pub record IsState {T : Type 0} (eq : T → T → Bool) (s : FrequentState T) : 
   pub empty : s.total ≡ 0 → s.size ≡ 8
   pub sample : IsSampleSize s.max_size s.sample_size
 
--- the empty sketch of these sizes
-abbrev pub empty_state : {T : Type 0} → (max_size sample_size : ℕ) → FrequentState T
-empty_state max_size sample_size =
-    record { counters = []; error = 0; total = 0; max_size = max_size; size = 8; sample_size = sample_size }
+-- the empty sketch of these sizes under this key
+abbrev pub empty_state : {T : Type 0} → (max_size sample_size : ℕ) → TableKey → FrequentState T
+empty_state max_size sample_size key = record {
+  counters = [];
+  error = 0;
+  total = 0;
+  max_size = max_size;
+  size = 8;
+  sample_size = sample_size;
+  key = key;
+}
 
 -- the estimate of an item's weight: its count plus the error if it is tracked, else 0
 abbrev pub estimate_of : {T : Type 0} → (T → T → Bool) → FrequentState T → T → ℕ

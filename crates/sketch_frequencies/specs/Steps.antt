@@ -22,6 +22,7 @@ module _ {T : Type 0} (eq : T → T → Bool) where
     pub total : new.total ≡ old.total + w
     pub max_size : new.max_size ≡ old.max_size
     pub sample_size : new.sample_size ≡ old.sample_size
+    pub key : new.key ≡ old.key
     -- the counters fit
     pub kept :
         length (put eq old.counters x w) ≤ capacity old.size →
@@ -62,13 +63,14 @@ module _ {T : Type 0} (eq : T → T → Bool) where
     pub total : new.total ≡ old.total + other.total
     pub max_size : new.max_size ≡ old.max_size
     pub sample_size : new.sample_size ≡ old.sample_size
+    pub key : new.key ≡ old.key
 
   -- new is old after the other was merged into it; an empty other changes nothing
   pub record Joins (old other new : FrequentState T) : Type 0 where
     pub nothing : other.total ≡ 0 → new ≡ old
     pub added : 0 < other.total → AddsAll old other new
 
-  -- the same sketch, up to which of equal items it holds and up to its sample size: what an image states
+  -- the same sketch, up to which of equal items it holds and up to its sample size and its key: what an image states
   pub record HoldsSame (s t : FrequentState T) : Type 0 where
     pub counters : IsSameMap eq s.counters t.counters
     pub error : t.error ≡ s.error
@@ -80,6 +82,7 @@ module _ {T : Type 0} (eq : T → T → Bool) where
   pub record IsSameState (s t : FrequentState T) : Type 0 where
     pub holds : HoldsSame s t
     pub sample_size : t.sample_size ≡ s.sample_size
+    pub key : t.key ≡ s.key
 
   -- new is old after the other was merged into it, up to which of equal items both hold
   pub record JoinsEqual (old other new : FrequentState T) : Type 0 where

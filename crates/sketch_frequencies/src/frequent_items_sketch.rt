@@ -2,6 +2,7 @@
 ghost use Rattle.std.specs.Prelude.{◌≡◌, ◌+◌, ◌<◌, ◌≤◌, ◌^◌, ◌↔◌, None, length, IfOk, IfErr, IsOk, OnErr, OnOk, IsTrue};
 ghost use Rattle.sketch_base.specs.Errors.{invalid_argument, no_memory, refusal_of};
 ghost use Rattle.counter_table.specs.Bytes.{table_bytes};
+ghost use Rattle.counter_table.specs.declared.table_key.TableKey.TheVariants.{Plain};
 ghost use Rattle.sketch_frequencies.specs.History.{FrequentHistory, total_weight};
 ghost use Rattle.sketch_frequencies.specs.History.FrequentHistory.{New, Merge, Reset};
 ghost use Rattle.sketch_frequencies.specs.Sizes.{sample_fault, size_fault, sizes_fault};
@@ -81,7 +82,7 @@ impl<T: Eq + Hash + Drop> FrequentItemsSketch<T> {
     /// Returns `MapSizeNotPowerOfTwo`, `MapSizeTooSmall` below 8 or `MapSizeTooLarge` above 2^30, checked in this order.
     /// Returns `NoMemory` if the table cannot be allocated.
     pub fn new(alloc: Global, max_map_size: usize) -> Result<Self, Error>
-        ensures ok { IfOk result (λ sketch. sketch ≡ empty_state max_map_size (max_sample_size max_map_size)) }
+        ensures ok { IfOk result (λ sketch. sketch ≡ empty_state max_map_size (max_sample_size max_map_size) Plain) }
         ensures state { IfOk result (λ sketch. IsState T.eq sketch) }
         ensures stands { IfOk result (λ sketch.
             StandsFor T.eq sketch (New max_map_size (max_sample_size max_map_size))) }
@@ -108,7 +109,7 @@ impl<T: Eq + Hash + Drop> FrequentItemsSketch<T> {
         max_map_size: usize,
         sample_size: usize,
     ) -> Result<Self, Error>
-        ensures ok { IfOk result (λ sketch. sketch ≡ empty_state max_map_size sample_size) }
+        ensures ok { IfOk result (λ sketch. sketch ≡ empty_state max_map_size sample_size Plain) }
         ensures state { IfOk result (λ sketch. IsState T.eq sketch) }
         ensures stands { IfOk result (λ sketch. StandsFor T.eq sketch (New max_map_size sample_size)) }
         ensures budget { IfOk result (λ sketch. KeepsTailBudget T.eq sketch (New max_map_size sample_size)) }
@@ -139,7 +140,7 @@ impl<T: Eq + Hash + Drop> FrequentItemsSketch<T> {
     /// }
     /// ```
     pub fn with_key(alloc: Global, max_map_size: usize, key: TableKey) -> Result<Self, Error>
-        ensures ok { IfOk result (λ sketch. sketch ≡ empty_state max_map_size (max_sample_size max_map_size)) }
+        ensures ok { IfOk result (λ sketch. sketch ≡ empty_state max_map_size (max_sample_size max_map_size) key) }
         ensures state { IfOk result (λ sketch. IsState T.eq sketch) }
         ensures stands { IfOk result (λ sketch.
             StandsFor T.eq sketch (New max_map_size (max_sample_size max_map_size))) }
@@ -163,7 +164,7 @@ impl<T: Eq + Hash + Drop> FrequentItemsSketch<T> {
         sample_size: usize,
         key: TableKey,
     ) -> Result<Self, Error>
-        ensures ok { IfOk result (λ sketch. sketch ≡ empty_state max_map_size sample_size) }
+        ensures ok { IfOk result (λ sketch. sketch ≡ empty_state max_map_size sample_size key) }
         ensures state { IfOk result (λ sketch. IsState T.eq sketch) }
         ensures stands { IfOk result (λ sketch. StandsFor T.eq sketch (New max_map_size sample_size)) }
         ensures budget { IfOk result (λ sketch. KeepsTailBudget T.eq sketch (New max_map_size sample_size)) }
@@ -187,7 +188,7 @@ impl<T: Eq + Hash + Drop> FrequentItemsSketch<T> {
         sizes: FrequentItemsSizes,
         key: TableKey,
     ) -> Result<Self, Error>
-        ensures ok { IfOk result (λ sketch. sketch ≡ empty_state sizes.max_map_size sizes.sample_size) }
+        ensures ok { IfOk result (λ sketch. sketch ≡ empty_state sizes.max_map_size sizes.sample_size key) }
         ensures state { IfOk result (λ sketch. IsState T.eq sketch) }
         ensures stands { IfOk result (λ sketch. StandsFor T.eq sketch (New sizes.max_map_size sizes.sample_size)) }
         ensures budget { IfOk result (λ sketch.
@@ -207,15 +208,19 @@ impl<T: Eq + Hash + Drop> FrequentItemsSketch<T> {
         })
     }
 
-    /// Removes all items, and sets the total weight and the error to 0. Keeps the maximum size and the sample size.
+    /// Removes all items, and sets the total weight and the error to 0. Keeps the maximum size, the sample size and the key.
     ///
     /// Does not allocate. The table keeps its array and uses 8 slots of it. When the table next doubles, it allocates an array
     /// of the new size and frees the kept one.
     pub fn reset(&mut self)
-        ensures empty { self.new ≡ empty_state self.old.max_size self.old.sample_size }
+        ensures empty { self.new ≡ empty_state self.old.max_size self.old.sample_size self.old.key }
         ensures state { IsState T.eq self.new }
         ensures stands { Extends T.eq self.old self.new Reset }
         ensures budget { (h : FrequentHistory T) → KeepsTailBudget T.eq self.new (Reset h) }
+
+        // Whatever came before, also an untrusted image, the sketch represents the history of a new one.
+        ensures renewed { StandsFor T.eq self.new (New self.old.max_size self.old.sample_size) }
+        ensures renewed_budget { KeepsTailBudget T.eq self.new (New self.old.max_size self.old.sample_size) }
     {
         self.map.clear(MIN_MAP_SIZE);
         self.error = 0;
@@ -275,6 +280,13 @@ impl<T: Eq + Hash + Drop> FrequentItemsSketch<T> {
         ensures { result ≡ self.now.sample_size }
     {
         self.sample_size
+    }
+
+    /// Returns the key under which the table hashes.
+    pub fn key(&self) -> TableKey
+        ensures { result ≡ self.now.key }
+    {
+        self.map.key()
     }
 
     /// Sets the number of counters that later purges sample: an even number from 2 to three quarters of the maximum table

@@ -3,6 +3,7 @@
 //! The laws are about the states that contracts of [`FrequentItemsSketch`] name. Laws of images have an item's contents
 //! instead of the item.
 ghost use Rattle.std.specs.Prelude.{◌≡◌, ℕ, ◌*◌, ◌<◌, ◌≤◌, IfOk, IfErr};
+ghost use Rattle.counter_table.specs.declared.table_key.TableKey.TheVariants.{Plain};
 ghost use Rattle.sketch_frequencies.specs.History.{FrequentHistory, budget_size, min_size, min_sample, total_weight, HasUsualSamples};
 ghost use Rattle.sketch_frequencies.specs.Image.{IsImageWritingRefusal};
 ghost use Rattle.sketch_frequencies.specs.Laws.{SpelledIsImage, ImageIsOfOne, ImageIsOfSome, ImageIsWithinTotal};
@@ -20,7 +21,7 @@ use std::alloc::Global;
 /// Proves the laws of images.
 ///
 /// The bytes that `serialize` writes are an image of the sketch (`spelled`). Two sketches with the same image differ at most
-/// in their sample sizes and in which of equal items they hold (`one`). Bytes are an image of some sketch exactly if no check
+/// in their sample sizes, in their keys and in which of equal items they hold (`one`). Bytes are an image of some sketch exactly if no check
 /// fails (`some`). For every image, also an untrusted one, the counts plus the error are at most the total (`within`).
 pub fn image_laws<T: FrequentItemValue>()
     ensures spelled { SpelledIsImage T.codec }
@@ -68,7 +69,7 @@ pub fn stream_bounds<T: Eq>()
 /// Writes an image of the sketch and reads it again.
 ///
 /// The result has the same counters, error, total and sizes, and may hold other items that are equal to the sketch's. Its
-/// sample size is that of a sketch that `new` creates with its maximum size.
+/// sample size and its key are those of a sketch that `new` creates with its maximum size.
 ///
 /// # Errors
 ///
@@ -79,6 +80,7 @@ pub fn restored<T: FrequentItemValue + Drop>(
 ) -> Result<FrequentItemsSketch<T>, Error>
     ensures same { IfOk result (λ copy. HoldsSame T.eq sketch.now copy) }
     ensures sample { IfOk result (λ copy. copy.sample_size ≡ max_sample_size sketch.now.max_size) }
+    ensures key { IfOk result (λ copy. copy.key ≡ Plain) }
     ensures err { IfErr result (IsImageWritingRefusal T.codec T.content sketch.now.counters) }
 {
     let image = sketch.serialize()?;

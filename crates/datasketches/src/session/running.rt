@@ -1,9 +1,10 @@
 //! Running the commands of a session.
-ghost use Rattle.std.specs.Prelude.{◌≡◌, List, Result, true, IfOk, IfErr, OnErr, IsTrue};
+ghost use Rattle.std.specs.Prelude.{◌≡◌, List, Result, true, IfOk, IfErr, OnErr, OnOk, IsTrue};
 ghost use Rattle.sketch_base.specs.Errors.{no_memory};
 ghost use Rattle.counter_table.specs.Bytes.{option_bytes};
 ghost use Rattle.datasketches.specs.Actions.{action_of};
 ghost use Rattle.datasketches.specs.SessionStandsFor.{SessionStandsFor};
+ghost use Rattle.datasketches.specs.Hashing.{HasOneKey};
 ghost use Rattle.datasketches.specs.Histories.{Assignment, History, after_one, after_one_told, after, after_told};
 ghost use Rattle.datasketches.specs.Loading.{IsTold, AreTold};
 ghost use Rattle.datasketches.specs.Performed.{Performed};
@@ -13,7 +14,7 @@ ghost use Rattle.datasketches.specs.Steps.{Step, Run};
 
 use crate::command::Command;
 use crate::reply::{Refusal, Reply};
-use crate::session::Session;
+use crate::session::{Session, told};
 use sketch_base::Error;
 use sketch_bloom::BloomFilterBuilder;
 use sketch_countmin::CountMinSizes;
@@ -32,6 +33,8 @@ impl<T: FrequentItemValue + Clone + Drop> Session<T> {
         ensures told { (a : Assignment T) (loaded : History T) → SessionStandsFor T.eq T.codec T.content self.old a
             → IsTold T.eq T.codec T.content command loaded
             → SessionStandsFor T.eq T.codec T.content self.new (after_one_told T.hash_input a command loaded result) }
+        ensures key { self.new.key ≡ self.old.key }
+        ensures keyed { HasOneKey self.old → HasOneKey self.new }
         ensures refused { is_refused result ≡ true → IsUnchanged self.old self.new }
     {
         self.perform(command)
@@ -172,6 +175,8 @@ impl<T: FrequentItemValue + Clone + Drop> Session<T> {
         ensures told { IfOk result (λ replies. (a : Assignment T) (loaded : List (History T))
             → SessionStandsFor T.eq T.codec T.content self.old a → AreTold T.eq T.codec T.content commands.items loaded
             → SessionStandsFor T.eq T.codec T.content self.new (after_told T.hash_input a commands.items loaded replies.items)) }
+        ensures key { OnOk result (self.new.key ≡ self.old.key) }
+        ensures keyed { OnOk result (HasOneKey self.old → HasOneKey self.new) }
         ensures err { OnErr result (self.new ≡ self.old) }
         ensures memory { IfErr result (λ e. e ≡ no_memory) }
     {
@@ -181,15 +186,5 @@ impl<T: FrequentItemValue + Clone + Drop> Session<T> {
             replies.push_reserved(reply);
         }
         Ok(replies)
-    }
-}
-
-/// Returns the reply, or `Refused` with the reason.
-fn told<T>(given: Result<Reply<T>, Refusal>) -> Reply<T>
-    ensures { result ≡ told given }
-{
-    match given {
-        Ok(reply) => reply,
-        Err(refusal) => Reply::Refused(refusal),
     }
 }

@@ -2,6 +2,7 @@
 ghost use Rattle.std.specs.Prelude.{◌≡◌, ◌<◌, ◌≤◌, ℕ, List, None, length, take, drop, IfOk, IfErr, IfSome, IsOk, OnErr};
 ghost use Rattle.sketch_base.specs.Checks.{IsImageRefusal};
 ghost use Rattle.counter_table.specs.Bytes.{table_bytes};
+ghost use Rattle.counter_table.specs.declared.table_key.TableKey.TheVariants.{Plain};
 ghost use Rattle.sketch_frequencies.specs.Image.{IsImageOf, IsSpelledFor, IsImageWritingRefusal, Restores, RestoresBudget, early_fault, first_fault, limit_fault, early_fault_within, first_fault_within, prefix_bytes};
 ghost use Rattle.sketch_frequencies.specs.Memory.{owned_by, memory_bytes};
 ghost use Rattle.sketch_frequencies.specs.State.{IsState, max_sample_size};
@@ -149,6 +150,7 @@ impl<T: FrequentItemValue + Drop> FrequentItemsSketch<T> {
         ensures image { IfOk result (λ sketch. IsImageOf T.codec T.content image.now sketch) }
         ensures state { IfOk result (λ sketch. IsState T.eq sketch) }
         ensures sample { IfOk result (λ sketch. sketch.sample_size ≡ max_sample_size sketch.max_size) }
+        ensures key { IfOk result (λ sketch. sketch.key ≡ Plain) }
         ensures stands { IfOk result (λ sketch. Restores T.codec T.content T.eq image.now sketch) }
         ensures budget { IfOk result (λ sketch. RestoresBudget T.codec T.content T.eq image.now sketch) }
         ensures err { IfErr result (IsImageRefusal (early_fault image.now) (first_fault T.codec image.now)) }
@@ -193,6 +195,7 @@ impl<T: FrequentItemValue + Drop> FrequentItemsSketch<T> {
         ensures image { IfOk result (λ sketch. IsImageOf T.codec T.content image.now sketch) }
         ensures state { IfOk result (λ sketch. IsState T.eq sketch) }
         ensures sample { IfOk result (λ sketch. sketch.sample_size ≡ max_sample_size sketch.max_size) }
+        ensures key { IfOk result (λ sketch. sketch.key ≡ Plain) }
         ensures stands { IfOk result (λ sketch. Restores T.codec T.content T.eq image.now sketch) }
         ensures budget { IfOk result (λ sketch. RestoresBudget T.codec T.content T.eq image.now sketch) }
         ensures within { IfOk result (λ sketch.
@@ -237,6 +240,7 @@ impl<T: FrequentItemValue + Drop> FrequentItemsSketch<T> {
         ensures image { IfOk result (λ sketch. IsImageOf T.codec T.content image.now sketch) }
         ensures state { IfOk result (λ sketch. IsState T.eq sketch) }
         ensures sample { IfOk result (λ sketch. sketch.sample_size ≡ max_sample_size sketch.max_size) }
+        ensures key { IfOk result (λ sketch. sketch.key ≡ key) }
         ensures stands { IfOk result (λ sketch. Restores T.codec T.content T.eq image.now sketch) }
         ensures budget { IfOk result (λ sketch. RestoresBudget T.codec T.content T.eq image.now sketch) }
         ensures within { IfOk result (λ sketch.
@@ -266,6 +270,7 @@ impl<T: FrequentItemValue + Drop> FrequentItemsSketch<T> {
         ensures image { IfOk result (λ r. IsImageOf T.codec T.content image.now r.0) }
         ensures state { IfOk result (λ r. IsState T.eq r.0) }
         ensures sample { IfOk result (λ r. r.0.sample_size ≡ max_sample_size r.0.max_size) }
+        ensures key { IfOk result (λ r. r.0.key ≡ key) }
         ensures stands { IfOk result (λ r. Restores T.codec T.content T.eq image.now r.0) }
         ensures budget { IfOk result (λ r. RestoresBudget T.codec T.content T.eq image.now r.0) }
         ensures used { IfOk result (λ r. r.1 ≡ prefix_bytes T.codec image.now) }

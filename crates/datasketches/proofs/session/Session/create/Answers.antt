@@ -11,4 +11,4 @@ keep-requires g c = record { free = free _ _ c.if-contains_name.false c.contains
 pub returns : goal.returns
 returns g c =
     let e = c.create-made.ensures in
-    creates _ g.T.PartialEq.eq g.T.Hash.hash_input g.T.FrequentItemValue.codec g.T.FrequentItemValue.content (g.S.NewSketch.shape c.args.sizes) c.args.name.now _ c.args.self.now _ _ _ c.self.view_is (free _ _ c.if-contains_name.false c.contains_name.ensures) e.ok e.stands e.accepted e.refused c.keep.ensures (λ name. refl)
+    creates _ g.T.PartialEq.eq g.T.Hash.hash_input g.T.FrequentItemValue.codec g.T.FrequentItemValue.content (g.S.NewSketch.shape c.args.sizes) c.args.name.now _ c.args.self.now _ _ _ c.self.view_is (free _ _ c.if-contains_name.false c.contains_name.ensures) e.ok e.stands e.accepted e.refused c.keep.ensures (record { images = λ name. refl; key = refl })

@@ -11,4 +11,4 @@ keep-requires g c = record { free = free _ _ c.if-contains_name.false c.contains
 pub returns : goal.returns
 returns g c =
     let e = c.load-read.ensures in
-    loads _ g.T.PartialEq.eq g.T.Hash.hash_input g.T.FrequentItemValue.codec g.T.FrequentItemValue.content c.args.kind c.args.image.now c.args.max_bytes c.args.name.now _ c.args.self.now _ _ _ c.self.view_is (free _ _ c.if-contains_name.false c.contains_name.ensures) e.read e.stands e.within e.accepted e.refused c.keep.ensures (λ name. refl)
+    loads _ g.T.PartialEq.eq g.T.Hash.hash_input g.T.FrequentItemValue.codec g.T.FrequentItemValue.content c.args.kind c.args.image.now c.args.max_bytes c.args.name.now _ c.args.self.now _ _ _ c.self.view_is (free _ _ c.if-contains_name.false c.contains_name.ensures) e.read e.stands e.keyed e.within e.accepted e.refused c.keep.ensures (record { images = λ name. refl; key = refl })

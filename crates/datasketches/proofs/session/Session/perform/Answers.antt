@@ -18,4 +18,4 @@ returns-in-Insert g c =
 pub returns-in-Ask : goal.returns-in-Ask
 returns-in-Ask g c =
     rw (c.in-Ask.is, c.told.ensures)
-    (rw c.as_str-in-Ask.ensures.value at (c.ask.ensures c.in-Ask.item (g.met.T.Eq.laws.refl c.in-Ask.item)))
+    (rw c.as_str-in-Ask.ensures.value at (c.ask.ensures.performed c.in-Ask.item (g.met.T.Eq.laws.refl c.in-Ask.item)))

@@ -11,4 +11,4 @@ keep-requires g c = record { free = free _ _ c.if-contains_name.false c.contains
 pub returns : goal.returns
 returns g c =
     let e = c.save-saved.ensures in
-    saves _ g.T.PartialEq.eq g.T.Hash.hash_input g.T.FrequentItemValue.codec g.T.FrequentItemValue.content c.args.name.now c.args.image.now _ c.args.self.now _ c.in-Some.sketch.now _ _ c.self.view_is c.in-Some.ensures (free _ _ c.if-contains_name.false c.contains_name.ensures) e.written e.refused c.keep.ensures (λ name. refl)
+    saves _ g.T.PartialEq.eq g.T.Hash.hash_input g.T.FrequentItemValue.codec g.T.FrequentItemValue.content c.args.name.now c.args.image.now _ c.args.self.now _ c.in-Some.sketch.now _ _ c.self.view_is c.in-Some.ensures (free _ _ c.if-contains_name.false c.contains_name.ensures) e.written e.refused c.keep.ensures (λ name. refl) refl

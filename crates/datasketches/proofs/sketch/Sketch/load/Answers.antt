@@ -12,10 +12,10 @@ unfolding table_bytes
 returns-in-Ok-clause-within g c = c.in-Ok.ensures.within
 
 pub returns-in-Ok-clause-stands : goal.returns-in-Ok-clause-stands
-returns-in-Ok-clause-stands g c = rw c.in-Frequent.is (frequent_back g.T.PartialEq.eq g.T.FrequentItemValue.codec g.T.FrequentItemValue.content c.args.bytes.now c.image_laws.ensures.spelled c.in-Ok.ensures.state c.in-Ok.ensures.stands c.in-Ok.ensures.budget)
+returns-in-Ok-clause-stands g c = rw c.in-Frequent.is (frequent_back g.T.PartialEq.eq g.T.FrequentItemValue.codec g.T.FrequentItemValue.content c.args.bytes.now c.image_laws.ensures.spelled (c.in-Ok.ensures.image, c.in-Ok.ensures.sample) c.in-Ok.ensures.state c.in-Ok.ensures.stands c.in-Ok.ensures.budget)
 
 pub returns-in-Ok-deserialize_with_limit-clause-stands : goal.returns-in-Ok-deserialize_with_limit-clause-stands
-returns-in-Ok-deserialize_with_limit-clause-stands g c = rw c.in-Bloom.is (filter_back g.T.PartialEq.eq g.T.FrequentItemValue.codec g.T.FrequentItemValue.content c.args.bytes.now c.image_laws-in-Bloom.ensures.spelled c.in-Ok-deserialize_with_limit.ensures.state c.in-Ok-deserialize_with_limit.ensures.stands)
+returns-in-Ok-deserialize_with_limit-clause-stands g c = rw c.in-Bloom.is (filter_back g.T.PartialEq.eq g.T.FrequentItemValue.codec g.T.FrequentItemValue.content c.args.bytes.now c.image_laws-in-Bloom.ensures.spelled c.in-Ok-deserialize_with_limit.ensures.image c.in-Ok-deserialize_with_limit.ensures.state c.in-Ok-deserialize_with_limit.ensures.stands)
 
 pub returns-in-Ok-deserialize_with_limit-clause-within : goal.returns-in-Ok-deserialize_with_limit-clause-within
 returns-in-Ok-deserialize_with_limit-clause-within g c = c.in-Ok-deserialize_with_limit.ensures.within

@@ -12,8 +12,11 @@ found g c =
 size : (g : given.Over) (c : goal.After-merged g) → c.args.self.now.max_map_size ≡ c.self.inside.max_map_size
 size g c = ap (λ (s : WindowsState g.row.T.Denot). s.max_map_size) (sym c.self.view_is)
 
+key : (g : given.Over) (c : goal.After-merged g) → c.args.self.now.key ≡ c.self.inside.key
+key g c = ap (λ (s : WindowsState g.row.T.Denot). s.key) (sym c.self.view_is)
+
 pub returns-in-Some-clause-merged : goal.returns-in-Some-clause-merged
-returns-in-Some-clause-merged g c = rw (found g c, size g c) c.merged.ensures.merged
+returns-in-Some-clause-merged g c = rw (found g c, size g c, key g c) c.merged.ensures.merged
 
 pub returns-in-Some-clause-overflow : goal.returns-in-Some-clause-overflow
 returns-in-Some-clause-overflow g c = rw (found g c) c.merged.ensures.overflow

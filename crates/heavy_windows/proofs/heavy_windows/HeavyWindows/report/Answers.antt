@@ -10,6 +10,7 @@ pub returns : goal.returns
 returns g c =
     let eq = g.T.PartialEq.eq in
     let size = c.args.self.now.max_map_size in
+    let key = c.args.self.now.key in
     let windows = at_tenant c.args.tenant c.args.self.now in
     let threshold = c.args.threshold in
     let merged = c.in_ok-merged.ensures.merged in
@@ -19,10 +20,10 @@ returns g c =
       call = record {
         ok = record { merged = c.in_ok-merged.merged; is_merged = merged; rows = rows.exact; descending = rows.descending; error = error; total = c.total_weight.ensures };
         total = λ hs stand. c.total_weight.ensures ∙ (merged.stands hs stand).encloses.total;
-        encloses = rows_enclose eq c.args.error_type threshold size windows c.in_ok-merged.merged c.in_ok-rows.rows.items merged rows.exact;
+        encloses = rows_enclose eq c.args.error_type threshold size key windows c.in_ok-merged.merged c.in_ok-rows.rows.items merged rows.exact;
         none_missing = λ kind hs stand x above. rows.none_missing kind (report_history size hs) (merged.stands hs stand).encloses x (subst (λ e. max threshold e < true_weight eq (report_history size hs) x) error above);
         none_below = λ kind hs stand. subst (λ e. All (λ row. max threshold e < true_weight eq (report_history size hs) row.item) c.in_ok-rows.rows.items) (sym error) (rows.none_below kind (report_history size hs) (merged.stands hs stand).encloses);
-        budget = paid_by_tail eq size windows c.in_ok-merged.merged merged c.maximum_error.result error;
+        budget = paid_by_tail eq size key windows c.in_ok-merged.merged merged c.maximum_error.result error;
         overflow = search rules;
         memory = λ _. tt;
       };

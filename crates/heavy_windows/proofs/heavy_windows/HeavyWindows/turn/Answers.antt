@@ -4,18 +4,18 @@ use Rattle.std.proofs.lemmas.Result.{err_from_is_err_and, on_ok_weaker, on_err_w
 use Rattle.std.specs.Result.{OnOk}
 use Rattle.heavy_windows.specs.Histories.{turned_history}
 use Rattle.heavy_windows.specs.Stands.{ExtendsEach}
-use Rattle.heavy_windows.specs.State.{WindowsState, IsWindows, at_tenant}
+use Rattle.heavy_windows.specs.State.{WindowsState, IsWindows, at_tenant, windows_of}
 use Rattle.heavy_windows.proofs.Kept.{kept_either}
 use Rattle.heavy_windows.proofs.Standing.{fresh_window, opened_at}
-use Rattle.heavy_windows.proofs.Tenants.{PutsWindows, state_of, kept_of, put_in, put_at, put_kept, put_others_of, put_back, same_changes}
+use Rattle.heavy_windows.proofs.Tenants.{PutsWindows, kept_of, put_in, put_at, put_kept, put_others_of, put_back, same_changes}
 use Rattle.heavy_windows.proofs.heavy_windows.HeavyWindows.turn.Given as given
 use Rattle.heavy_windows.proofs.heavy_windows.HeavyWindows.turn.Goals as goal
 
 -- a window was refused: the windows were written back as they were
 same : (g : given.Over) (c : goal.After-from_residual g)
-    → state_of c.self.inside.limit c.self.inside.max_map_size (c.get_mut.follows.lender c.in-Some.windows.now).entries ≡ c.args.self.now
+    → windows_of c.self.inside.limit c.self.inside.max_map_size c.self.inside.key (c.get_mut.follows.lender c.in-Some.windows.now) ≡ c.args.self.now
 same g c =
-    put_back c.args.tenant c.self.inside.limit c.self.inside.max_map_size c.self.inside.tenants.entries (c.get_mut.follows.lender c.in-Some.windows.now).entries c.in-Some.windows.now c.args.self.now c.self.view_is (sym c.in-Some.ensures.value) (c.get_mut.follows.holds c.in-Some.windows.now).0
+    put_back c.args.tenant c.self.inside.limit c.self.inside.max_map_size c.self.inside.key c.self.inside.tenants (c.get_mut.follows.lender c.in-Some.windows.now) c.in-Some.windows.now c.args.self.now c.self.view_is (sym c.in-Some.ensures.value) (c.get_mut.follows.holds c.in-Some.windows.now).0 (c.get_mut.follows.holds c.in-Some.windows.now).5
 
 pub invariant_of-self-in_err-window : goal.invariant_of-self-in_err-window
 invariant_of-self-in_err-window g c =
@@ -38,16 +38,16 @@ returns-in_err-window-clause-call g c = record {
 
 -- the windows were turned, or left as they were
 put : (g : given.Over) (c : goal.After-self-2-1 g)
-    → PutsWindows c.args.tenant c.turn.new.self (state_of c.self.inside.limit c.self.inside.max_map_size c.self.inside.tenants.entries) (state_of c.self.inside.limit c.self.inside.max_map_size (c.get_mut.follows.lender c.turn.new.self).entries)
-put g c = put_in c.args.tenant _ _ _ _ c.turn.new.self ((c.get_mut.follows.holds c.turn.new.self).3 (rw (sym c.in-Some.ensures.value) refl)).0
+    → PutsWindows c.args.tenant c.turn.new.self (windows_of c.self.inside.limit c.self.inside.max_map_size c.self.inside.key c.self.inside.tenants) (windows_of c.self.inside.limit c.self.inside.max_map_size c.self.inside.key (c.get_mut.follows.lender c.turn.new.self))
+put g c = put_in c.args.tenant _ _ _ c.self.inside.tenants (c.get_mut.follows.lender c.turn.new.self) c.turn.new.self ((c.get_mut.follows.holds c.turn.new.self).3 (rw (sym c.in-Some.ensures.value) refl)).0 (c.get_mut.follows.holds c.turn.new.self).5
 
 pub invariant_of-self-2 : goal.invariant_of-self-2
 invariant_of-self-2 g c =
-    let old = state_of c.self.inside.limit c.self.inside.max_map_size c.self.inside.tenants.entries in
+    let old = windows_of c.self.inside.limit c.self.inside.max_map_size c.self.inside.key c.self.inside.tenants in
     put_kept c.args.tenant c.turn.new.self old _ (put g c)
-    (kept_either c.self.inside.limit c.self.inside.max_map_size c.in-Some.windows.now c.turn.new.self c.in_ok-window.window c.turn.result
+    (kept_either c.self.inside.limit c.self.inside.max_map_size c.self.inside.key c.in-Some.windows.now c.turn.new.self c.in_ok-window.window c.turn.result
     (kept_of c.args.tenant old c.in-Some.windows.now c.self.invariant (sym c.in-Some.ensures.value))
-    (ap (λ s. s.max_size) c.in_ok-window.ensures.ok) c.turn.ensures.turned c.turn.ensures.err)
+    (record { size_is = ap (λ s. s.max_size) c.in_ok-window.ensures.ok; key_is = ap (λ s. s.key) c.in_ok-window.ensures.ok }) c.turn.ensures.turned c.turn.ensures.err)
     c.self.invariant
 
 pub returns-clause-state : goal.returns-clause-state
@@ -56,7 +56,7 @@ returns-clause-state g c = invariant_of-self-2 g c
 pub returns-clause-call : goal.returns-clause-call
 returns-clause-call g c =
     let tenant = c.args.tenant in
-    let new = state_of c.self.inside.limit c.self.inside.max_map_size (c.get_mut.follows.lender c.turn.new.self).entries in
+    let new = windows_of c.self.inside.limit c.self.inside.max_map_size c.self.inside.key (c.get_mut.follows.lender c.turn.new.self) in
     let before = ap (λ o. unwrap_or o []) (sym c.in-Some.ensures.value) in
     let after = put_at tenant c.turn.new.self _ new (put g c) in
     record {
@@ -69,7 +69,7 @@ returns-clause-call g c =
       others = put_others_of tenant c.turn.new.self _ c.args.self.now _ c.self.view_is (put g c);
       unknown = search rules;
       err = on_err_weaker c.turn.result
-          (λ e. put_back tenant c.self.inside.limit c.self.inside.max_map_size c.self.inside.tenants.entries (c.get_mut.follows.lender c.turn.new.self).entries c.in-Some.windows.now c.args.self.now c.self.view_is (sym c.in-Some.ensures.value) (rw e (c.get_mut.follows.holds c.in-Some.windows.now).0))
+          (λ e. put_back tenant c.self.inside.limit c.self.inside.max_map_size c.self.inside.key c.self.inside.tenants (c.get_mut.follows.lender c.turn.new.self) c.in-Some.windows.now c.args.self.now c.self.view_is (sym c.in-Some.ensures.value) (rw e (c.get_mut.follows.holds c.in-Some.windows.now).0) (c.get_mut.follows.holds c.turn.new.self).5)
           c.turn.ensures.err;
       memory = search rules;
     }

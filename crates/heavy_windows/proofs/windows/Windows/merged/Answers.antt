@@ -22,7 +22,7 @@ returns-in_err-merge-clause-memory g c = λ below.
     let newest = c.self.inside.newest in
     let left = subst (λ l. Continues eq c.in_ok-merged.merged c.args.self.now c.loop-window.merged (l ++ newest ∷ [])) c.in-Some.ensures.steps c.loop-window.invariant.2 in
     let p = err_from_is_err_and c.from_residual-in_err-merge.result c.from_residual-in_err-merge.ensures.1 in
-    rw (p.1, p.2) (c.in_err-merge.ensures.memory (next_fits eq c.args.max_map_size c.in_ok-merged.merged c.loop-window.merged c.in-Some.window.now c.args.self.now (deque_iter_rest c.next.new.self ++ newest ∷ []) c.in_ok-merged.ensures.ok below left))
+    rw (p.1, p.2) (c.in_err-merge.ensures.memory (next_fits eq c.args.max_map_size c.args.key c.in_ok-merged.merged c.loop-window.merged c.in-Some.window.now c.args.self.now (deque_iter_rest c.next.new.self ++ newest ∷ []) c.in_ok-merged.ensures.ok below left))
 
 pub returns-clause-merged : goal.returns-clause-merged
 returns-clause-merged g c =
@@ -33,7 +33,7 @@ returns-clause-merged g c =
     let left = one_left eq first c.loop-window.merged newest windows (deque_iter_rest c.loop-window.window-iterator) c.in-None.ensures.steps.0 c.loop-window.invariant.2 in
     let done = goes_on eq first c.loop-window.merged c.merge-2.new.self newest windows [] left
     (record { join = c.in_ok-merge-2.ensures.join; stands = c.in_ok-merge-2.ensures.stands; budget = c.in_ok-merge-2.ensures.budget }) in
-    chain_merged eq c.args.max_map_size first windows c.merge-2.new.self c.in_ok-merged.ensures.ok (ends_so eq first c.merge-2.new.self windows done) c.merge-2.ensures.state c.in_ok-merged.ensures.stands c.in_ok-merged.ensures.budget
+    chain_merged eq c.args.max_map_size c.args.key first windows c.merge-2.new.self c.in_ok-merged.ensures.ok (ends_so eq first c.merge-2.new.self windows done) c.merge-2.ensures.state c.in_ok-merged.ensures.stands c.in_ok-merged.ensures.budget
 
 pub returns-in_err-merge-2-clause-memory : goal.returns-in_err-merge-2-clause-memory
 returns-in_err-merge-2-clause-memory g c = λ below.
@@ -43,7 +43,7 @@ returns-in_err-merge-2-clause-memory g c = λ below.
     let windows = c.args.self.now in
     let left = one_left eq first c.loop-window.merged newest windows (deque_iter_rest c.loop-window.window-iterator) c.in-None.ensures.steps.0 c.loop-window.invariant.2 in
     let p = err_from_is_err_and c.from_residual-in_err-merge-2.result c.from_residual-in_err-merge-2.ensures.1 in
-    rw (p.1, p.2) (c.in_err-merge-2.ensures.memory (next_fits eq c.args.max_map_size first c.loop-window.merged newest windows [] c.in_ok-merged.ensures.ok below left))
+    rw (p.1, p.2) (c.in_err-merge-2.ensures.memory (next_fits eq c.args.max_map_size c.args.key first c.loop-window.merged newest windows [] c.in_ok-merged.ensures.ok below left))
 
 -- the windows' total was found to fit before
 pub returns-in_err-merged-clause-overflow : goal.returns-in_err-merged-clause-overflow

@@ -2,7 +2,7 @@ use Rattle.std.proofs.Common.{arith, ◌≤◌, ◌^◌, ℕ, refl, ap, sym, ◌
 use Rattle.std.proofs.lemmas.Result.{err_from_is_err_and}
 use Rattle.std.proofs.Math.Pow.{pow_mono}
 use Rattle.sketch_frequencies.specs.Items.{max_owned}
-use Rattle.sketch_frequencies.specs.State.{FrequentState, IsSampleSize}
+use Rattle.sketch_frequencies.specs.State.{FrequentState, IsSampleSize, state_of}
 use Rattle.sketch_frequencies.proofs.EmptySketches.{restored_empty}
 use Rattle.sketch_frequencies.proofs.Images.{image_of_none, state_of_counters, image_of_counters, restores, restores_budget}
 use Rattle.sketch_frequencies.proofs.OwnedBytes.{memory_le}
@@ -19,7 +19,7 @@ pub invariant_of-sketch : goal.invariant_of-sketch
 invariant_of-sketch g c =
     let size = c.table_size-max_size.ensures in
     let h = c.in_ok-header.ensures in
-    rw c.in_ok-map.ensures.ok (restored_empty g.T.PartialEq.eq c.in_ok-header.header.lg_max c.table_size-max_size.result _ (omega (arith, h.least, h.within)) size.value size.limit size.power c.max_sample_of-sample_size.ensures)
+    rw c.in_ok-map.ensures.ok (restored_empty g.T.PartialEq.eq c.in_ok-header.header.lg_max c.table_size-max_size.result _ c.args.key (omega (arith, h.least, h.within)) size.value size.limit size.power c.max_sample_of-sample_size.ensures)
 
 pub returns-then-header-clause-state : goal.returns-then-header-clause-state
 returns-then-header-clause-state g c = invariant_of-sketch g c
@@ -30,8 +30,8 @@ returns-then-header-clause-image g c =
     let h = c.in_ok-header.ensures in
     let m = c.table_size-max_size.result in
     let n = c.max_sample_of-sample_size.result in
-    let state = restored_empty g.T.PartialEq.eq c.in_ok-header.header.lg_max m n (omega (arith, h.least, h.within)) size.value size.limit size.power c.max_sample_of-sample_size.ensures in
-    rw c.in_ok-map.ensures.ok (image_of_none g.T.FrequentItemValue.codec g.T.FrequentItemValue.content g.T.PartialEq.eq g.met.T.FrequentItemValue.alike c.args.image.now m n state h.checks (sym h.fields.is_empty ∙ c.if-header.true) (size.value ∙ ap (λ (n : ℕ). 2 ^ n) h.fields.lg_max))
+    let state = restored_empty g.T.PartialEq.eq c.in_ok-header.header.lg_max m n c.args.key (omega (arith, h.least, h.within)) size.value size.limit size.power c.max_sample_of-sample_size.ensures in
+    rw c.in_ok-map.ensures.ok (image_of_none g.T.FrequentItemValue.codec g.T.FrequentItemValue.content g.T.PartialEq.eq g.met.T.FrequentItemValue.alike c.args.image.now m n c.args.key state h.checks (sym h.fields.is_empty ∙ c.if-header.true) (size.value ∙ ap (λ (n : ℕ). 2 ^ n) h.fields.lg_max))
 
 pub returns-then-header-clause-stands : goal.returns-then-header-clause-stands
 returns-then-header-clause-stands g c = λ old was h stands. restores g.T.FrequentItemValue.codec g.T.FrequentItemValue.content g.T.PartialEq.eq g.met.T.FrequentItemValue.alike g.met.T.Eq.laws c.args.image.now _ (returns-then-header-clause-image g c) c.max_sample_of-sample_size.ensures old was h stands
@@ -49,7 +49,7 @@ invariant_of-sketch-2 g c =
     let h = c.in_ok-header.ensures in
     let n = c.in_ok-numbers.ensures in
     let image = c.args.image.now in
-    let s : FrequentState g.row.T.Denot = record { counters = c.in_ok-map-2.map.entries; error = c.in_ok-numbers.numbers.error; total = c.in_ok-numbers.numbers.total; max_size = c.table_size-max_size.result; size = c.in_ok-map-2.map.size; sample_size = c.max_sample_of-sample_size.result } in
+    let s : FrequentState g.row.T.Denot = state_of c.in_ok-map-2.map c.in_ok-numbers.numbers.error c.in_ok-numbers.numbers.total c.table_size-max_size.result c.max_sample_of-sample_size.result in
     let least : 2 ^ 3 ≤ 2 ^ c.in_ok-header.header.lg_cur = pow_mono h.least in
     let below : 2 ^ c.in_ok-header.header.lg_cur ≤ 2 ^ c.in_ok-header.header.lg_max = pow_mono h.within in
     let size = c.in_ok-map-2.ensures.size ∙ c.table_size-size.ensures.value in
@@ -71,7 +71,7 @@ pub returns-clause-image : goal.returns-clause-image
 returns-clause-image g c =
     let h = c.in_ok-header.ensures in
     let n = c.in_ok-numbers.ensures in
-    let s : FrequentState g.row.T.Denot = record { counters = c.in_ok-map-2.map.entries; error = c.in_ok-numbers.numbers.error; total = c.in_ok-numbers.numbers.total; max_size = c.table_size-max_size.result; size = c.in_ok-map-2.map.size; sample_size = c.max_sample_of-sample_size.result } in
+    let s : FrequentState g.row.T.Denot = state_of c.in_ok-map-2.map c.in_ok-numbers.numbers.error c.in_ok-numbers.numbers.total c.table_size-max_size.result c.max_sample_of-sample_size.result in
     image_of_counters g.T.FrequentItemValue.codec g.T.FrequentItemValue.content g.T.PartialEq.eq g.met.T.FrequentItemValue.alike c.args.image.now s (invariant_of-sketch-2 g c) c.in_ok-map-2.ensures.counters h.checks (sym h.fields.is_empty ∙ c.if-header.false) n.checks c.in_ok-check_weights.ensures.checks n.fields.error n.fields.total
     (c.table_size-max_size.ensures.value ∙ ap (λ (k : ℕ). 2 ^ k) h.fields.lg_max)
     (c.in_ok-map-2.ensures.size ∙ c.table_size-size.ensures.value ∙ ap (λ (k : ℕ). 2 ^ k) h.fields.lg_cur)
@@ -85,49 +85,56 @@ returns-clause-budget g c = λ old was h stands keeps. restores_budget g.T.Frequ
 pub returns-in_err-header : goal.returns-in_err-header
 returns-in_err-header g c =
     let p = err_from_is_err_and c.from_residual.result c.from_residual.ensures.1 in
-    rw (p.1, p.2) (record { image = tt; state = tt; sample = tt; stands = tt; budget = tt; used = tt; there = tt; within = tt; accepted = λ ok. absurd cc; err = early_refused _ c.args.max_bytes g.T.FrequentItemValue.codec c.args.image.now _ (c.in_err-header.ensures.err.0, first_of _ _ c.in_err-header.ensures.err.1) })
+    rw (p.1, p.2) (record { image = tt; state = tt; sample = tt; key = tt; stands = tt; budget = tt; used = tt; there = tt; within = tt; accepted = λ ok. absurd cc; err = early_refused _ c.args.max_bytes g.T.FrequentItemValue.codec c.args.image.now _ (c.in_err-header.ensures.err.0, first_of _ _ c.in_err-header.ensures.err.1) })
 
 pub returns-in_err-check_limit : goal.returns-in_err-check_limit
 returns-in_err-check_limit g c =
     let p = err_from_is_err_and c.from_residual-in_err-check_limit.result c.from_residual-in_err-check_limit.ensures.1 in
     let empty = sym c.in_ok-header.ensures.fields.is_empty ∙ c.if-header.true in
-    rw (p.1, p.2) (record { image = tt; state = tt; sample = tt; stands = tt; budget = tt; used = tt; there = tt; within = tt; accepted = λ ok. absurd cc; err = limit_refused _ c.args.max_bytes g.T.FrequentItemValue.codec c.args.image.now _ (none_of_empty c.args.image.now c.in_ok-header.ensures.checks empty) (size_of_empty c.args.image.now empty) (room_of_empty c.args.image.now empty) c.in_err-check_limit.ensures.err })
+    rw (p.1, p.2) (record { image = tt; state = tt; sample = tt; key = tt; stands = tt; budget = tt; used = tt; there = tt; within = tt; accepted = λ ok. absurd cc; err = limit_refused _ c.args.max_bytes g.T.FrequentItemValue.codec c.args.image.now _ (none_of_empty c.args.image.now c.in_ok-header.ensures.checks empty) (size_of_empty c.args.image.now empty) (room_of_empty c.args.image.now empty) c.in_err-check_limit.ensures.err })
 
 pub returns-in_err-map : goal.returns-in_err-map
 returns-in_err-map g c =
     let p = err_from_is_err_and c.from_residual-in_err-map.result c.from_residual-in_err-map.ensures.1 in
     let empty = sym c.in_ok-header.ensures.fields.is_empty ∙ c.if-header.true in
-    rw (p.1, p.2) (record { image = tt; state = tt; sample = tt; stands = tt; budget = tt; used = tt; there = tt; within = tt; accepted = λ ok. absurd cc; err = memory_refused _ c.args.max_bytes g.T.FrequentItemValue.codec c.args.image.now _ (none_of_empty c.args.image.now c.in_ok-header.ensures.checks empty) (is_within _ c.args.max_bytes g.T.FrequentItemValue.codec c.args.image.now (size_of_empty c.args.image.now empty) (room_of_empty c.args.image.now empty) c.in_ok-check_limit.ensures.within) c.in_err-map.ensures.err })
+    rw (p.1, p.2) (record { image = tt; state = tt; sample = tt; key = tt; stands = tt; budget = tt; used = tt; there = tt; within = tt; accepted = λ ok. absurd cc; err = memory_refused _ c.args.max_bytes g.T.FrequentItemValue.codec c.args.image.now _ (none_of_empty c.args.image.now c.in_ok-header.ensures.checks empty) (is_within _ c.args.max_bytes g.T.FrequentItemValue.codec c.args.image.now (size_of_empty c.args.image.now empty) (room_of_empty c.args.image.now empty) c.in_ok-check_limit.ensures.within) c.in_err-map.ensures.err })
 
 pub returns-in_err-numbers : goal.returns-in_err-numbers
 returns-in_err-numbers g c =
     let p = err_from_is_err_and c.from_residual-in_err-numbers.result c.from_residual-in_err-numbers.ensures.1 in
     let full = sym c.in_ok-header.ensures.fields.is_empty ∙ c.if-header.false in
-    rw (p.1, p.2) (record { image = tt; state = tt; sample = tt; stands = tt; budget = tt; used = tt; there = tt; within = tt; accepted = λ ok. absurd cc; err = early_refused _ c.args.max_bytes g.T.FrequentItemValue.codec c.args.image.now _ (c.in_err-numbers.ensures.err.0, counts_of_full c.args.image.now c.in_ok-header.ensures.checks full c.in_err-numbers.ensures.err.1) })
+    rw (p.1, p.2) (record { image = tt; state = tt; sample = tt; key = tt; stands = tt; budget = tt; used = tt; there = tt; within = tt; accepted = λ ok. absurd cc; err = early_refused _ c.args.max_bytes g.T.FrequentItemValue.codec c.args.image.now _ (c.in_err-numbers.ensures.err.0, counts_of_full c.args.image.now c.in_ok-header.ensures.checks full c.in_err-numbers.ensures.err.1) })
 
 pub returns-in_err-check_limit-2 : goal.returns-in_err-check_limit-2
 returns-in_err-check_limit-2 g c =
     let p = err_from_is_err_and c.from_residual-in_err-check_limit-2.result c.from_residual-in_err-check_limit-2.ensures.1 in
     let full = sym c.in_ok-header.ensures.fields.is_empty ∙ c.if-header.false in
-    rw (p.1, p.2) (record { image = tt; state = tt; sample = tt; stands = tt; budget = tt; used = tt; there = tt; within = tt; accepted = λ ok. absurd cc; err = limit_refused _ c.args.max_bytes g.T.FrequentItemValue.codec c.args.image.now _ (counts_of_full c.args.image.now c.in_ok-header.ensures.checks full c.in_ok-numbers.ensures.checks) (size_of_full c.args.image.now full (c.table_size-size.ensures.value ∙ ap (λ (k : ℕ). 2 ^ k) c.in_ok-header.ensures.fields.lg_cur)) (room_of_full c.args.image.now full c.in_ok-numbers.ensures.fields.active refl) c.in_err-check_limit-2.ensures.err })
+    rw (p.1, p.2) (record { image = tt; state = tt; sample = tt; key = tt; stands = tt; budget = tt; used = tt; there = tt; within = tt; accepted = λ ok. absurd cc; err = limit_refused _ c.args.max_bytes g.T.FrequentItemValue.codec c.args.image.now _ (counts_of_full c.args.image.now c.in_ok-header.ensures.checks full c.in_ok-numbers.ensures.checks) (size_of_full c.args.image.now full (c.table_size-size.ensures.value ∙ ap (λ (k : ℕ). 2 ^ k) c.in_ok-header.ensures.fields.lg_cur)) (room_of_full c.args.image.now full c.in_ok-numbers.ensures.fields.active refl) c.in_err-check_limit-2.ensures.err })
 
 pub returns-in_err-check_weights : goal.returns-in_err-check_weights
 returns-in_err-check_weights g c =
     let p = err_from_is_err_and c.from_residual-in_err-check_weights.result c.from_residual-in_err-check_weights.ensures.1 in
     let full = sym c.in_ok-header.ensures.fields.is_empty ∙ c.if-header.false in
-    rw (p.1, p.2) (record { image = tt; state = tt; sample = tt; stands = tt; budget = tt; used = tt; there = tt; within = tt; accepted = λ ok. absurd cc; err = weights_refused _ c.args.max_bytes g.T.FrequentItemValue.codec c.args.image.now _ (counts_of_full c.args.image.now c.in_ok-header.ensures.checks full c.in_ok-numbers.ensures.checks) (is_within _ c.args.max_bytes g.T.FrequentItemValue.codec c.args.image.now (size_of_full c.args.image.now full (c.table_size-size.ensures.value ∙ ap (λ (k : ℕ). 2 ^ k) c.in_ok-header.ensures.fields.lg_cur)) (room_of_full c.args.image.now full c.in_ok-numbers.ensures.fields.active refl) c.in_ok-check_limit-2.ensures.within) full c.in_err-check_weights.ensures.err })
+    rw (p.1, p.2) (record { image = tt; state = tt; sample = tt; key = tt; stands = tt; budget = tt; used = tt; there = tt; within = tt; accepted = λ ok. absurd cc; err = weights_refused _ c.args.max_bytes g.T.FrequentItemValue.codec c.args.image.now _ (counts_of_full c.args.image.now c.in_ok-header.ensures.checks full c.in_ok-numbers.ensures.checks) (is_within _ c.args.max_bytes g.T.FrequentItemValue.codec c.args.image.now (size_of_full c.args.image.now full (c.table_size-size.ensures.value ∙ ap (λ (k : ℕ). 2 ^ k) c.in_ok-header.ensures.fields.lg_cur)) (room_of_full c.args.image.now full c.in_ok-numbers.ensures.fields.active refl) c.in_ok-check_limit-2.ensures.within) full c.in_err-check_weights.ensures.err })
 
 pub returns-in_err-map-2 : goal.returns-in_err-map-2
 returns-in_err-map-2 g c =
     let p = err_from_is_err_and c.from_residual-in_err-map-2.result c.from_residual-in_err-map-2.ensures.1 in
     let full = sym c.in_ok-header.ensures.fields.is_empty ∙ c.if-header.false in
-    rw (p.1, p.2) (record { image = tt; state = tt; sample = tt; stands = tt; budget = tt; used = tt; there = tt; within = tt; accepted = λ ok. absurd cc; err = items_refused _ c.args.max_bytes g.T.FrequentItemValue.codec c.args.image.now _ (counts_of_full c.args.image.now c.in_ok-header.ensures.checks full c.in_ok-numbers.ensures.checks) (is_within _ c.args.max_bytes g.T.FrequentItemValue.codec c.args.image.now (size_of_full c.args.image.now full (c.table_size-size.ensures.value ∙ ap (λ (k : ℕ). 2 ^ k) c.in_ok-header.ensures.fields.lg_cur)) (room_of_full c.args.image.now full c.in_ok-numbers.ensures.fields.active refl) c.in_ok-check_limit-2.ensures.within) full c.in_ok-check_weights.ensures.checks c.in_err-map-2.ensures.err })
+    rw (p.1, p.2) (record { image = tt; state = tt; sample = tt; key = tt; stands = tt; budget = tt; used = tt; there = tt; within = tt; accepted = λ ok. absurd cc; err = items_refused _ c.args.max_bytes g.T.FrequentItemValue.codec c.args.image.now _ (counts_of_full c.args.image.now c.in_ok-header.ensures.checks full c.in_ok-numbers.ensures.checks) (is_within _ c.args.max_bytes g.T.FrequentItemValue.codec c.args.image.now (size_of_full c.args.image.now full (c.table_size-size.ensures.value ∙ ap (λ (k : ℕ). 2 ^ k) c.in_ok-header.ensures.fields.lg_cur)) (room_of_full c.args.image.now full c.in_ok-numbers.ensures.fields.active refl) c.in_ok-check_limit-2.ensures.within) full c.in_ok-check_weights.ensures.checks c.in_err-map-2.ensures.err })
 
 pub returns-then-header-clause-sample : goal.returns-then-header-clause-sample
 returns-then-header-clause-sample g c = c.max_sample_of-sample_size.ensures
 
 pub returns-clause-sample : goal.returns-clause-sample
 returns-clause-sample g c = c.max_sample_of-sample_size.ensures
+
+-- the table is made under the key
+pub returns-then-header-clause-key : goal.returns-then-header-clause-key
+returns-then-header-clause-key g c = ap (λ t. t.key) c.in_ok-map.ensures.ok
+
+pub returns-clause-key : goal.returns-clause-key
+returns-clause-key g c = c.in_ok-map-2.ensures.key
 
 pub returns-then-header-clause-accepted : goal.returns-then-header-clause-accepted
 returns-then-header-clause-accepted g c = λ _.

@@ -16,21 +16,21 @@ returns-then-num_active-capacity-clause-adds g c =
     let old = state_of c.self.inside.map c.self.inside.error c.self.inside.total c.self.inside.max_size c.self.inside.sample_size in
     let t = c.insert.new.self in
     let u = c.purge.new.self in
-    let new : FrequentState g.row.T.Denot = record { counters = u.entries; error = old.error + c.purge.result; total = old.total + c.args.count; max_size = old.max_size; size = u.size; sample_size = old.sample_size } in
+    let new : FrequentState g.row.T.Denot = state_of u (old.error + c.purge.result) (old.total + c.args.count) old.max_size old.sample_size in
     let over : capacity t.size < length t.entries = omega (arith, c.if-num_active-capacity.true, c.num_active.ensures.active, c.capacity.ensures) in
     let room : capacity old.size < length (put eq old.counters c.args.item c.args.count) → old.size ≡ old.max_size = subst (λ (s : FrequentState g.row.T.Denot). capacity s.size < length (put eq s.counters c.args.item c.args.count) → s.size ≡ s.max_size) (sym c.self.view_is) c.requires.room in
     let same : old.size ≡ old.max_size = room (omega (arith, over, length_permutation (put eq old.counters c.args.item c.args.count) t.entries c.insert.ensures.entries, c.insert.ensures.size)) in
     subst (λ s. Adds eq s c.args.item c.args.count new) c.self.view_is
-    (adds_purged eq old c.args.item c.args.count t u c.purge.result c.self.inside.sample_size c.insert.ensures.entries c.insert.ensures.size over same refl c.self.invariant c.purge.ensures.middle c.purge.ensures.entries c.purge.ensures.size)
+    (adds_purged eq old c.args.item c.args.count t u c.purge.result c.self.inside.sample_size c.insert.ensures.entries c.insert.ensures.size over same refl c.self.invariant c.purge.ensures.middle c.purge.ensures.entries c.purge.ensures.size (c.purge.ensures.key ∙ c.insert.ensures.key))
 
 pub returns-else-num_active-capacity-clause-adds : goal.returns-else-num_active-capacity-clause-adds
 returns-else-num_active-capacity-clause-adds g c =
     let eq = g.T.PartialEq.eq in
     let old = state_of c.self.inside.map c.self.inside.error c.self.inside.total c.self.inside.max_size c.self.inside.sample_size in
     let t = c.insert.new.self in
-    let new : FrequentState g.row.T.Denot = record { counters = t.entries; error = old.error; total = old.total + c.args.count; max_size = old.max_size; size = t.size; sample_size = old.sample_size } in
+    let new : FrequentState g.row.T.Denot = state_of t old.error (old.total + c.args.count) old.max_size old.sample_size in
     subst (λ s. Adds eq s c.args.item c.args.count new) c.self.view_is
-    (adds_kept eq old c.args.item c.args.count t c.insert.ensures.entries c.insert.ensures.size (omega (arith, c.if-num_active-capacity.false, c.num_active.ensures.active, c.capacity.ensures)))
+    (adds_kept eq old c.args.item c.args.count t c.insert.ensures.entries c.insert.ensures.size c.insert.ensures.key (omega (arith, c.if-num_active-capacity.false, c.num_active.ensures.active, c.capacity.ensures)))
 
 pub overflow_add-self-then-num_active-capacity : goal.overflow_add-self-then-num_active-capacity
 overflow_add-self-then-num_active-capacity g c =

@@ -32,7 +32,7 @@ pub returns-clause-ok : goal.returns-clause-ok
 returns-clause-ok g c =
     let old = state_of c.self.inside.map c.self.inside.error c.self.inside.total c.self.inside.max_size c.self.inside.sample_size in
     let t = c.resize.new.self in
-    let new : FrequentState g.row.T.Denot = record { counters = t.entries; error = old.error; total = old.total; max_size = old.max_size; size = t.size; sample_size = old.sample_size } in
+    let new : FrequentState g.row.T.Denot = state_of t old.error old.total old.max_size old.sample_size in
     let due = grow_from_parts old (omega (arith, c.if-num_active-capacity.false, c.num_active.ensures.active, c.capacity.ensures)) (omega (arith, c.if-size-self.false, c.len-size.ensures.size, c.self.invariant.within)) in
     let made : MakesRoom old new = record {
       counters = c.resize.ensures.entries;
@@ -40,6 +40,7 @@ returns-clause-ok g c =
       total = refl;
       max_size = refl;
       sample_size = refl;
+      key = c.resize.ensures.key;
       doubled = λ _. c.in_ok-resize.ensures.ok ∙ ap (λ n. 2 * n) c.len-size.ensures.size;
       stays = λ not_due. absurd (false≢true (sym not_due ∙ due));
     } in
