@@ -102,7 +102,7 @@ module _ {T C : Type 0} (slot : ℕ) (eq : T → T → Bool) (input : T → List
   altered_as : (change : Change T) (name : List ℕ) (sketch after : Sketch T) (r : Bool) (reply : Reply T) (old new : SessionState T) → is_refused reply ≡ r → at_name name old.sketches ≡ Some sketch →
       Alters eq input change sketch reply after → Puts name after old.sketches new.sketches → KeepsImages old new → Outcome (action.Alter name change) reply old new
   altered_as change name sketch after true reply old new r e does puts rest =
-      inl (r, record { sketches = put_again name sketch old.sketches new.sketches e (subst (λ (s : Sketch T). Puts name s old.sketches new.sketches) (does.refused r) puts); images = rest.images; key = rest.key })
+      inl (r, record { sketches = put_again name sketch old.sketches new.sketches e (subst (λ (s : Sketch T). Puts name s old.sketches new.sketches) (does.refused r) puts); images = rest.images; keys = rest.keys })
   altered_as change name sketch after false reply old new r e does puts rest = inr (
     r,
     λ a loaded fits told.
@@ -112,14 +112,14 @@ module _ {T C : Type 0} (slot : ℕ) (eq : T → T → Bool) (input : T → List
 
   alters : (change : Change T) (name : List ℕ) (found : Option (Sketch T)) (reply : Reply T) (old new : SessionState T) → at_name name old.sketches ≡ found →
       OnSketch (Alters eq input change) name old.sketches reply new.sketches → KeepsImages old new → Outcome (action.Alter name change) reply old new
-  alters change name None reply old new e on rest = let done = rw e at on in inl (ap is_refused done.0, record { sketches = done.1; images = rest.images; key = rest.key })
+  alters change name None reply old new e on rest = let done = rw e at on in inl (ap is_refused done.0, record { sketches = done.1; images = rest.images; keys = rest.keys })
   alters change name (Some sketch) reply old new e on rest = let done = rw e at on in altered_as change name sketch done.0 (is_refused reply) reply old new refl e done.1 done.2 rest
 
   -- a combination of two sketches
   joined_as : (join : Join) (into other : List ℕ) (sketch from after : Sketch T) (r : Bool) (reply : Reply T) (old new : SessionState T) → is_refused reply ≡ r → at_name into old.sketches ≡ Some sketch → at_name other old.sketches ≡ Some from →
       DoesWith eq (Joins eq join from) (joined join) from sketch reply after → Puts into after old.sketches new.sketches → KeepsImages old new → Outcome (action.Combine into other join) reply old new
   joined_as join into other sketch from after true reply old new r e f does puts rest =
-      inl (r, record { sketches = put_again into sketch old.sketches new.sketches e (subst (λ (s : Sketch T). Puts into s old.sketches new.sketches) (does.refused r) puts); images = rest.images; key = rest.key })
+      inl (r, record { sketches = put_again into sketch old.sketches new.sketches e (subst (λ (s : Sketch T). Puts into s old.sketches new.sketches) (does.refused r) puts); images = rest.images; keys = rest.keys })
   joined_as join into other sketch from after false reply old new r e f does puts rest = inr (
     r,
     λ a loaded fits told.
@@ -132,15 +132,15 @@ module _ {T C : Type 0} (slot : ℕ) (eq : T → T → Bool) (input : T → List
       JoinsApart eq join into other sketch from old.sketches reply new.sketches → KeepsImages old new → Outcome (action.Combine into other join) reply old new
   joins_as join into other sketch from true reply old new t e f joins rest =
       let done = joins.itself ((bytes_eq-Decides into other).0 t) in
-      inl (ap is_refused done.0, record { sketches = done.1; images = rest.images; key = rest.key })
+      inl (ap is_refused done.0, record { sketches = done.1; images = rest.images; keys = rest.keys })
   joins_as join into other sketch from false reply old new t e f joins rest =
       let done = joins.two (λ same. true≢false (sym ((bytes_eq-Decides into other).1 same) ∙ t)) in
       joined_as join into other sketch from done.0 (is_refused reply) reply old new refl e f done.1 done.2 rest
 
   combines : (join : Join) (into other : List ℕ) (found more : Option (Sketch T)) (reply : Reply T) (old new : SessionState T) → at_name into old.sketches ≡ found → at_name other old.sketches ≡ more →
       JoinsNamed eq join into other old.sketches reply new.sketches → KeepsImages old new → Outcome (action.Combine into other join) reply old new
-  combines join into other None more reply old new e f joins rest = let done = rw e at joins in inl (ap is_refused done.0, record { sketches = done.1; images = rest.images; key = rest.key })
-  combines join into other (Some sketch) None reply old new e f joins rest = let done = rw (e, f) at joins in inl (ap is_refused done.0, record { sketches = done.1; images = rest.images; key = rest.key })
+  combines join into other None more reply old new e f joins rest = let done = rw e at joins in inl (ap is_refused done.0, record { sketches = done.1; images = rest.images; keys = rest.keys })
+  combines join into other (Some sketch) None reply old new e f joins rest = let done = rw (e, f) at joins in inl (ap is_refused done.0, record { sketches = done.1; images = rest.images; keys = rest.keys })
   combines join into other (Some sketch) (Some from) reply old new e f joins rest = joins_as join into other sketch from (bytes_eq into other) reply old new refl e f (rw (e, f) at joins) rest
 
   -- a value that was stored under a name, or not
@@ -151,10 +151,10 @@ module _ {T C : Type 0} (slot : ℕ) (eq : T → T → Bool) (input : T → List
   stores Good Why name values left action reply old new same made (inr (error, why, (reply_is, kept))) = inl (ap is_refused reply_is, same kept)
 
   -- a new sketch
-  creates : (shape : Shape) (name : List ℕ) (found : Option (Sketch T)) (reply : Reply T) (old new : SessionState T) → at_name name old.sketches ≡ found → Creates eq old.key shape name old.sketches reply new.sketches → KeepsImages old new → Outcome (action.Create name shape) reply old new
-  creates shape name (Some sketch) reply old new e step rest = let done = rw e at step in inl (ap is_refused done.0, record { sketches = done.1; images = rest.images; key = rest.key })
+  creates : (shape : Shape) (name : List ℕ) (found : Option (Sketch T)) (reply : Reply T) (old new : SessionState T) → at_name name old.sketches ≡ found → Creates eq old.keys.table shape name old.sketches reply new.sketches → KeepsImages old new → Outcome (action.Create name shape) reply old new
+  creates shape name (Some sketch) reply old new e step rest = let done = rw e at step in inl (ap is_refused done.0, record { sketches = done.1; images = rest.images; keys = rest.keys })
   creates shape name None reply old new e step rest =
-      stores (IsCreated eq old.key shape) (λ why. why ≡ refusal_of (fault_of shape)) name old.sketches new.sketches (action.Create name shape) reply old new (λ sketches. record { sketches = sketches; images = rest.images; key = rest.key })
+      stores (IsCreated eq old.keys.table shape) (λ why. why ≡ refusal_of (fault_of shape)) name old.sketches new.sketches (action.Create name shape) reply old new (λ sketches. record { sketches = sketches; images = rest.images; keys = rest.keys })
       (λ sketch made puts a loaded fits told. with_sketch eq codec content (λ (u : ⊤). StandsFor eq sketch) (λ h. h) name tt sketch (Some (begun shape)) old new a fits made.stands (λ h stands. stands) puts rest) (rw e at step)
 
   -- something is made of what one name has, or nothing is
@@ -167,7 +167,7 @@ module _ {T C : Type 0} (slot : ℕ) (eq : T → T → Bool) (input : T → List
   -- an image that is saved
   writes : (name image : List ℕ) (sketch : Sketch T) (reply : Reply T) (old new : SessionState T) → at_name name old.sketches ≡ Some sketch → Writes codec content sketch image old reply new → Outcome (action.Save name image) reply old new
   writes name image sketch reply old new e done =
-      stores (λ (saved : Image). IsWrittenBy codec content sketch saved.kind saved.bytes) (IsWriteRefusal codec content sketch) image old.images new.images (action.Save name image) reply old new (λ images. record { sketches = done.sketches; images = images; key = done.key })
+      stores (λ (saved : Image). IsWrittenBy codec content sketch saved.kind saved.bytes) (IsWriteRefusal codec content sketch) image old.images new.images (action.Save name image) reply old new (λ images. record { sketches = done.sketches; images = images; keys = done.keys })
       (λ saved written puts a loaded fits told.
       let pair : Paired (StandsFor eq) (Some sketch) (a.sketches name) = rw e at (fits.sketches name) in
       with_image eq codec content image sketch saved (a.sketches name) old new a fits pair written puts done.sketches) done.outcome
@@ -175,7 +175,7 @@ module _ {T C : Type 0} (slot : ℕ) (eq : T → T → Bool) (input : T → List
   -- an image that is restored
   reads : (image name : List ℕ) (saved : Image) (reply : Reply T) (old new : SessionState T) → at_name image old.images ≡ Some saved → Reads eq codec content saved name old reply new → Outcome (action.Restore image name) reply old new
   reads image name saved reply old new e done =
-      stores (IsRestored eq codec content old.key saved) (IsReadRefusal codec saved.kind saved.bytes) name old.sketches new.sketches (action.Restore image name) reply old new (λ sketches. record { sketches = sketches; images = done.rest.images; key = done.rest.key })
+      stores (IsRestored eq codec content old.keys.table saved) (IsReadRefusal codec saved.kind saved.bytes) name old.sketches new.sketches (action.Restore image name) reply old new (λ sketches. record { sketches = sketches; images = done.rest.images; keys = done.rest.keys })
       (λ sketch back puts a loaded fits told.
       let pair : Paired (IsSavedOf eq codec content) (Some saved) (a.images image) = rw e at (fits.images image) in
       with_sketch eq codec content (IsSavedOf eq codec content) restored name saved sketch (a.images image) old new a fits pair back.stands puts done.rest) done.outcome
@@ -185,7 +185,7 @@ module _ {T C : Type 0} (slot : ℕ) (eq : T → T → Bool) (input : T → List
   loads kind bytes max_bytes name (Some sketch) reply old new e step = let done = rw e at step in inl (ap is_refused done.1, done.0)
   loads kind bytes max_bytes name None reply old new e step =
       let done = rw e at step in
-      stores (IsLoaded slot eq codec content old.key kind bytes max_bytes) (IsLoadRefusal slot codec max_bytes kind bytes) name old.sketches new.sketches (action.Load name kind bytes max_bytes) reply old new (λ sketches. record { sketches = sketches; images = done.rest.images; key = done.rest.key })
+      stores (IsLoaded slot eq codec content old.keys.table kind bytes max_bytes) (IsLoadRefusal slot codec max_bytes kind bytes) name old.sketches new.sketches (action.Load name kind bytes max_bytes) reply old new (λ sketches. record { sketches = sketches; images = done.rest.images; keys = done.rest.keys })
       (λ sketch brought puts a history fits told. with_sketch eq codec content (λ (u : ⊤). IsImageOf eq codec content kind bytes) restored name tt sketch (Some history) old new a fits told brought.stands puts done.rest) done.outcome
 
   -- a query

@@ -10,7 +10,7 @@ use Rattle.std.proofs.lemmas.List.{length-set, length-append}
 use Rattle.std.proofs.lemmas.Map.Text.{hash_map_updates_text}
 use Rattle.std.proofs.lemmas.Option.{slice_get-get_or}
 use Rattle.std.proofs.lemmas.Slice.Eq.{bytes_eq-Decides}
-use Rattle.datasketches.specs.Names.{Name, index_of, at_index, with_first, listed, AreIndices, at_name, Puts, AreSame}
+use Rattle.datasketches.specs.Names.{Name, Named, index_of, at_index, with_first, listed, AreIndices, at_name, Puts, AreSame}
 
 none_from : {V : Type 0} (o : Option V) → is_some o ≡ false → o ≡ None
 none_from None e = refl
@@ -47,6 +47,13 @@ get_before (y ∷ ys) x zero h = refl
 get_before (y ∷ ys) x (suc i) h = get_before ys x i (omega (arith, h))
 
 -- ---- names and their indices
+
+-- equal maps have equal entries and hash alike
+pub seen : {V : Type 0} {m n : Named V} → m ≡ n → m.entries ≡ n.entries
+seen e = ap (λ m. m.entries) e
+
+pub hashed : {V : Type 0} {m n : Named V} → m ≡ n → m.hasher ≡ n.hasher
+hashed e = ap (λ m. m.hasher) e
 
 -- a name passes its own test, and no other does
 own_name : (name : List ℕ) → bytes_eq name name ≡ true

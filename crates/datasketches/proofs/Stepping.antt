@@ -20,7 +20,7 @@ use Rattle.datasketches.specs.declared.image_kind.ImageKind.{ImageKind}
 use Rattle.datasketches.specs.declared.image_kind.ImageKind.TheVariants as kind
 use Rattle.datasketches.specs.declared.reply.Reply.{Reply}
 use Rattle.datasketches.proofs.Fitting.{Outcome, outcome_of, unchanged_fits}
-use Rattle.datasketches.proofs.Hashing.{key_kept, one_key_kept}
+use Rattle.datasketches.proofs.Hashing.{keys_kept, one_key_kept}
 
 module _ {T C : Type 0} (eq : T → T → Bool) (codec : Codec C) (content : T → C) where
   -- any image states a shape
@@ -66,7 +66,7 @@ module _ {T C : Type 0} (slot : ℕ) (eq : T → T → Bool) (input : T → List
     step = step;
     fits = λ a fits. action_fits action reply old new a fits step;
     told = λ a loaded fits told. action_fits_told action loaded reply old new a fits told step;
-    key = key_kept slot eq input codec content action reply old new step;
+    keys = keys_kept slot eq input codec content action reply old new step;
     keyed = one_key_kept slot eq input codec content action reply old new step;
     refused = λ r. action_same action reply old new r step;
   }
@@ -98,12 +98,12 @@ module _ {T C : Type 0} (slot : ℕ) (eq : T → T → Bool) (input : T → List
   run_fits commands replies old new a fits run =
       subst (λ (b : Assignment T). SessionStandsFor eq codec content new b) (untold commands replies a) (run_fits_told commands [] replies old new a fits (nothing_told eq codec content commands) run)
 
-  pub run_keeps_key : (commands : List (Command T)) (replies : List (Reply T)) (old new : SessionState T) → Run slot eq input codec content old commands replies new → new.key ≡ old.key
-  run_keeps_key [] [] old new run = ap (λ (s : SessionState T). s.key) run
-  run_keeps_key [] (reply ∷ replies) old new run = absurd run
-  run_keeps_key (command ∷ commands) [] old new run = absurd run
-  run_keeps_key (command ∷ commands) (reply ∷ replies) old new run =
-      run_keeps_key commands replies run.0 new run.2 ∙ key_kept slot eq input codec content (action_of command) reply old run.0 run.1
+  pub run_keeps_keys : (commands : List (Command T)) (replies : List (Reply T)) (old new : SessionState T) → Run slot eq input codec content old commands replies new → new.keys ≡ old.keys
+  run_keeps_keys [] [] old new run = ap (λ (s : SessionState T). s.keys) run
+  run_keeps_keys [] (reply ∷ replies) old new run = absurd run
+  run_keeps_keys (command ∷ commands) [] old new run = absurd run
+  run_keeps_keys (command ∷ commands) (reply ∷ replies) old new run =
+      run_keeps_keys commands replies run.0 new run.2 ∙ keys_kept slot eq input codec content (action_of command) reply old run.0 run.1
 
   pub run_has_one_key : (commands : List (Command T)) (replies : List (Reply T)) (old new : SessionState T) → Run slot eq input codec content old commands replies new → HasOneKey old → HasOneKey new
   run_has_one_key [] [] old new run one = subst (λ (s : SessionState T). HasOneKey s) (sym run) one

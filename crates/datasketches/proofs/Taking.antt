@@ -6,7 +6,7 @@ use Rattle.std.specs.Global.{Global}
 use Rattle.std.specs.declared.vec.Vec.{Vec}
 use Rattle.sketch_countmin.specs.History.{CountHistory, seed_of}
 use Rattle.sketch_frequencies.specs.Items.{Codec}
-use Rattle.datasketches.specs.Actions.{Action, Shape, Shape as shape}
+use Rattle.datasketches.specs.Actions.{Action, Shape as shape}
 use Rattle.datasketches.specs.Clusters.{IsKindOf, or_stranger, Process, session_of, histories_of, LoadsShown, Shows, IsProcess, LoadKeepsShown}
 use Rattle.datasketches.specs.Clusters.Process.{Began, Did, Took}
 use Rattle.datasketches.specs.Histories.{History, Assignment, after_action_told}

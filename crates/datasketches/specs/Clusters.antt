@@ -1,9 +1,8 @@
 -- Many sessions: what they load from one another, and what holds of their sketches.
-use Rattle.std.specs.Prelude.{◌≡◌, ℕ, Bool, true, List, [], Option, Some, None}
+use Rattle.std.specs.Prelude.{◌≡◌, ℕ, Bool, true, List, Option, Some, None}
 use Rattle.std.specs.List.{Contains}
 use Rattle.std.specs.Global.{Global}
 use Rattle.std.specs.declared.vec.Vec.{Vec}
-use Rattle.counter_table.specs.declared.table_key.TableKey.{TableKey}
 use Rattle.sketch_bloom.specs.History.{BloomHistory}
 use Rattle.sketch_bloom.specs.Parts.{parts_of}
 use Rattle.sketch_bloom.specs.State.{FilterState, IsCompatible, contains_item}
@@ -15,7 +14,7 @@ use Rattle.datasketches.specs.Histories.History.{OfFrequent, OfCountI64, OfCount
 use Rattle.datasketches.specs.Laws.{IsNamed}
 use Rattle.datasketches.specs.SessionStandsFor.{SessionStandsFor}
 use Rattle.datasketches.specs.Stands.{IsSketch}
-use Rattle.datasketches.specs.State.{SessionState}
+use Rattle.datasketches.specs.State.{SessionKeys, SessionState, nothing_stored}
 use Rattle.datasketches.specs.Steps.{Performs}
 use Rattle.datasketches.specs.Actions.Action.{Load, ShowImage}
 use Rattle.datasketches.specs.declared.image_kind.ImageKind.{ImageKind}
@@ -40,19 +39,15 @@ module _ {T : Type 0} where
   IsKindOf kind.Bloom (OfStranger (shape.Bloom request)) = Unit {0}
   IsKindOf _ _ = ⊥
 
-  -- the session without names under this key
-  abbrev pub empty_session : TableKey → SessionState T
-  empty_session key = record { sketches = []; images = []; key = key }
-
   -- the history that an image was saved with. If there is none, it is that of what the action loads, as an untrusted image
   abbrev pub or_stranger : Action T → Option (History T) → History T
   or_stranger action None = stranger_of action
   or_stranger action (Some h) = h
 
--- how a session came about, among others. It began with no names and some key, performed an action, or loaded an image that another session
+-- how a session came about, among others. It began with no names and some keys, performed an action, or loaded an image that another session
 -- returned
 pub data Process (T : Type 0) : Type 0 where
-  Began : TableKey → Process T
+  Began : SessionKeys → Process T
   Did : Process T → Action T → Reply T → SessionState T → Process T
   Took : Process T → (from : Process T) → (image : List ℕ) → (shown : Vec ℕ Global) → Action T → Reply T → SessionState T
       → Process T
@@ -60,7 +55,7 @@ pub data Process (T : Type 0) : Type 0 where
 module _ {T : Type 0} where
   -- the session at the end of the process
   abbrev pub session_of : Process T → SessionState T
-  session_of (Began key) = empty_session key
+  session_of (Began keys) = nothing_stored keys
   session_of (Did p action reply now) = now
   session_of (Took p from image shown action reply now) = now
 
@@ -72,7 +67,7 @@ module _ {T : Type 0} where
 module _ {T : Type 0} (input : T → List (List ℕ)) where
   -- the histories of the session's names. An image that it loaded has the history with which the other session saved it
   abbrev pub histories_of : Process T → Assignment T
-  histories_of (Began key) = nothing_named
+  histories_of (Began keys) = nothing_named
   histories_of (Did p action reply now) = after_action input (histories_of p) action reply
   histories_of (Took p from image shown action reply now) =
       after_action_told input (histories_of p) action (or_stranger action ((histories_of from).images image)) reply
@@ -85,7 +80,7 @@ module _ {T C : Type 0} (slot : ℕ) (eq : T → T → Bool) (input : T → List
 
   -- each action was performed with its reply, and each loaded image is what the other session returned
   abbrev pub IsProcess : Process T → Type 0
-  IsProcess (Began key) = Unit {0}
+  IsProcess (Began keys) = Unit {0}
   IsProcess (Did p action reply now) = IsProcess p × Performs slot eq input codec content (session_of p) action reply now
   IsProcess (Took p from image shown action reply now) =
       IsProcess p × IsProcess from × Shows (session_of from) image shown

@@ -12,6 +12,6 @@ module _ {T : Type 0} where
   IsUnder key (Frequent s) = s.key ≡ key
   IsUnder key _ = Unit {0}
 
-  -- each sketch of the session has the session's key
+  -- each sketch of the session has the key of the session's tables
   abbrev pub HasOneKey : SessionState T → Type 0
-  HasOneKey s = (name : List ℕ) → IfSome (at_name name s.sketches) (IsUnder s.key)
+  HasOneKey s = (name : List ℕ) → IfSome (at_name name s.sketches) (IsUnder s.keys.table)

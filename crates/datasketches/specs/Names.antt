@@ -6,6 +6,7 @@ use Rattle.std.specs.Map.{lookup}
 use Rattle.std.specs.String.{string_bytes}
 use Rattle.std.specs.declared.string.String.{String}
 use Rattle.sketch_base.specs.Errors.{ErrorValue, no_memory}
+use Rattle.sketch_base.specs.declared.map_state.MapState.{MapState}
 use Rattle.datasketches.specs.declared.reply.Refusal.{Refusal}
 use Rattle.datasketches.specs.declared.reply.Refusal.TheVariants.{Call}
 
@@ -22,6 +23,11 @@ pub record AreIndices (entries : List (Name × ℕ)) (count : ℕ) : Type 0 wher
   pub below : (name : List ℕ) → IfSome (index_of name entries) (λ index. index < count)
   pub apart : (name other : List ℕ) (index : ℕ)
       → index_of name entries ≡ Some index → index_of other entries ≡ Some index → name ≡ other
+
+-- values with their names in some order, and the hash builder of the names
+pub record Named (V : Type 0) : Type 0 where
+  pub entries : List (List ℕ × V)
+  pub hasher : MapState
 
 module _ {V : Type 0} where
   -- the value of the name, if any, among values with their names in some order

@@ -23,8 +23,8 @@ pub record Performed {T C : Type 0} (slot : ℕ) (eq : T → T → Bool) (input 
   pub told : (a : Assignment T) (loaded : History T) → SessionStandsFor eq codec content old a
       → IsActionTold eq codec content action loaded
       → SessionStandsFor eq codec content new (after_action_told input a action loaded reply)
-  -- the session keeps its key, and its sketches have it if they had it before
-  pub key : new.key ≡ old.key
+  -- the session keeps its keys, and its sketches have the tables' key if they had it before
+  pub keys : new.keys ≡ old.keys
   pub keyed : HasOneKey old → HasOneKey new
   -- a rejected action changed nothing
   pub refused : is_refused reply ≡ true → IsUnchanged old new

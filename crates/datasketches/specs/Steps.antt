@@ -81,7 +81,7 @@ module _ {T : Type 0} (eq : T → T → Bool) where
 -- ---- on a session
 
 module _ {T : Type 0} where
-  -- the step is done on the session's sketches. Each image and the key are unchanged
+  -- the step is done on the session's sketches. Each image and the keys are unchanged
   abbrev pub OnSketches :
       (List (List ℕ × Sketch T) → Reply T → List (List ℕ × Sketch T) → Type 0) →
       SessionState T → Reply T → SessionState T → Type 0
@@ -116,11 +116,11 @@ module _ {T : Type 0} where
       (λ _. IsUnchanged old new × (reply ≡ Refused NameTaken)))
 
 module _ {T C : Type 0} (codec : Codec C) (content : T → C) where
-  -- the name now has an image of the sketch, or an error left all images unchanged. Sketches and the key are unchanged
+  -- the name now has an image of the sketch, or an error left all images unchanged. Sketches and the keys are unchanged
   pub record Writes (sketch : Sketch T) (name : List ℕ) (old : SessionState T) (reply : Reply T) (new : SessionState T)
       : Type 0 where
     pub sketches : AreSame old.sketches new.sketches
-    pub key : new.key ≡ old.key
+    pub keys : new.keys ≡ old.keys
     pub outcome : Stores (λ (image : Image). IsWrittenBy codec content sketch image.kind image.bytes)
         (IsWriteRefusal codec content sketch) name old.images reply new.images
 
@@ -137,11 +137,11 @@ module _ {T C : Type 0} (eq : T → T → Bool) (codec : Codec C) (content : T �
     pub stands : GivesBack eq codec content image.kind image.bytes sketch
     pub keyed : IsUnder key sketch
 
-  -- the name now has the restored sketch, or an error left all sketches unchanged. Images and the key are unchanged
+  -- the name now has the restored sketch, or an error left all sketches unchanged. Images and the keys are unchanged
   pub record Reads (image : Image) (name : List ℕ) (old : SessionState T) (reply : Reply T) (new : SessionState T)
       : Type 0 where
     pub rest : KeepsImages old new
-    pub outcome : Stores (IsRestored old.key image) (IsReadRefusal codec image.kind image.bytes) name old.sketches reply new.sketches
+    pub outcome : Stores (IsRestored old.keys.table image) (IsReadRefusal codec image.kind image.bytes) name old.sketches reply new.sketches
 
   -- the image of the name is restored if it exists and the sketch's name is free
   abbrev pub Restores : List ℕ → List ℕ → SessionState T → Reply T → SessionState T → Type 0
@@ -159,11 +159,11 @@ module _ {T C : Type 0} (slot : ℕ) (eq : T → T → Bool) (codec : Codec C) (
     pub within : TakesWithin slot codec content max_bytes sketch
     pub accepted : load_fault slot codec max_bytes kind bytes ≡ None
 
-  -- the name now has the loaded sketch, or an error left all sketches unchanged. Images and the key are unchanged
+  -- the name now has the loaded sketch, or an error left all sketches unchanged. Images and the keys are unchanged
   pub record Brings (kind : ImageKind) (bytes : List ℕ) (max_bytes : ℕ) (name : List ℕ) (old : SessionState T) (reply : Reply T)
       (new : SessionState T) : Type 0 where
     pub rest : KeepsImages old new
-    pub outcome : Stores (IsLoaded old.key kind bytes max_bytes) (IsLoadRefusal slot codec max_bytes kind bytes) name
+    pub outcome : Stores (IsLoaded old.keys.table kind bytes max_bytes) (IsLoadRefusal slot codec max_bytes kind bytes) name
         old.sketches reply new.sketches
 
   -- an untrusted image is loaded if the sketch's name is free
@@ -186,7 +186,7 @@ module _ {T C : Type 0} (slot : ℕ) (eq : T → T → Bool) (input : T → List
     (content : T → C) where
   -- the effect of one action
   abbrev pub Performs : SessionState T → Action T → Reply T → SessionState T → Type 0
-  Performs old (action.Create name shape) reply new = OnSketches (Creates eq old.key shape name) old reply new
+  Performs old (action.Create name shape) reply new = OnSketches (Creates eq old.keys.table shape name) old reply new
   Performs old (action.Alter name change) reply new = OnSketches (ChangesNamed eq input change name) old reply new
   Performs old (action.Combine into other join) reply new = OnSketches (JoinsNamed eq join into other) old reply new
   Performs old (action.Save name image) reply new = Saves codec content name image old reply new

@@ -22,14 +22,15 @@ pub struct NameMap<V> {
 }
 
 impl<V> Model for NameMap<V> {
-    ghost use Rattle.std.specs.Prelude.{ℕ, List};
+    ghost use Rattle.datasketches.specs.Names.{Named};
 
-    ghost Value = { List (List ℕ × V) };
+    ghost Value = { Named V };
 
     ghost use Rattle.std.specs.Prelude.{length};
+    ghost use Rattle.std.specs.HashMap.{hasher_of};
     ghost use Rattle.datasketches.specs.Names.{listed, AreIndices};
 
-    ghost view = { λ s. listed s.indices.entries s.values.items };
+    ghost view = { λ s. record { entries = listed s.indices.entries s.values.items; hasher = hasher_of s.indices } };
 
     ghost invariant = { λ s. AreIndices s.indices.entries (length s.values.items) };
 }
@@ -44,7 +45,7 @@ impl<V> fmt::Debug for NameMap<V> {
 impl<V: Drop> NameMap<V> {
     /// Creates an empty map that hashes names under `state`.
     pub fn new(alloc: Global, state: MapState) -> Self
-        ensures { result ≡ [] }
+        ensures { result ≡ record { entries = []; hasher = state } }
     {
         NameMap {
             indices: HashMap::with_hasher(alloc, state),
@@ -55,8 +56,8 @@ impl<V: Drop> NameMap<V> {
     /// Returns the name's value, if any.
     pub fn get(&self, name: &str) -> Option<&V>
         ensures { MatchOption result
-            (at_name name.now self.now ≡ None)
-            (λ value. at_name name.now self.now ≡ Some value.now) }
+            (at_name name.now self.now.entries ≡ None)
+            (λ value. at_name name.now self.now.entries ≡ Some value.now) }
     {
         match index_of(&self.indices, name) {
             None => None,
@@ -66,7 +67,7 @@ impl<V: Drop> NameMap<V> {
 
     /// Returns whether the name has a value.
     pub fn contains_name(&self, name: &str) -> bool
-        ensures { result ≡ is_some (at_name name.now self.now) }
+        ensures { result ≡ is_some (at_name name.now self.now.entries) }
     {
         self.get(name).is_some()
     }
@@ -75,7 +76,7 @@ impl<V: Drop> NameMap<V> {
     #[inline(always)]
     pub fn get_mut(&mut self, name: &str) -> Option<&mut V>
         ensures* writes_back { sem 𝓛 (LendsValue V.row self.entry name.now result) }
-        ensures value { option_copied_mut result ≡ at_name name.now self.old }
+        ensures value { option_copied_mut result ≡ at_name name.now self.old.entries }
     {
         match index_of(&self.indices, name) {
             None => None,
@@ -90,8 +91,9 @@ impl<V: Drop> NameMap<V> {
     /// Returns the error of making it, or `NoMemory` if the entry cannot be allocated. Each name then has the same value as
     /// before.
     pub fn keep(&mut self, alloc: Global, name: &str, made: Result<V, Error>) -> Result<(), Refusal>
-        requires free { at_name name.now self.old ≡ None }
-        ensures { Keeps name.now made self.old result self.new }
+        requires free { at_name name.now self.old.entries ≡ None }
+        ensures kept { Keeps name.now made self.old.entries result self.new.entries }
+        ensures hasher { self.new.hasher ≡ self.old.hasher }
     {
         let value = made?;
         let name = copied(alloc, name)?;
@@ -100,9 +102,10 @@ impl<V: Drop> NameMap<V> {
 
     /// Inserts a value under a name that has none. Returns `NoMemory` if the entry cannot be allocated.
     fn insert(&mut self, name: String, value: V) -> Result<(), Error>
-        requires free { at_name (string_bytes name) self.old ≡ None }
-        ensures put { OnOk result (Puts (string_bytes name) value self.old self.new) }
-        ensures same { OnErr result (AreSame self.old self.new) }
+        requires free { at_name (string_bytes name) self.old.entries ≡ None }
+        ensures put { OnOk result (Puts (string_bytes name) value self.old.entries self.new.entries) }
+        ensures same { OnErr result (AreSame self.old.entries self.new.entries) }
+        ensures hasher { self.new.hasher ≡ self.old.hasher }
         ensures err { IfErr result (λ e. e ≡ no_memory) }
     {
         let index = self.values.len();

@@ -1,5 +1,5 @@
 //! Merges and set operations on two named sketches.
-ghost use Rattle.std.specs.Prelude.{◌≢◌, ◌<◌, length, IsTrue};
+ghost use Rattle.std.specs.Prelude.{◌≡◌, ◌≢◌, ◌<◌, length, IsTrue};
 ghost use Rattle.datasketches.specs.Indices.{JoinsAt};
 ghost use Rattle.datasketches.specs.Replies.{done_or};
 ghost use Rattle.datasketches.specs.Steps.{JoinsNamed};
@@ -19,7 +19,8 @@ impl<T: Eq + Hash + Clone + Drop> NameMap<Sketch<T>> {
     /// [`Joining::join`].
     pub fn join<J: Joining<T>>(&mut self, into: &str, other: &str) -> Result<(), Refusal>
         requires clones { (x y : T) → T.is_clone x y → IsTrue (T.eq x y) }
-        ensures { JoinsNamed T.eq J.join into.now other.now self.old (done_or result) self.new }
+        ensures joins { JoinsNamed T.eq J.join into.now other.now self.old.entries (done_or result) self.new.entries }
+        ensures hasher { self.new.hasher ≡ self.old.hasher }
     {
         let Some(index) = index_of(&self.indices, into) else {
             return Err(Refusal::NoSuchName);

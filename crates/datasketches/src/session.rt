@@ -9,7 +9,7 @@ ghost use Rattle.datasketches.specs.Names.{at_name};
 ghost use Rattle.datasketches.specs.Keyed.{PerformedByKey};
 ghost use Rattle.datasketches.specs.Performed.{Performed};
 ghost use Rattle.datasketches.specs.Replies.{done_or, told, told_as, is_refused, bounds_in, contains_in};
-ghost use Rattle.datasketches.specs.State.{SessionState};
+ghost use Rattle.datasketches.specs.State.{SessionState, keys_with, nothing_stored};
 
 mod running;
 
@@ -67,7 +67,11 @@ impl<T: Eq + Hash + Drop> Model for Session<T> {
 
     ghost coded = { Prim.hlevel (codes, state_code) };
 
-    ghost view = { λ s. record { sketches = s.sketches; images = s.images; key = s.key } };
+    ghost view = { λ s. record {
+      sketches = s.sketches.entries;
+      images = s.images.entries;
+      keys = record { table = s.key; sketch_names = s.sketches.hasher; image_names = s.images.hasher };
+    } };
 }
 
 /// Prints the names.
@@ -83,7 +87,7 @@ impl<T: Eq + Hash + Drop> fmt::Debug for Session<T> {
 impl<T: FrequentItemValue + Clone + Drop> Session<T> {
     /// Creates a session with no names. Does not allocate.
     pub fn new(alloc: Global) -> Self
-        ensures empty { result ≡ record { sketches = []; images = []; key = Plain } }
+        ensures empty { result ≡ nothing_stored (keys_with Plain result.keys.sketch_names) }
         ensures fits { SessionStandsFor T.eq T.codec T.content result nothing_named }
     {
         Self::with_state(alloc, TableKey::Plain, MapState::fixed())
@@ -108,7 +112,7 @@ impl<T: FrequentItemValue + Clone + Drop> Session<T> {
     /// }
     /// ```
     pub fn with_key(alloc: Global, key: TableKey) -> Self
-        ensures empty { result ≡ record { sketches = []; images = []; key = key } }
+        ensures empty { result ≡ nothing_stored (keys_with key result.keys.sketch_names) }
         ensures fits { SessionStandsFor T.eq T.codec T.content result nothing_named }
     {
         Self::with_state(alloc, key, MapState::fixed())
@@ -136,7 +140,7 @@ impl<T: FrequentItemValue + Clone + Drop> Session<T> {
     /// }
     /// ```
     pub fn with_key_and_hasher(alloc: Global, key: TableKey, hash_builder: RandomState) -> Self
-        ensures empty { result ≡ record { sketches = []; images = []; key = key } }
+        ensures empty { result ≡ nothing_stored (keys_with key (MapState.Random hash_builder)) }
         ensures fits { SessionStandsFor T.eq T.codec T.content result nothing_named }
     {
         Self::with_state(alloc, key, MapState::Random(hash_builder))
@@ -144,7 +148,7 @@ impl<T: FrequentItemValue + Clone + Drop> Session<T> {
 
     /// Creates a session with no names and these keys.
     fn with_state(alloc: Global, key: TableKey, state: MapState) -> Self
-        ensures empty { result ≡ record { sketches = []; images = []; key = key } }
+        ensures empty { result ≡ nothing_stored (keys_with key state) }
         ensures fits { SessionStandsFor T.eq T.codec T.content result nothing_named }
     {
         Session {

@@ -33,7 +33,7 @@ impl<T: FrequentItemValue + Clone + Drop> Session<T> {
         ensures told { (a : Assignment T) (loaded : History T) → SessionStandsFor T.eq T.codec T.content self.old a
             → IsTold T.eq T.codec T.content command loaded
             → SessionStandsFor T.eq T.codec T.content self.new (after_one_told T.hash_input a command loaded result) }
-        ensures key { self.new.key ≡ self.old.key }
+        ensures keys { self.new.keys ≡ self.old.keys }
         ensures keyed { HasOneKey self.old → HasOneKey self.new }
         ensures refused { is_refused result ≡ true → IsUnchanged self.old self.new }
     {
@@ -175,7 +175,7 @@ impl<T: FrequentItemValue + Clone + Drop> Session<T> {
         ensures told { IfOk result (λ replies. (a : Assignment T) (loaded : List (History T))
             → SessionStandsFor T.eq T.codec T.content self.old a → AreTold T.eq T.codec T.content commands.items loaded
             → SessionStandsFor T.eq T.codec T.content self.new (after_told T.hash_input a commands.items loaded replies.items)) }
-        ensures key { OnOk result (self.new.key ≡ self.old.key) }
+        ensures keys { OnOk result (self.new.keys ≡ self.old.keys) }
         ensures keyed { OnOk result (HasOneKey self.old → HasOneKey self.new) }
         ensures err { OnErr result (self.new ≡ self.old) }
         ensures memory { IfErr result (λ e. e ≡ no_memory) }

@@ -1,5 +1,4 @@
-use Rattle.std.proofs.Common.{refl}
-use Rattle.datasketches.proofs.Saving.{free, taken, creates, creates_taken}
+use Rattle.datasketches.proofs.Saving.{free, taken, creates, creates_taken, sketches_changed}
 use Rattle.datasketches.proofs.session.Session.create.Goals as goal
 
 pub returns-then-contains_name : goal.returns-then-contains_name
@@ -11,4 +10,4 @@ keep-requires g c = record { free = free _ _ c.if-contains_name.false c.contains
 pub returns : goal.returns
 returns g c =
     let e = c.create-made.ensures in
-    creates _ g.T.PartialEq.eq g.T.Hash.hash_input g.T.FrequentItemValue.codec g.T.FrequentItemValue.content (g.S.NewSketch.shape c.args.sizes) c.args.name.now _ c.args.self.now _ _ _ c.self.view_is (free _ _ c.if-contains_name.false c.contains_name.ensures) e.ok e.stands e.accepted e.refused c.keep.ensures (record { images = λ name. refl; key = refl })
+    creates _ g.T.PartialEq.eq g.T.Hash.hash_input g.T.FrequentItemValue.codec g.T.FrequentItemValue.content (g.S.NewSketch.shape c.args.sizes) c.args.name.now _ c.args.self.now _ _ _ c.self.view_is (free _ _ c.if-contains_name.false c.contains_name.ensures) e.ok e.stands e.accepted e.refused c.keep.ensures.kept (sketches_changed c.keep.ensures.hasher)

@@ -1,5 +1,4 @@
-use Rattle.std.proofs.Common.{refl}
-use Rattle.datasketches.proofs.Saving.{free, taken, restores, restores_taken}
+use Rattle.datasketches.proofs.Saving.{free, taken, restores, restores_taken, sketches_changed}
 use Rattle.datasketches.proofs.session.Session.restore.Goals as goal
 
 pub returns-then-contains_name : goal.returns-then-contains_name
@@ -11,4 +10,4 @@ keep-requires g c = record { free = free _ _ c.if-contains_name.false c.contains
 pub returns : goal.returns
 returns g c =
     restores _ g.T.PartialEq.eq g.T.Hash.hash_input g.T.FrequentItemValue.codec g.T.FrequentItemValue.content c.args.image.now c.args.name.now _ c.args.self.now _ c.in_ok-saved.saved.now _ _ c.self.view_is
-    c.in_ok-saved.ensures.found (free _ _ c.if-contains_name.false c.contains_name.ensures) (rw (c.kind.ensures, c.bytes.ensures) at c.restore-read.ensures.read) (rw (c.kind.ensures, c.bytes.ensures) at c.restore-read.ensures.stands) c.restore-read.ensures.keyed (rw (c.kind.ensures, c.bytes.ensures) at c.restore-read.ensures.refused) c.keep.ensures (record { images = λ name. refl; key = refl })
+    c.in_ok-saved.ensures.found (free _ _ c.if-contains_name.false c.contains_name.ensures) (rw (c.kind.ensures, c.bytes.ensures) at c.restore-read.ensures.read) (rw (c.kind.ensures, c.bytes.ensures) at c.restore-read.ensures.stands) c.restore-read.ensures.keyed (rw (c.kind.ensures, c.bytes.ensures) at c.restore-read.ensures.refused) c.keep.ensures.kept (sketches_changed c.keep.ensures.hasher)

@@ -1,5 +1,5 @@
 use Rattle.std.proofs.Common.{◌≡◌, [], ◌∷◌, rules}
-use Rattle.datasketches.proofs.Stepping.{begins, goes_on, ends, run_fits, run_fits_told, run_keeps_key, run_has_one_key, nothing_left}
+use Rattle.datasketches.proofs.Stepping.{begins, goes_on, ends, run_fits, run_fits_told, run_keeps_keys, run_has_one_key, nothing_left}
 use Rattle.datasketches.proofs.session.Session.run.Goals as goal
 
 pub loop-command-preserved : goal.loop-command-preserved
@@ -22,8 +22,8 @@ pub loop-command-init : goal.loop-command-init
 loop-command-init g c =
     begins _ g.T.PartialEq.eq g.T.Hash.hash_input g.T.FrequentItemValue.codec g.T.FrequentItemValue.content c.args.self.now c.args.commands.items _ _ _ c.into_iter-command-iterator.ensures.into_iter_gives.0 c.in_ok-replies.ensures.items (search rules)
 
-pub returns-clause-key : goal.returns-clause-key
-returns-clause-key g c = run_keeps_key _ g.T.PartialEq.eq g.T.Hash.hash_input g.T.FrequentItemValue.codec g.T.FrequentItemValue.content _ _ _ _ (returns-clause-run g c)
+pub returns-clause-keys : goal.returns-clause-keys
+returns-clause-keys g c = run_keeps_keys _ g.T.PartialEq.eq g.T.Hash.hash_input g.T.FrequentItemValue.codec g.T.FrequentItemValue.content _ _ _ _ (returns-clause-run g c)
 
 pub returns-clause-keyed : goal.returns-clause-keyed
 returns-clause-keyed g c = λ one. run_has_one_key _ g.T.PartialEq.eq g.T.Hash.hash_input g.T.FrequentItemValue.codec g.T.FrequentItemValue.content _ _ _ _ (returns-clause-run g c) one
