@@ -9,6 +9,7 @@ import sessions
 VARIABLE = "DATASKETCHES_TABLE_KEY"
 GIVEN = "000102030405060708090a0b0c0d0e0f"
 OTHER = "f0e0d0c0b0a090807060504030201000"
+HALVES = [GIVEN[:16] + OTHER[16:], OTHER[:16] + GIVEN[16:]]  # each shares one half with both
 ALLOWED = ["plain", GIVEN, GIVEN.upper(), GIVEN[:16] + GIVEN[16:].upper(), OTHER, 32 * "0", 32 * "f"]
 BAD = ["", "Plain", "PLAIN", "plain ", " plain", "plainplain", "keyed", "random", "-", "0", GIVEN[:31], GIVEN[:30], f"{GIVEN}0",
        f"{GIVEN}00", f"0x{GIVEN}", f"0x{GIVEN[:30]}", f"{GIVEN[:31]}g", f"g{GIVEN[:31]}", f"{GIVEN[:31]} ", 16 * "é", 5000 * "0"]
@@ -87,7 +88,7 @@ def check(tests):
     for key in ["plain", GIVEN, OTHER]:
         for name, asked in [("a purged sketch", REPEATED), ("an image", ORDERED)]:
             tests.check(f"{name} twice under {key}", play(tests, key)(asked) == play(tests, key)(asked))
-    images = [play(tests, key)(ORDERED)[-1] for key in ["plain", GIVEN, OTHER, None, None]]
+    images = [play(tests, key)(ORDERED)[-1] for key in ["plain", GIVEN, OTHER, None, None, *HALVES]]
     tests.check("keys order the items of an image", len(set(images)) == len(images))
     tests.check("keys are of either case", play(tests, GIVEN.upper())(ORDERED)[-1] == images[1])
     cluster.check(tests, play(tests, None))

@@ -9,7 +9,7 @@
 #include <stdio.h>
 #include <stdlib.h>
 
-enum { SLOTS = 1 << 16, CAPACITY = SLOTS / 4 * 3, SAMPLE = 1024, LEARNED = 640, UPDATES = 10000000, PURGES = 400 };
+enum { SLOTS = 1 << 16, CAPACITY = SLOTS / 4 * 3, SAMPLE = 1024, LEARNED = 800, UPDATES = 10000000, PURGES = 400 };
 
 static const uint64_t LEAST = 1000000, HEAVY = 1 << 30;
 static uint64_t weights[CAPACITY + 1], items[CAPACITY + 1], learned[LEARNED], next_item;
@@ -96,9 +96,8 @@ int main(void)
     for (size_t i = 0; i < LEARNED; i++, next_item += CAPACITY + 1) learned[i] = next_item + sampled(&sketch, next_item);
     before = status_of(&sketch);
     while (updates < UPDATES && purges < PURGES) {
-        for (; before.num_active_items + LEARNED < CAPACITY; updates++) add_heavy(&sketch);
         for (size_t i = 0; i < LEARNED; i++, updates++) add(&sketch, learned[i], 1);
-        add_heavy(&sketch), updates++;
+        for (uint64_t made = purges; purges == made; updates++) add_heavy(&sketch);
     }
     ds_free(&sketch);
     printf("%zu updates, %llu purges, the least share is %.3f\n", updates, (unsigned long long)purges, least_share);
