@@ -28,6 +28,36 @@ REPEATED = [
 ]
 # A sketch that is never purged. Its image has the items in the order of the table.
 ORDERED = ["frequent s 1024", *[f"add s {n} item{n}" for n in range(1, 101)], "save s p", "image p"]
+ITEMS = [f"item{n}" for n in range(1, 101)]
+SHOWN = ["save s p", "image p"]
+
+
+def filled(name):
+    """Returns lines that add each item to a sketch with its own weight."""
+    return [f"add {name} {n} {item}" for n, item in enumerate(ITEMS, 1)]
+
+
+def keyed_jobs(full, empty):
+    """Returns jobs whose last reply shows the order of a table, one for each way to a sketch, given two images."""
+    other = ["frequent t 1024", *filled("t")]
+    ways = {
+        "frequent": ["frequent s 1024", *filled("s")],
+        "sampled": ["sampled s 1024 100", *filled("s")],
+        "reset": ["frequent s 1024", *filled("s"), "reset s", *filled("s")],
+        "merge": [*other, "frequent s 1024", "merge s t"],
+        "restore": [*other, "save t q", "restore q s"],
+        "restore of an empty image": ["frequent t 1024", "save t q", "restore q s", *filled("s")],
+        "load": [f"load s frequent 1000000 {full}"],
+        "load of an empty image": [f"load s frequent 1000000 {empty}", *filled("s")],
+    }
+    added = [f"hadd 7 1 {item}" for item in ITEMS]
+    reports = {
+        "hreport": ["windows 2 1024", *added, "hreport 7 fn 0"],
+        "hreport after hturn": ["windows 2 1024", *added, "hturn 7", "hadd 7 1 item1", "hreport 7 fn 1000000", "hreport 7 fn 0"],
+    }
+    return {**{name: way + SHOWN for name, way in ways.items()}, **reports}
+
+
 # Names of sketches, images and tenants, and their replies, which show no order of a map.
 MANY_NAMES = [
     ("windows 2 8", "ok"),
@@ -66,7 +96,7 @@ def play(tests, key):
 
 
 def check(tests):
-    """Checks the forms of the variable, bad values, equal runs under one key, and bounds under random keys."""
+    """Checks the forms of the variable, bad values, equal runs under one key, orders under several, and bounds under random keys."""
     lines, replies = sessions.texts_of(sessions.MAIN_JOB + sessions.QUESTIONS[:3])
     names, told = sessions.texts_of(MANY_NAMES)
     for key in [*ALLOWED, None, None]:
@@ -90,5 +120,9 @@ def check(tests):
             tests.check(f"{name} twice under {key}", play(tests, key)(asked) == play(tests, key)(asked))
     images = [play(tests, key)(ORDERED)[-1] for key in ["plain", GIVEN, OTHER, None, None, *HALVES]]
     tests.check("keys order the items of an image", len(set(images)) == len(images))
+    images_of = [play(tests, "plain")(job)[-1].split()[-1] for job in [ORDERED, ["frequent s 1024", *SHOWN]]]
+    for name, job in keyed_jobs(*images_of).items():
+        orders = [play(tests, key)(job)[-1] for key in ["plain", GIVEN, OTHER]]
+        tests.check(f"keys order the items after {name}", len(set(orders)) == len(orders))
     tests.check("keys are of either case", play(tests, GIVEN.upper())(ORDERED)[-1] == images[1])
     cluster.check(tests, play(tests, None))

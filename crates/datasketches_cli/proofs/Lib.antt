@@ -1,4 +1,5 @@
 pub mod Digits
+pub mod Hashing
 pub mod LineReading
 pub mod Lines
 pub mod Numbers

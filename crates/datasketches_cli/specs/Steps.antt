@@ -10,6 +10,7 @@ use Rattle.datasketches.specs.Keyed.{PerformedByKey}
 use Rattle.datasketches.specs.Replies.{done_or}
 use Rattle.datasketches.specs.State.{SessionState}
 use Rattle.datasketches.specs.Steps.{Performs}
+use Rattle.datasketches.specs.TableKey.{TableKey}
 use Rattle.datasketches.specs.declared.reply.Refusal.{Refusal}
 use Rattle.datasketches.specs.declared.reply.Refusal.TheVariants.{NoSuchName, NameTaken, Call}
 use Rattle.datasketches.specs.declared.reply.Reply.{Reply}
@@ -28,22 +29,22 @@ use Rattle.datasketches_cli.specs.Texts.{Text, text_input, text_slot}
 abbrev pub Windows : Type 0
 Windows = Option (WindowsState Text)
 
--- the state without sketches, images and windows
-abbrev pub nothing_served : State
-nothing_served = record { session = record { sketches = []; images = [] }; windows = None }
+-- the state without sketches, images and windows, whose session has this key
+abbrev pub nothing_served : TableKey → State
+nothing_served key = record { session = record { sketches = []; images = []; key = key }; windows = None }
 
 -- the result of a call, with its error as the rejection of the request
 abbrev pub passed_on : {X : Type 0} → Result X ErrorValue → Result X Refusal
 passed_on (Ok x) = Ok x
 passed_on (Err e) = Err (Call e)
 
--- windows are created if there are none. Otherwise the outcome is `NameTaken`
-abbrev pub Opens : ℕ → ℕ → Windows → Result ⊤ Refusal → Windows → Type 0
-Opens windows max_map_size (Some old) outcome new = (outcome ≡ Err NameTaken) × (new ≡ Some old)
-Opens windows max_map_size None (Ok _) new =
-    (made : WindowsState Text) × IsMade windows max_map_size (Ok made) × (new ≡ Some made)
-Opens windows max_map_size None (Err refusal) new =
-    (e : ErrorValue) × IsMade {T = Text} windows max_map_size (Err e) × (refusal ≡ Call e) × (new ≡ None)
+-- windows under the key are created if there are none. Otherwise the outcome is `NameTaken`
+abbrev pub Opens : TableKey → ℕ → ℕ → Windows → Result ⊤ Refusal → Windows → Type 0
+Opens key windows max_map_size (Some old) outcome new = (outcome ≡ Err NameTaken) × (new ≡ Some old)
+Opens key windows max_map_size None (Ok _) new =
+    (made : WindowsState Text) × IsMade windows max_map_size key (Ok made) × (new ≡ Some made)
+Opens key windows max_map_size None (Err refusal) new =
+    (e : ErrorValue) × IsMade {T = Text} windows max_map_size key (Err e) × (refusal ≡ Call e) × (new ≡ None)
 
 -- a call is made on the windows. If there are none, the outcome is `NoSuchName`
 abbrev pub OnWindows : (WindowsState Text → Result ⊤ ErrorValue → WindowsState Text → Type 0) → Windows → Result ⊤ Refusal → Windows → Type 0
@@ -108,11 +109,13 @@ DidByBytes name bytes weight old result new =
     PerformedByKey text_slot string_eq text_input text_codec string_bytes name (λ x. bytes_eq bytes (string_bytes x)) weight
     old result new
 
--- the effect of a request. An action is a step of the session; the others are calls on the windows
+-- the effect of a request. An action is a step of the session; the others are calls on the windows. New windows
+-- have the session's key
 abbrev pub ServingStep : State → Request → Answer → State → Type 0
 ServingStep old (Act action) (Replied reply) new =
     DidSpelled action old.session reply new.session × (new.windows ≡ old.windows)
-ServingStep old (OpenWindows windows max_map_size) (Replied reply) new = OfWindows (Opens windows max_map_size) old reply new
+ServingStep old (OpenWindows windows max_map_size) (Replied reply) new =
+    OfWindows (Opens old.session.key windows max_map_size) old reply new
 ServingStep old (AddTo tenant weight item) (Replied reply) new =
     (x : Text) × (string_bytes x ≡ item) × OfWindows (AddsTo tenant weight x) old reply new
 ServingStep old (TurnOf tenant) (Replied reply) new = OfWindows (TurnsFor tenant) old reply new

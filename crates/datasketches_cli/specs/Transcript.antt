@@ -4,6 +4,7 @@ use Rattle.std.specs.Fmt.{decimal}
 use Rattle.std.specs.Io.BufRead.{strip_last}
 use Rattle.std.specs.Io.KnownBytes.{Appends}
 use Rattle.std.specs.List.{slice_split}
+use Rattle.datasketches.specs.TableKey.{TableKey}
 use Rattle.datasketches_cli.specs.declared.serve.Ended.{Ended}
 use Rattle.datasketches_cli.specs.declared.serve.Ended.TheVariants.{All, BadLine}
 use Rattle.datasketches_cli.specs.Printing.{answer_text}
@@ -44,6 +45,7 @@ Transcript number state (line ∷ lines) ended text =
     ⊎ (IsBad line × (ended ≡ BadLine number) × (text ≡ bad_line number))
 
 -- if the input's bytes are known, the writer received the output for its lines, from a state without sketches, images and windows
-abbrev pub Serves : Option (List ℕ) → Option (List ℕ) → Option (List ℕ) → Ended → Type 0
-Serves input held holds ended =
-    IfSome input (λ bytes. (text : List ℕ) × Appends held holds text × Transcript 1 nothing_served (lines_of bytes) ended text)
+-- under this key
+abbrev pub Serves : TableKey → Option (List ℕ) → Option (List ℕ) → Option (List ℕ) → Ended → Type 0
+Serves key input held holds ended =
+    IfSome input (λ bytes. (text : List ℕ) × Appends held holds text × Transcript 1 (nothing_served key) (lines_of bytes) ended text)

@@ -1,6 +1,6 @@
 //! The keys of a run: how its tables and maps hash.
-ghost use Rattle.std.specs.Prelude.{◌≡◌, []};
-ghost use Rattle.datasketches_cli.specs.KeyValues.{choice_of};
+ghost use Rattle.std.specs.Prelude.{◌≡◌, [], IfOk};
+ghost use Rattle.datasketches_cli.specs.KeyValues.{choice_of, table_key, HashesUnder};
 ghost use Rattle.heavy_windows.specs.Calls.{IsMade};
 
 use datasketches::Session;
@@ -114,7 +114,7 @@ impl RandomSource for GivenBytes {
 impl Keys {
     /// Creates a session under the keys. Does not allocate.
     pub fn session(&self, alloc: Global) -> Session<String>
-        ensures { result ≡ record { sketches = []; images = [] } }
+        ensures { result ≡ record { sketches = []; images = []; key = table_key self.now } }
     {
         match *self {
             Keys::Plain => Session::new(alloc),
@@ -135,7 +135,8 @@ impl Keys {
         windows: usize,
         max_map_size: usize,
     ) -> Result<HeavyWindows<String>, Error>
-        ensures { IsMade windows max_map_size result }
+        ensures call { IsMade windows max_map_size (table_key self.now) result }
+        ensures maps { IfOk result (λ made. HashesUnder self.now made.hasher) }
     {
         match *self {
             Keys::Plain => HeavyWindows::new(alloc, windows, max_map_size),

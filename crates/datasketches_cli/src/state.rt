@@ -1,5 +1,6 @@
 //! A session and windows of tenants.
 ghost use Rattle.std.specs.Prelude.{◌≡◌};
+ghost use Rattle.datasketches_cli.specs.KeyValues.{table_key};
 ghost use Rattle.datasketches_cli.specs.Steps.{nothing_served, Opens, AddsTo, TurnsFor, ReportsOn};
 
 use crate::keys::Keys;
@@ -18,7 +19,7 @@ pub struct State {
 impl State {
     /// Creates a state with no sketch, no image and no windows. Does not allocate.
     pub fn new(alloc: Global, keys: &Keys) -> Self
-        ensures { result ≡ nothing_served }
+        ensures { result ≡ nothing_served (table_key keys.now) }
     {
         State {
             session: keys.session(alloc),
@@ -35,7 +36,7 @@ pub fn open(
     limit: u64,
     max_map_size: u64,
 ) -> Result<(), Refusal>
-    ensures { Opens limit max_map_size windows.old result windows.new }
+    ensures { Opens (table_key keys.now) limit max_map_size windows.old result windows.new }
 {
     if windows.is_some() {
         return Err(Refusal::NameTaken);

@@ -9,6 +9,7 @@ ghost use Rattle.sketch_base.specs.Strings.{strings_at};
 ghost use Rattle.datasketches.specs.Actions as action;
 ghost use Rattle.datasketches.specs.Replies.{done_or, told};
 ghost use Rattle.datasketches_cli.specs.Grammar.{bytes_of_digits, count_min_sizes, filter_sizes, load_of, plain_kind, report_of, request_of, seeded_kind};
+ghost use Rattle.datasketches_cli.specs.KeyValues.{table_key};
 ghost use Rattle.datasketches_cli.specs.Requests.{Request};
 ghost use Rattle.datasketches_cli.specs.Serving.{Runs};
 
@@ -36,6 +37,7 @@ impl State {
         words: &[&str],
         answer: &mut Answer,
     ) -> Option<Result<Ran, AllocError>>
+        requires key { self.old.session.key ≡ table_key keys.now }
         ensures { Runs (request_of (strings_at words.now)) self.old answer.new result self.new }
     {
         match words {
@@ -84,6 +86,7 @@ impl State {
         a: &str,
         b: &str,
     ) -> Option<Result<Ran, AllocError>>
+        requires key { self.old.session.key ≡ table_key keys.now }
         ensures { Runs (request_of (verb.now ∷ a.now ∷ b.now ∷ [])) self.old answer.new result self.new }
     {
         match verb {
