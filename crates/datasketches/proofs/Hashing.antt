@@ -14,6 +14,7 @@ use Rattle.datasketches.specs.Actions.{Action, Action as action, Change, Change 
 use Rattle.datasketches.specs.Changing.{AddsFrequent, Changes}
 use Rattle.datasketches.specs.Hashing.{IsUnder, HasOneKey}
 use Rattle.datasketches.specs.Images.{IsReadRefusal, IsLoadRefusal}
+use Rattle.datasketches.specs.KeysKept.{makes, loads, keys_kept}
 use Rattle.datasketches.specs.Joining.{Joins, JoinsFrequent}
 use Rattle.datasketches.specs.Names.{at_name, Puts, AreSame}
 use Rattle.datasketches.specs.Shapes.{empty_sketch, fault_of}
@@ -141,42 +142,17 @@ module _ {T : Type 0} (eq : T → T → Bool) (input : T → List (List ℕ)) (k
 -- ---- the session after an action
 
 module _ {T C : Type 0} (slot : ℕ) (eq : T → T → Bool) (input : T → List (List ℕ)) (codec : Codec C) (content : T → C) where
-  -- what holds where nothing changed and where something was made holds in each case
-  makes : {V W P : Type 0} (source : Option V) (taken : Option W) (Makes : V → Type 0) (reply : Reply T) (old new : SessionState T) → (IsUnchanged old new → P) → ((value : V) → Makes value → P) → MakesFrom source taken Makes old reply new → P
-  makes None taken Makes reply old new same made (unchanged, refusal) = same unchanged
-  makes (Some value) (Some other) Makes reply old new same made (unchanged, refusal) = same unchanged
-  makes (Some value) None Makes reply old new same made done = made value done
-
-  loads : {P : Type 0} (kind : ImageKind) (bytes : List ℕ) (max_bytes : ℕ) (name : List ℕ) (found : Option (Sketch T)) (reply : Reply T) (old new : SessionState T) → at_name name old.sketches ≡ found → (IsUnchanged old new → P) → (Brings slot eq codec content kind bytes max_bytes name old reply new → P) → Loads slot eq codec content kind bytes max_bytes name old reply new → P
-  loads kind bytes max_bytes name (Some sketch) reply old new e same made step = same (rw e at step).0
-  loads kind bytes max_bytes name None reply old new e same made step = made (rw e at step)
-
-  pub keys_kept : (action : Action T) (reply : Reply T) (old new : SessionState T) → Performs slot eq input codec content old action reply new → new.keys ≡ old.keys
-  keys_kept (action.Create name shape) reply old new step = step.1.keys
-  keys_kept (action.Alter name change) reply old new step = step.1.keys
-  keys_kept (action.Combine into other join) reply old new step = step.1.keys
-  keys_kept (action.Save name image) reply old new step =
-      makes (at_name name old.sketches) (at_name image old.images) (λ sketch. Writes codec content sketch image old reply new) reply old new (λ same. same.keys) (λ sketch done. done.keys) step
-  keys_kept (action.Restore image name) reply old new step =
-      makes (at_name image old.images) (at_name name old.sketches) (λ saved. Reads eq codec content saved name old reply new) reply old new (λ same. same.keys) (λ saved done. done.rest.keys) step
-  keys_kept (action.Load name kind bytes max_bytes) reply old new step =
-      loads kind bytes max_bytes name (at_name name old.sketches) reply old new refl (λ same. same.keys) (λ done. done.rest.keys) step
-  keys_kept (action.ShowImage image) reply old new step = step.0.keys
-  keys_kept (action.Ask name item) reply old new step = step.0.keys
-  keys_kept (action.GetStatus name) reply old new step = step.0.keys
-  keys_kept (action.ListRows name error_type threshold) reply old new step = step.0.keys
-
   sketches_under : (action : Action T) (reply : Reply T) (old new : SessionState T) → Performs slot eq input codec content old action reply new → AllUnder old.keys.table old.sketches → AllUnder old.keys.table new.sketches
   sketches_under (action.Create name shape) reply old new step all = created_under eq input old.keys.table shape name (at_name name old.sketches) reply old.sketches new.sketches refl step.0 all
   sketches_under (action.Alter name change) reply old new step all = altered_under eq input old.keys.table change name (at_name name old.sketches) reply old.sketches new.sketches refl step.0 all
   sketches_under (action.Combine into other join) reply old new step all = combined_under eq input old.keys.table join into other (at_name into old.sketches) (at_name other old.sketches) reply old.sketches new.sketches refl refl step.0 all
   sketches_under (action.Save name image) reply old new step all =
-      makes (at_name name old.sketches) (at_name image old.images) (λ sketch. Writes codec content sketch image old reply new) reply old new (λ same. same_under old.keys.table old.sketches new.sketches all same.sketches) (λ sketch done. same_under old.keys.table old.sketches new.sketches all done.sketches) step
+      makes slot eq input codec content (at_name name old.sketches) (at_name image old.images) (λ sketch. Writes codec content sketch image old reply new) reply old new (λ same. same_under old.keys.table old.sketches new.sketches all same.sketches) (λ sketch done. same_under old.keys.table old.sketches new.sketches all done.sketches) step
   sketches_under (action.Restore image name) reply old new step all =
-      makes (at_name image old.images) (at_name name old.sketches) (λ saved. Reads eq codec content saved name old reply new) reply old new (λ same. same_under old.keys.table old.sketches new.sketches all same.sketches)
+      makes slot eq input codec content (at_name image old.images) (at_name name old.sketches) (λ saved. Reads eq codec content saved name old reply new) reply old new (λ same. same_under old.keys.table old.sketches new.sketches all same.sketches)
       (λ saved done. stores_under old.keys.table (IsRestored eq codec content old.keys.table saved) (IsReadRefusal codec saved.kind saved.bytes) name old.sketches new.sketches reply (λ sketch restored. restored.keyed) all done.outcome) step
   sketches_under (action.Load name kind bytes max_bytes) reply old new step all =
-      loads kind bytes max_bytes name (at_name name old.sketches) reply old new refl (λ same. same_under old.keys.table old.sketches new.sketches all same.sketches)
+      loads slot eq input codec content kind bytes max_bytes name (at_name name old.sketches) reply old new refl (λ same. same_under old.keys.table old.sketches new.sketches all same.sketches)
       (λ done. stores_under old.keys.table (IsLoaded slot eq codec content old.keys.table kind bytes max_bytes) (IsLoadRefusal slot codec max_bytes kind bytes) name old.sketches new.sketches reply (λ sketch loaded. loaded.keyed) all done.outcome) step
   sketches_under (action.ShowImage image) reply old new step all = same_under old.keys.table old.sketches new.sketches all step.0.sketches
   sketches_under (action.Ask name item) reply old new step all = same_under old.keys.table old.sketches new.sketches all step.0.sketches
@@ -185,4 +161,4 @@ module _ {T C : Type 0} (slot : ℕ) (eq : T → T → Bool) (input : T → List
 
   pub one_key_kept : (action : Action T) (reply : Reply T) (old new : SessionState T) → Performs slot eq input codec content old action reply new → HasOneKey old → HasOneKey new
   one_key_kept action reply old new step all =
-      subst (λ (keys : SessionKeys). AllUnder keys.table new.sketches) (sym (keys_kept action reply old new step)) (sketches_under action reply old new step all)
+      subst (λ (keys : SessionKeys). AllUnder keys.table new.sketches) (sym (keys_kept slot eq input codec content action reply old new step)) (sketches_under action reply old new step all)

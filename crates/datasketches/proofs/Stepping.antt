@@ -13,6 +13,7 @@ use Rattle.datasketches.specs.Loading.{IsActionTold, IsTold, AreTold}
 use Rattle.datasketches.specs.Performed.{Performed}
 use Rattle.datasketches.specs.Replies.{is_refused}
 use Rattle.datasketches.specs.Running.{Midst}
+use Rattle.datasketches.specs.KeysKept.{keys_kept}
 use Rattle.datasketches.specs.State.{SessionState, IsUnchanged}
 use Rattle.datasketches.specs.Steps.{Performs, Step, Run}
 use Rattle.datasketches.specs.declared.command.Command.{Command}
@@ -20,7 +21,7 @@ use Rattle.datasketches.specs.declared.image_kind.ImageKind.{ImageKind}
 use Rattle.datasketches.specs.declared.image_kind.ImageKind.TheVariants as kind
 use Rattle.datasketches.specs.declared.reply.Reply.{Reply}
 use Rattle.datasketches.proofs.Fitting.{Outcome, outcome_of, unchanged_fits}
-use Rattle.datasketches.proofs.Hashing.{keys_kept, one_key_kept}
+use Rattle.datasketches.proofs.Hashing.{one_key_kept}
 
 module _ {T C : Type 0} (eq : T → T → Bool) (codec : Codec C) (content : T → C) where
   -- any image states a shape

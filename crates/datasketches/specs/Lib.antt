@@ -15,6 +15,7 @@ pub mod State
 pub mod Hashing
 pub mod Indices
 pub mod Steps
+pub mod KeysKept
 pub mod SessionStandsFor
 pub mod Laws
 pub mod Clusters

@@ -52,7 +52,7 @@ on_same DoesThis name (Some sketch) old mid reply new e same on =
 from_unchanged : (name : List ℕ) (change : Change Text) (old mid new : SessionState Text) (reply : Reply Text) → IsUnchanged old mid → Did (Alter name change) mid reply new → Did (Alter name change) old reply new
 from_unchanged name change old mid new reply same did = (
   on_same (Does string_eq (Changes string_eq text_input change) (changed text_input change)) name (at_name name mid.sketches) old.sketches mid.sketches reply new.sketches refl same.sketches did.0,
-  record { images = λ n. did.1.images n ∙ same.images n; key = did.1.key ∙ same.key },
+  record { images = λ n. did.1.images n ∙ same.images n; keys = did.1.keys ∙ same.keys },
 )
 
 out_case : (found : Option (Sketch Text)) (names : Text → Bool) (weight : ℕ) (result : Result ⊤ Refusal) → MatchOption found ⊥ (λ sketch. RunsOut names weight sketch result) → result ≡ Err (Call no_memory)

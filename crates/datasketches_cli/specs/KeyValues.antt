@@ -1,7 +1,8 @@
--- The values of the environment variable that fixes the key of tables, and the key that the tables of a run have.
+-- The values of the environment variable that fixes the key of tables, and the keys that a run has.
 use Rattle.std.specs.Prelude.{◌≡◌, ℕ, List, Option, Some, if◌then◌else◌, codes, option_map}
 use Rattle.std.specs.Result.{result_ok}
 use Rattle.std.specs.Str.{bytes_eq}
+use Rattle.datasketches.specs.State.{SessionKeys}
 use Rattle.datasketches.specs.TableKey.{TableKey}
 use Rattle.datasketches.specs.TableKey.TheVariants as table
 use Rattle.sketch_base.specs.declared.map_state.MapState.{MapState}
@@ -25,3 +26,9 @@ table_key (keys.Keyed key maps) = table.Keyed key
 abbrev pub HashesUnder : Keys → MapState → Type 0
 HashesUnder keys.Plain hasher = Unit {0}
 HashesUnder (keys.Keyed key maps) hasher = hasher ≡ Random maps
+
+-- a session has the keys of a run: for its tables, and for the names of its sketches and images
+pub record HasKeys (keys : Keys) (own : SessionKeys) : Type 0 where
+  pub table : own.table ≡ table_key keys
+  pub sketch_names : HashesUnder keys own.sketch_names
+  pub image_names : HashesUnder keys own.image_names

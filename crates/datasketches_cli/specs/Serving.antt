@@ -4,7 +4,7 @@ use Rattle.std.specs.Io.BufRead.{strip_last}
 use Rattle.std.specs.Io.KnownBytes.{Appends, IsAtEnd}
 use Rattle.std.specs.String.{string_bytes}
 use Rattle.datasketches.specs.Replies.{done_or}
-use Rattle.datasketches.specs.TableKey.{TableKey}
+use Rattle.datasketches.specs.State.{SessionKeys}
 use Rattle.datasketches_cli.specs.Asking.{Says, IsBad}
 use Rattle.datasketches_cli.specs.Grammar.{Spelled, IsBlank}
 use Rattle.datasketches_cli.specs.declared.responder.Responder.{Responder}
@@ -12,7 +12,7 @@ use Rattle.datasketches_cli.specs.declared.responder.LineOutcome.{LineOutcome}
 use Rattle.datasketches_cli.specs.declared.responder.LineOutcome.TheVariants as line
 use Rattle.datasketches_cli.specs.declared.serve.Ended.{Ended}
 use Rattle.datasketches_cli.specs.declared.serve.Ended.TheVariants.{All}
-use Rattle.datasketches_cli.specs.KeyValues.{table_key}
+use Rattle.datasketches_cli.specs.KeyValues.{HasKeys}
 use Rattle.datasketches_cli.specs.Reading.{TakesLine}
 use Rattle.datasketches_cli.specs.Requests.{Request}
 use Rattle.datasketches_cli.specs.declared.reply.Answer.{Answer}
@@ -21,7 +21,7 @@ use Rattle.datasketches_cli.specs.declared.reply.Ran.{Ran}
 use Rattle.datasketches_cli.specs.declared.reply.Ran.TheVariants.{Done, Told}
 use Rattle.datasketches_cli.specs.declared.state.State.{State}
 use Rattle.datasketches_cli.specs.Steps.{ServingStep}
-use Rattle.datasketches_cli.specs.Transcript.{answer_line, Serves}
+use Rattle.datasketches_cli.specs.Transcript.{answer_line, ServesUnder}
 
 -- the front of what was gathered went to the writer
 abbrev pub WritesFront : Option (List ℕ) → Option (List ℕ) → List ℕ → List ℕ → Type 0
@@ -62,12 +62,12 @@ AnswersNext was is old new (Some became) =
     (line : List ℕ) × TakesLine true was is line
     × IsAnswered (strip_last 13 (strip_last 10 line)) old new became
 
--- the session has the key of the tables of the run
-abbrev pub HasOwnKey : Responder → Type 0
-HasOwnKey responder = responder.state.session.key ≡ table_key responder.keys
+-- the session has the keys of the run
+abbrev pub HasOwnKeys : Responder → Type 0
+HasOwnKeys responder = HasKeys responder.keys responder.state.session.keys
 
--- a run of the loop, under this key: it served its input and wrote all output with no failure. If all lines were read, no input is left
-pub record HasServed (key : TableKey) (input left held holds : Option (List ℕ)) (before now : ℕ) (ended : Ended) : Type 0 where
-  pub served : Serves key input held holds ended
+-- a run of the loop, under these keys: it served its input and wrote all output with no failure. If all lines were read, no input is left
+pub record HasServed (own : SessionKeys) (input left held holds : Option (List ℕ)) (before now : ℕ) (ended : Ended) : Type 0 where
+  pub served : ServesUnder own input held holds ended
   pub all_read : ended ≡ All → IsAtEnd left
   pub all_written : now ≡ before

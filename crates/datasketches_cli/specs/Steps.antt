@@ -8,7 +8,7 @@ use Rattle.datasketches.specs.Actions.{Action}
 use Rattle.datasketches.specs.Actions as action
 use Rattle.datasketches.specs.Keyed.{PerformedByKey}
 use Rattle.datasketches.specs.Replies.{done_or}
-use Rattle.datasketches.specs.State.{SessionState}
+use Rattle.datasketches.specs.State.{SessionKeys, SessionState, nothing_stored}
 use Rattle.datasketches.specs.Steps.{Performs}
 use Rattle.datasketches.specs.TableKey.{TableKey}
 use Rattle.datasketches.specs.declared.reply.Refusal.{Refusal}
@@ -29,9 +29,9 @@ use Rattle.datasketches_cli.specs.Texts.{Text, text_input, text_slot}
 abbrev pub Windows : Type 0
 Windows = Option (WindowsState Text)
 
--- the state without sketches, images and windows, whose session has this key
-abbrev pub nothing_served : TableKey → State
-nothing_served key = record { session = record { sketches = []; images = []; key = key }; windows = None }
+-- the state without sketches, images and windows, whose session has these keys
+abbrev pub nothing_served : SessionKeys → State
+nothing_served keys = record { session = nothing_stored keys; windows = None }
 
 -- the result of a call, with its error as the rejection of the request
 abbrev pub passed_on : {X : Type 0} → Result X ErrorValue → Result X Refusal
@@ -110,12 +110,12 @@ DidByBytes name bytes weight old result new =
     old result new
 
 -- the effect of a request. An action is a step of the session; the others are calls on the windows. New windows
--- have the session's key
+-- have the key of the session's tables
 abbrev pub ServingStep : State → Request → Answer → State → Type 0
 ServingStep old (Act action) (Replied reply) new =
     DidSpelled action old.session reply new.session × (new.windows ≡ old.windows)
 ServingStep old (OpenWindows windows max_map_size) (Replied reply) new =
-    OfWindows (Opens old.session.key windows max_map_size) old reply new
+    OfWindows (Opens old.session.keys.table windows max_map_size) old reply new
 ServingStep old (AddTo tenant weight item) (Replied reply) new =
     (x : Text) × (string_bytes x ≡ item) × OfWindows (AddsTo tenant weight x) old reply new
 ServingStep old (TurnOf tenant) (Replied reply) new = OfWindows (TurnsFor tenant) old reply new

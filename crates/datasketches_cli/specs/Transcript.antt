@@ -4,7 +4,9 @@ use Rattle.std.specs.Fmt.{decimal}
 use Rattle.std.specs.Io.BufRead.{strip_last}
 use Rattle.std.specs.Io.KnownBytes.{Appends}
 use Rattle.std.specs.List.{slice_split}
-use Rattle.datasketches.specs.TableKey.{TableKey}
+use Rattle.datasketches.specs.State.{SessionKeys}
+use Rattle.datasketches_cli.specs.KeyValues.{HasKeys}
+use Rattle.datasketches_cli.specs.declared.keys.Keys.{Keys}
 use Rattle.datasketches_cli.specs.declared.serve.Ended.{Ended}
 use Rattle.datasketches_cli.specs.declared.serve.Ended.TheVariants.{All, BadLine}
 use Rattle.datasketches_cli.specs.Printing.{answer_text}
@@ -45,7 +47,11 @@ Transcript number state (line ∷ lines) ended text =
     ⊎ (IsBad line × (ended ≡ BadLine number) × (text ≡ bad_line number))
 
 -- if the input's bytes are known, the writer received the output for its lines, from a state without sketches, images and windows
--- under this key
-abbrev pub Serves : TableKey → Option (List ℕ) → Option (List ℕ) → Option (List ℕ) → Ended → Type 0
-Serves key input held holds ended =
-    IfSome input (λ bytes. (text : List ℕ) × Appends held holds text × Transcript 1 (nothing_served key) (lines_of bytes) ended text)
+-- whose session has these keys
+abbrev pub ServesUnder : SessionKeys → Option (List ℕ) → Option (List ℕ) → Option (List ℕ) → Ended → Type 0
+ServesUnder own input held holds ended =
+    IfSome input (λ bytes. (text : List ℕ) × Appends held holds text × Transcript 1 (nothing_served own) (lines_of bytes) ended text)
+
+-- the same for a session with the keys of a run
+abbrev pub Serves : Keys → Option (List ℕ) → Option (List ℕ) → Option (List ℕ) → Ended → Type 0
+Serves keys input held holds ended = (own : SessionKeys) × HasKeys keys own × ServesUnder own input held holds ended

@@ -1,6 +1,7 @@
 //! The keys of a run: how its tables and maps hash.
-ghost use Rattle.std.specs.Prelude.{◌≡◌, [], IfOk};
-ghost use Rattle.datasketches_cli.specs.KeyValues.{choice_of, table_key, HashesUnder};
+ghost use Rattle.std.specs.Prelude.{◌≡◌, IfOk};
+ghost use Rattle.datasketches.specs.State.{nothing_stored};
+ghost use Rattle.datasketches_cli.specs.KeyValues.{choice_of, table_key, HasKeys, HashesUnder};
 ghost use Rattle.heavy_windows.specs.Calls.{IsMade};
 
 use datasketches::Session;
@@ -114,7 +115,8 @@ impl RandomSource for GivenBytes {
 impl Keys {
     /// Creates a session under the keys. Does not allocate.
     pub fn session(&self, alloc: Global) -> Session<String>
-        ensures { result ≡ record { sketches = []; images = []; key = table_key self.now } }
+        ensures empty { result ≡ nothing_stored result.keys }
+        ensures keys { HasKeys self.now result.keys }
     {
         match *self {
             Keys::Plain => Session::new(alloc),

@@ -1,7 +1,6 @@
 //! From lines to replies.
 ghost use Rattle.std.specs.Prelude.{◌≡◌, [], IfOk, OnOk, string_bytes};
-ghost use Rattle.datasketches_cli.specs.KeyValues.{table_key};
-ghost use Rattle.datasketches_cli.specs.Serving.{HasOwnKey, IsAnswered};
+ghost use Rattle.datasketches_cli.specs.Serving.{HasOwnKeys, IsAnswered};
 ghost use Rattle.datasketches_cli.specs.Steps.{nothing_served};
 
 use crate::keys::Keys;
@@ -41,8 +40,9 @@ pub struct Responder {
 impl Responder {
     /// Creates a responder with an empty state under `keys`, and no replies. Does not allocate.
     pub fn new(alloc: Global, keys: Keys) -> Self
-        ensures serves { result.state ≡ nothing_served (table_key keys) }
+        ensures serves { result.state ≡ nothing_served result.state.session.keys }
         ensures keys { result.keys ≡ keys }
+        ensures own { HasOwnKeys result }
         ensures gathers { string_bytes result.replies ≡ [] }
     {
         let state = State::new(alloc, &keys);
@@ -57,9 +57,9 @@ impl Responder {
 
     /// Runs the request of a line without its end, and gathers the reply.
     pub fn answer_line(&mut self, line: &[u8]) -> Result<LineOutcome, AllocError>
-        requires key { HasOwnKey self.old }
+        requires keys { HasOwnKeys self.old }
         ensures answered { IfOk result (IsAnswered line.now self.old self.new) }
-        ensures key { OnOk result (HasOwnKey self.new) }
+        ensures keys { OnOk result (HasOwnKeys self.new) }
     {
         let Ok(text) = from_utf8(line) else {
             return Ok(LineOutcome::Bad);

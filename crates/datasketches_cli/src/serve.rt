@@ -4,8 +4,9 @@ ghost use Rattle.std.specs.Prelude.{string_bytes, string_len};
 ghost use Rattle.std.specs.Io.BufRead.{strip_last};
 ghost use Rattle.std.specs.Io.KnownBytes.{Appends, IsAtEnd, prepend_known};
 ghost use Rattle.datasketches_cli.specs.Counts.{HasGrown};
-ghost use Rattle.datasketches_cli.specs.KeyValues.{table_key};
-ghost use Rattle.datasketches_cli.specs.Serving.{AnswersNext, HasOwnKey, HasServed, WritesFront};
+ghost use Rattle.datasketches.specs.State.{SessionKeys};
+ghost use Rattle.datasketches_cli.specs.KeyValues.{HasKeys};
+ghost use Rattle.datasketches_cli.specs.Serving.{AnswersNext, HasOwnKeys, HasServed, WritesFront};
 ghost use Rattle.datasketches_cli.specs.Steps.{nothing_served};
 ghost use Rattle.datasketches_cli.specs.Transcript.{Serves, bad_line};
 
@@ -58,7 +59,7 @@ pub fn serve<R: Read, W: Write>(
     reader: &mut Counted<R>,
     writer: &mut Counted<W>,
 ) -> Result<Ended, CliFault>
-    ensures served { IfOk result (Serves (table_key keys) (R.remaining reader.old.inner)
+    ensures served { IfOk result (Serves keys (R.remaining reader.old.inner)
         (W.contents writer.old.inner) (W.contents writer.new.inner)) }
     ensures all_read { IfOk result (λ ended. ended ≡ Ended.All → IsAtEnd (R.remaining reader.new.inner)) }
     ensures all_written { OnOk result (writer.new.failures ≡ writer.old.failures) }
@@ -94,8 +95,9 @@ fn serve_lines<R: Read, W: Write>(
     reader: &mut Counted<R>,
     writer: &mut Counted<W>,
 ) -> Result<Ended, Stopped>
-    ensures { IfOk result (HasServed (table_key keys) (R.remaining reader.old.inner) (R.remaining reader.new.inner)
-        (W.contents writer.old.inner) (W.contents writer.new.inner) writer.old.failures writer.new.failures) }
+    ensures { IfOk result (λ ended. (own : SessionKeys) × HasKeys keys own × HasServed own (R.remaining reader.old.inner)
+        (R.remaining reader.new.inner) (W.contents writer.old.inner) (W.contents writer.new.inner) writer.old.failures
+        writer.new.failures ended) }
 {
     let mut lines = LineReader::new(alloc)?;
     let mut responder = Responder::new(alloc, keys);
@@ -111,10 +113,11 @@ fn answer_lines<R: Read, W: Write>(
     writer: &mut Counted<W>,
     line: &mut Vec<u8>,
 ) -> Result<Ended, Stopped>
-    requires serves { responder.old.state ≡ nothing_served (table_key responder.old.keys) }
+    requires serves { responder.old.state ≡ nothing_served responder.old.state.session.keys }
+    requires keys { HasOwnKeys responder.old }
     requires gathers { string_bytes responder.old.replies ≡ [] }
     requires unread { lines.old ≡ [] }
-    ensures { IfOk result (HasServed (table_key responder.old.keys) (R.remaining reader.old.inner) (R.remaining reader.new.inner)
+    ensures { IfOk result (HasServed responder.old.state.session.keys (R.remaining reader.old.inner) (R.remaining reader.new.inner)
         (W.contents writer.old.inner) (W.contents writer.new.inner) writer.old.failures writer.new.failures) }
 {
     for before in 0..u128::MAX {
@@ -146,10 +149,10 @@ fn answer_next<R: Read>(
     line: &mut Vec<u8>,
 ) -> Result<(Option<LineOutcome>, bool), Stopped>
     requires gathered { ¬ Contains lines.old 10 → string_bytes responder.old.replies ≡ [] }
-    requires key { HasOwnKey responder.old }
+    requires keys { HasOwnKeys responder.old }
     ensures answered { IfOk result (λ found. AnswersNext (prepend_known lines.old (R.remaining reader.old.inner))
         (prepend_known lines.new (R.remaining reader.new.inner)) responder.old responder.new found.0) }
-    ensures key { OnOk result (HasOwnKey responder.new) }
+    ensures keys { OnOk result (HasOwnKeys responder.new) }
     ensures some { IfOk result (λ found. found.1 ≡ true → IsSome found.0) }
     ensures end { IfOk result (λ found. found.1 ≡ false → (lines.new ≡ [])
         × IsAtEnd (R.remaining reader.new.inner)) }

@@ -1,6 +1,6 @@
 //! A session and windows of tenants.
 ghost use Rattle.std.specs.Prelude.{◌≡◌};
-ghost use Rattle.datasketches_cli.specs.KeyValues.{table_key};
+ghost use Rattle.datasketches_cli.specs.KeyValues.{table_key, HasKeys};
 ghost use Rattle.datasketches_cli.specs.Steps.{nothing_served, Opens, AddsTo, TurnsFor, ReportsOn};
 
 use crate::keys::Keys;
@@ -19,7 +19,8 @@ pub struct State {
 impl State {
     /// Creates a state with no sketch, no image and no windows. Does not allocate.
     pub fn new(alloc: Global, keys: &Keys) -> Self
-        ensures { result ≡ nothing_served (table_key keys.now) }
+        ensures empty { result ≡ nothing_served result.session.keys }
+        ensures keys { HasKeys keys.now result.session.keys }
     {
         State {
             session: keys.session(alloc),

@@ -37,7 +37,7 @@ impl State {
         words: &[&str],
         answer: &mut Answer,
     ) -> Option<Result<Ran, AllocError>>
-        requires key { self.old.session.key ≡ table_key keys.now }
+        requires key { self.old.session.keys.table ≡ table_key keys.now }
         ensures { Runs (request_of (strings_at words.now)) self.old answer.new result self.new }
     {
         match words {
@@ -86,7 +86,7 @@ impl State {
         a: &str,
         b: &str,
     ) -> Option<Result<Ran, AllocError>>
-        requires key { self.old.session.key ≡ table_key keys.now }
+        requires key { self.old.session.keys.table ≡ table_key keys.now }
         ensures { Runs (request_of (verb.now ∷ a.now ∷ b.now ∷ [])) self.old answer.new result self.new }
     {
         match verb {

@@ -23,5 +23,5 @@ pub loop-before-preserved : goal.loop-before-preserved
 loop-before-preserved g c = (
   turns_on _ _ _ _ _ _ _ c.loop-before.responder c.answer_next.new.responder c.write_due.new.replies _ _ c.loop-before.invariant.0 c.in_ok-write_due.ensures.written c.in_ok-became.ensures.answered (λ e. false≢true (sym c.if-is_bad.false ∙ c.is_bad.ensures.1 e)) (c.in_ok-became.ensures.some c.if-not-more.false),
   c.in_ok-write_due.ensures.kept ∙ c.loop-before.invariant.1,
-  c.in_ok-became.ensures.key,
+  c.in_ok-became.ensures.keys,
 )
