@@ -33,7 +33,8 @@
  *  2. Pointers are not null, but for that of `ds_free`, are aligned for their type, and point to as many values as their count
  *     says. A caller may read these values, and write them where there is no `const`. No two arguments of a call overlap. The
  *     strings of pairs may overlap one another, but not the array of pairs or another argument. The pointer of an empty string is
- *     not null either.
+ *     not null either. While a call runs, nothing else writes what it reads or writes, also in a file that is mapped, and nothing
+ *     unmaps or truncates it.
  *  3. One call at a time uses a handle. Another thread may use it later if a lock, a thread's start or a join lies between.
  *     Two threads may use two handles at once, also two of one shared sketch. So threads that read one sketch at once have a
  *     handle each: see `ds_share`.
@@ -295,7 +296,7 @@ int32_t ds_bloom_deserialize(ds_sketch *handle, const uint8_t *image, size_t len
 int32_t ds_bloom_deserialize_prefix(ds_sketch *handle, const uint8_t *image, size_t length, size_t max_bytes, size_t *used);
 
 /* Returns DS_YES if the filter in an image contains the item, and DS_NO otherwise. The image is read in place, at any address, as
- * in a mapped file. Nothing changes it during the call. Returns the error of the image's first failed check: each of
+ * in a mapped file, to which rule 2 applies, too. Returns the error of the image's first failed check: each of
  * `ds_bloom_deserialize` but those of `max_bytes` and of the number of set bits, in constant time. Does not allocate. */
 int32_t ds_bloom_image_contains_u64(const uint8_t *image, size_t length, uint64_t item);
 int32_t ds_bloom_image_contains_i64(const uint8_t *image, size_t length, int64_t item);
@@ -418,7 +419,7 @@ int32_t ds_count_min_u64_deserialize_prefix(ds_sketch *handle, const uint8_t *im
                                             size_t max_bytes, size_t *used);
 
 /* Writes the estimate of the item's weight by the sketch in an image, which was written under this seed. The image is read in
- * place, at any address, as in a mapped file. Nothing changes it during the call. Returns the error of the image's first failed
+ * place, at any address, as in a mapped file, to which rule 2 applies, too. Returns the error of the image's first failed
  * check: each of `ds_count_min_u64_deserialize` but those of `max_bytes` and of the cells, in constant time. A cell that it rejects
  * is read as the nearest that it accepts. Each call hashes a number for each row first, so many estimates are faster from a sketch
  * that was read. Does not allocate. */

@@ -137,3 +137,10 @@ image_bytes s = if set.len s.set == 0 then 24 else 32 + 8 * s.num_words
 -- if a filter stands for a history and has this image, the filter that is read stands for the restored history
 abbrev pub Restores : List ℕ → FilterState → Type 0
 Restores image new = (old : FilterState) → IsImage image old → Extends old new Restored
+
+-- if the bytes begin with the image that is written for a filter, that filter was read, and the image takes the bytes that were
+-- read
+abbrev pub ReadsFront : List ℕ → FilterState → ℕ → Type 0
+ReadsFront bytes new used =
+    (image rest : List ℕ) (old : FilterState) → IsSpelled image old → bytes ≡ image ++ rest →
+    (new ≡ old) × (used ≡ length image)

@@ -1,7 +1,7 @@
 -- The laws of set algebra, of equality and of images, over the states of filters.
-use Rattle.std.specs.Prelude.{◌≡◌, ◌↔◌, IsTrue, ℕ, true, false, List, None}
+use Rattle.std.specs.Prelude.{◌≡◌, ◌↔◌, IsTrue, ℕ, true, false, List, ◌++◌, length, None}
 use Rattle.std.specs.FinSet as set
-use Rattle.sketch_bloom.specs.Image.{IsImage, IsSpelled, first_fault}
+use Rattle.sketch_bloom.specs.Image.{IsImage, IsSpelled, first_fault, prefix_bytes}
 use Rattle.sketch_bloom.specs.State.{FilterState, IsFilterState, IsCompatible, item_positions, contains_item, same_filter, inserted, united, subtracted}
 
 -- the union of compatible filters does not depend on their order
@@ -70,6 +70,11 @@ EqualityIsTransitive = (a b c : FilterState) → same_filter a b ≡ true → sa
 -- the image that is written for a filter is an image of it
 abbrev pub SpelledIsImage : Type 0
 SpelledIsImage = (image : List ℕ) (a : FilterState) → IsSpelled image a → IsImage image a
+
+-- so it is if any bytes follow, and as many are read
+abbrev pub SpelledIsFront : Type 0
+SpelledIsFront = (image rest : List ℕ) (a : FilterState) → IsSpelled image a
+    → IsImage (image ++ rest) a × (prefix_bytes (image ++ rest) ≡ length image)
 
 -- no bytes are an image of two filters
 abbrev pub ImageIsOfOne : Type 0

@@ -4,7 +4,7 @@
 //! of [`BloomFilter`](crate::BloomFilter) name.
 ghost use Rattle.std.specs.Prelude.{◌≡◌, IfOk, IfErr};
 ghost use Rattle.sketch_base.specs.Errors.{no_memory};
-ghost use Rattle.sketch_bloom.specs.Laws.{SpelledIsImage, ImageIsOfOne, ImageIsOfSome, UnionCommutes, UnionAssociates, UnionIsIdempotent, UnionKeeps, UnionBrings, EmptyContainsNothing, InsertedIsContained, DifferenceTakesAway, DifferenceAddsNothing, DifferenceLeaves, EqualByParts, EqualityIsReflexive, EqualityIsSymmetric, EqualityIsTransitive};
+ghost use Rattle.sketch_bloom.specs.Laws.{SpelledIsImage, SpelledIsFront, ImageIsOfOne, ImageIsOfSome, UnionCommutes, UnionAssociates, UnionIsIdempotent, UnionKeeps, UnionBrings, EmptyContainsNothing, InsertedIsContained, DifferenceTakesAway, DifferenceAddsNothing, DifferenceLeaves, EqualByParts, EqualityIsReflexive, EqualityIsSymmetric, EqualityIsTransitive};
 ghost use Rattle.sketch_bloom.specs.Parts.{PartsAreContained};
 
 use crate::bloom_filter::BloomFilter;
@@ -58,10 +58,11 @@ pub fn equality_is_an_equivalence()
 
 /// States the laws of images.
 ///
-/// What is written for a filter is an image of it. No bytes are an image of two filters. Bytes are an image of some
+/// What is written for a filter is an image of it, whatever bytes follow. No bytes are an image of two filters. Bytes are an image of some
 /// filter exactly if no check fails.
 pub fn image_laws()
     ensures spelled { SpelledIsImage }
+    ensures front { SpelledIsFront }
     ensures one { ImageIsOfOne }
     ensures some { ImageIsOfSome }
 {}

@@ -1,10 +1,10 @@
 -- A spelled image is an image: each field is read again as it was written, and all checks pass.
-use Rattle.std.proofs.Common.{◌≡◌, ◌≢◌, ℕ, ◌+◌, ◌*◌, ◌<◌, ◌≤◌, ◌^◌, ◌==◌, Bool, true, false, leb, List, [], ◌∷◌, ◌++◌, All, length, take, drop, get_or, replicate, Option, None, ℤ, pos, unsigned_abs, ◌≤ℤ◌, refl, sym, ap, subst, ◌∙◌, arith, length-append, eq-eqb, eqb-true}
+use Rattle.std.proofs.Common.{◌≡◌, ◌≢◌, ℕ, ◌+◌, ◌*◌, ◌<◌, ◌≤◌, ◌^◌, ◌==◌, Bool, true, false, leb, List, [], ◌∷◌, ◌++◌, All, length, take, drop, get_or, replicate, Option, None, ℤ, pos, unsigned_abs, ◌≤ℤ◌, refl, sym, ap, subst, ◌∙◌, append_assoc, arith, length-append, eq-eqb, eqb-true}
 use Rattle.std.specs.Prelude.{nat_le, nat_lt, int_le}
 use Rattle.std.specs.List.{flat_map}
 use Rattle.std.proofs.lemmas.Bool.{le-leb, lt-ltb, ne_eqb, false≢true}
 use Rattle.std.proofs.lemmas.Int.{ints}
-use Rattle.std.proofs.lemmas.List.{length-replicate, get_or-replicate}
+use Rattle.std.proofs.lemmas.List.{append-nil, length-replicate, get_or-replicate}
 use Rattle.std.proofs.lemmas.List.Concat.{flat_map-cons}
 use Rattle.std.proofs.lemmas.List.Elements.{All-head, All-tail, All-from_get_or}
 use Rattle.std.proofs.lemmas.Nat.{from_le_bytes-to_le_bytes_2, from_le_bytes-to_le_bytes_4, mod_below, mul-le}
@@ -14,7 +14,8 @@ use Rattle.sketch_base.specs.Fields.{le_at}
 use Rattle.sketch_base.specs.Hashes.{seed_hash}
 use Rattle.sketch_base.specs.declared.fault.Fault.{Fault}
 use Rattle.sketch_countmin.specs.Equality.{same_parts}
-use Rattle.sketch_countmin.specs.Image.{IsImage, IsSpelled, preamble, all_cells, numbers_of, number_at, numbers_in, buckets_at, seed_hash_at, total_at, cells_at, value_at, is_in_range, total_checks, cell_checks, cells_checks, early_fault, late_fault}
+use Rattle.sketch_countmin.specs.Image.{IsImage, ReadsFront, preamble, prefix_bytes, all_cells, numbers_of, number_at, numbers_in, buckets_at, seed_hash_at, total_at, cells_at, value_at, is_in_range, total_checks, cell_checks, cells_checks, early_fault, late_fault}
+use Rattle.sketch_countmin.specs.Laws.{SpelledIsImage, SpelledIsFront}
 use Rattle.sketch_countmin.specs.Rows.{cell_at, rows_of}
 use Rattle.sketch_countmin.specs.State.{CountState, IsCountState}
 use Rattle.sketch_countmin.specs.Values.{InRange, bytes_of, number_in}
@@ -48,11 +49,11 @@ hash_fits : (seed : ℕ) → seed_hash seed < 2 ^ 16
 unfolding seed_hash
 hash_fits seed = mod_below _ (2 ^ 16) (omega arith)
 
--- numbers are read as they were written
-numbers_back : (least : ℤ) (greatest : ℕ) → ((z : ℤ) → InRange least greatest z → number_in least (bytes_of z) ≡ z) → (zs : List ℤ) → All (InRange least greatest) zs → numbers_in least (length zs) (flat_map bytes_of zs) ≡ zs
+-- numbers are read as they were written, whatever stands behind them
+numbers_back : (least : ℤ) (greatest : ℕ) → ((z : ℤ) → InRange least greatest z → number_in least (bytes_of z) ≡ z) → (zs : List ℤ) (rest : List ℕ) → All (InRange least greatest) zs → numbers_in least (length zs) (flat_map bytes_of zs ++ rest) ≡ zs
 unfolding number_at
-numbers_back least greatest back [] fit = refl
-numbers_back least greatest back (z ∷ zs) fit = rw (back z (All-head (InRange least greatest) z zs fit), numbers_back least greatest back zs (All-tail (InRange least greatest) z zs fit)) refl
+numbers_back least greatest back [] rest fit = refl
+numbers_back least greatest back (z ∷ zs) rest fit = rw (back z (All-head (InRange least greatest) z zs fit), numbers_back least greatest back zs rest (All-tail (InRange least greatest) z zs fit)) refl
 
 pub length-bytes : (zs : List ℤ) → length (flat_map bytes_of zs) ≡ 8 * length zs
 length-bytes [] = refl
@@ -130,37 +131,41 @@ passes_shape greatest s state = record {
 }
 
 -- the image of a sketch whose total is 0
-empty_image : (least : ℤ) (greatest : ℕ) (s : CountState) → IsCountState greatest s → s.total ≡ 0 → IsImage least greatest s.seed (preamble 1 s.buckets s.hashes (seed_hash s.seed)) s
-empty_image least greatest s state none =
-    let image = preamble 1 s.buckets s.hashes (seed_hash s.seed) in
-    let buckets : buckets_at image ≡ s.buckets = buckets_back 1 s.buckets s.hashes (seed_hash s.seed) [] (buckets_fit greatest s state) in
-    let hash : seed_hash_at image ≡ seed_hash s.seed = hash_back 1 s.buckets s.hashes (seed_hash s.seed) [] (hash_fits s.seed) in
+empty_image : (least : ℤ) (greatest : ℕ) (s : CountState) (rest : List ℕ) → IsCountState greatest s → s.total ≡ 0 → IsImage least greatest s.seed (preamble 1 s.buckets s.hashes (seed_hash s.seed) ++ rest) s
+empty_image least greatest s rest state none =
+    let image = preamble 1 s.buckets s.hashes (seed_hash s.seed) ++ rest in
+    let buckets : buckets_at image ≡ s.buckets = buckets_back 1 s.buckets s.hashes (seed_hash s.seed) rest (buckets_fit greatest s state) in
+    let hash : seed_hash_at image ≡ seed_hash s.seed = hash_back 1 s.buckets s.hashes (seed_hash s.seed) rest (hash_fits s.seed) in
+    let long = length_back 1 s.buckets s.hashes (seed_hash s.seed) rest in
+    let has : (n : ℕ) → n ≤ length image → leb n (length image) ≡ true = λ n le. le-leb _ _ le in
     let pass = passes_shape greatest s state in
     record {
-      no_fault = rw (buckets, hash, pass.hash, pass.same, pass.hashes, pass.buckets, pass.cells) refl;
+      no_fault = rw (buckets, hash, pass.hash, pass.same, pass.hashes, pass.buckets, pass.cells, has 8 (omega (arith, long)), has 16 (omega (arith, long))) refl;
       value = same_parts s (value_at least s.seed image) refl (sym buckets) refl none (zero_rows s.hashes s.buckets s.rows state.height state.width (zero_cells greatest s state none) ∙ ap (λ (d : ℕ). replicate s.hashes (replicate d (pos 0))) (sym buckets));
     }
 
 -- the image of a sketch whose total is another
-module _ (least : ℤ) (greatest : ℕ) (low : least ≤ℤ pos 0) (back : (z : ℤ) → InRange least greatest z → number_in least (bytes_of z) ≡ z) (s : CountState) (state : IsCountState greatest s) (fit : (r b : ℕ) → InRange least greatest (cell_at s.rows r b)) where
-  full_image : IsImage least greatest s.seed (preamble 0 s.buckets s.hashes (seed_hash s.seed) ++ flat_map bytes_of (numbers_of s)) s
+module _ (least : ℤ) (greatest : ℕ) (low : least ≤ℤ pos 0) (back : (z : ℤ) → InRange least greatest z → number_in least (bytes_of z) ≡ z) (s : CountState) (state : IsCountState greatest s) (fit : (r b : ℕ) → InRange least greatest (cell_at s.rows r b)) (rest : List ℕ) where
+  count : length (all_cells s.rows) ≡ s.hashes * s.buckets
+  count = length-all_cells s.buckets s.rows state.width ∙ ap (λ (m : ℕ). m * s.buckets) state.height
+
+  full_image : IsImage least greatest s.seed (preamble 0 s.buckets s.hashes (seed_hash s.seed) ++ (flat_map bytes_of (numbers_of s) ++ rest)) s
   full_image =
       let cells : List ℤ = all_cells s.rows in
-      let rest : List ℕ = flat_map bytes_of cells in
-      let tail : List ℕ = flat_map bytes_of (numbers_of s) in
+      let behind : List ℕ = flat_map bytes_of cells ++ rest in
+      let tail : List ℕ = flat_map bytes_of (numbers_of s) ++ rest in
       let image : List ℕ = preamble 0 s.buckets s.hashes (seed_hash s.seed) ++ tail in
-      let tail_is : tail ≡ bytes_of (pos s.total) ++ rest = flat_map-cons bytes_of (pos s.total) cells in
+      let tail_is : tail ≡ bytes_of (pos s.total) ++ behind = ap (λ (l : List ℕ). l ++ rest) (flat_map-cons bytes_of (pos s.total) cells) ∙ append_assoc (bytes_of (pos s.total)) (flat_map bytes_of cells) rest in
       let in_range : All (InRange least greatest) cells = all_hold (InRange least greatest) s.buckets s.rows (omega (arith, state.some_buckets)) state.width fit in
       let near : All (λ z. unsigned_abs z ≤ s.total) cells = all_hold (λ (z : ℤ). unsigned_abs z ≤ s.total) s.buckets s.rows (omega (arith, state.some_buckets)) state.width state.bounded in
-      let count : length cells ≡ s.hashes * s.buckets = length-all_cells s.buckets s.rows state.width ∙ ap (λ (m : ℕ). m * s.buckets) state.height in
       let buckets : buckets_at image ≡ s.buckets = buckets_back 0 s.buckets s.hashes (seed_hash s.seed) tail (buckets_fit greatest s state) in
       let hash : seed_hash_at image ≡ seed_hash s.seed = hash_back 0 s.buckets s.hashes (seed_hash s.seed) tail (hash_fits s.seed) in
-      let total : total_at least image ≡ pos s.total = total_back 0 s.buckets s.hashes (seed_hash s.seed) tail least (pos s.total) rest tail_is (back (pos s.total) (omega (arith, ints, low), omega (arith, ints, state.fits))) in
+      let total : total_at least image ≡ pos s.total = total_back 0 s.buckets s.hashes (seed_hash s.seed) tail least (pos s.total) behind tail_is (back (pos s.total) (omega (arith, ints, low), omega (arith, ints, state.fits))) in
       let read : cells_at least image ≡ cells =
       ap (λ (d : ℕ). numbers_in least (s.hashes * d) (drop 24 image)) buckets
       ∙ (ap (λ (n : ℕ). numbers_in least n (drop 24 image)) (sym count)
-      ∙ (ap (numbers_in least (length cells)) (drop_back 0 s.buckets s.hashes (seed_hash s.seed) tail (pos s.total) rest tail_is) ∙ numbers_back least greatest back cells in_range)) in
-      let long : length image ≡ 24 + 8 * (s.hashes * s.buckets) = omega (arith, length_back 0 s.buckets s.hashes (seed_hash s.seed) tail, ap length tail_is, length-append (bytes_of (pos s.total)) rest, length-bytes cells, count) in
+      ∙ (ap (numbers_in least (length cells)) (drop_back 0 s.buckets s.hashes (seed_hash s.seed) tail (pos s.total) behind tail_is) ∙ numbers_back least greatest back cells rest in_range)) in
+      let long : length image ≡ 24 + 8 * (s.hashes * s.buckets) + length rest = omega (arith, length_back 0 s.buckets s.hashes (seed_hash s.seed) tail, ap length tail_is, length-append (bytes_of (pos s.total)) behind, length-append (flat_map bytes_of cells) rest, length-bytes cells, count) in
       let has : (n : ℕ) → n ≤ length image → leb n (length image) ≡ true = λ n le. le-leb _ _ le in
       let pass = passes_shape greatest s state in
       let early : early_fault s.seed image ≡ None = rw (buckets, hash, pass.hash, pass.same, pass.hashes, pass.buckets, pass.cells, has (24 + 8 * (s.hashes * s.buckets)) (omega (arith, long)), has 8 (omega (arith, long)), has 16 (omega (arith, long))) refl in
@@ -177,12 +182,35 @@ module _ (least : ℤ) (greatest : ℕ) (low : least ≤ℤ pos 0) (back : (z : 
             ∙ (ap (λ (d : ℕ). rows_of s.hashes d cells) (sym buckets) ∙ ap (rows_of s.hashes (buckets_at image)) (sym read))));
       }
 
-pub spelled_is_image : (least : ℤ) (greatest : ℕ) → least ≤ℤ pos 0 → ((z : ℤ) → InRange least greatest z → number_in least (bytes_of z) ≡ z) → (image : List ℕ) (s : CountState) → IsSpelled least greatest image s → IsImage least greatest s.seed image s
-spelled_is_image least greatest low back image s h = by_total (s.total == 0) refl where
-  by_total : (b : Bool) → (s.total == 0) ≡ b → IsImage least greatest s.seed image s
+  full_prefix : prefix_bytes (preamble 0 s.buckets s.hashes (seed_hash s.seed) ++ (flat_map bytes_of (numbers_of s) ++ rest)) ≡ length (preamble 0 s.buckets s.hashes (seed_hash s.seed) ++ flat_map bytes_of (numbers_of s))
+  full_prefix =
+      let cells : List ℤ = all_cells s.rows in
+      let numbers = flat_map bytes_of (numbers_of s) in
+      let buckets = buckets_back 0 s.buckets s.hashes (seed_hash s.seed) (numbers ++ rest) (buckets_fit greatest s state) in
+      let long : length numbers ≡ 8 + 8 * (s.hashes * s.buckets) = omega (arith, length-bytes (numbers_of s), count) in
+      ap (λ (d : ℕ). 24 + 8 * (s.hashes * d)) buckets ∙ omega (arith, long, length_back 0 s.buckets s.hashes (seed_hash s.seed) numbers)
+
+-- what is spelled is an image, and is read to its end, whatever stands behind it
+pub spelled_is_front : (least : ℤ) (greatest : ℕ) → least ≤ℤ pos 0 → ((z : ℤ) → InRange least greatest z → number_in least (bytes_of z) ≡ z) → SpelledIsFront least greatest
+spelled_is_front least greatest low back image rest s h = by_total (s.total == 0) refl where
+  by_total : (b : Bool) → (s.total == 0) ≡ b → IsImage least greatest s.seed (image ++ rest) s × (prefix_bytes (image ++ rest) ≡ length image)
   by_total true e =
       let none : s.total ≡ 0 = eqb-true _ 0 e in
-      subst (λ (bytes : List ℕ). IsImage least greatest s.seed bytes s) (sym (h.empty none)) (empty_image least greatest s h.state none)
+      subst (λ (bytes : List ℕ). IsImage least greatest s.seed (bytes ++ rest) s × (prefix_bytes (bytes ++ rest) ≡ length bytes)) (sym (h.empty none)) (empty_image least greatest s rest h.state none, refl)
   by_total false e =
       let some : s.total ≢ 0 = λ none. false≢true (sym e ∙ eq-eqb _ 0 none) in
-      subst (λ (bytes : List ℕ). IsImage least greatest s.seed bytes s) (sym (h.full some)) (full_image least greatest low back s h.state h.in_range)
+      let front = preamble 0 s.buckets s.hashes (seed_hash s.seed) in
+      let numbers = flat_map bytes_of (numbers_of s) in
+      subst (λ (bytes : List ℕ). IsImage least greatest s.seed (bytes ++ rest) s × (prefix_bytes (bytes ++ rest) ≡ length bytes)) (sym (h.full some))
+      (subst (λ (bytes : List ℕ). IsImage least greatest s.seed bytes s × (prefix_bytes bytes ≡ length (front ++ numbers))) (sym (append_assoc front numbers rest))
+      (full_image least greatest low back s h.state h.in_range rest, full_prefix least greatest low back s h.state h.in_range rest))
+
+pub spelled_is_image : (least : ℤ) (greatest : ℕ) → least ≤ℤ pos 0 → ((z : ℤ) → InRange least greatest z → number_in least (bytes_of z) ≡ z) → SpelledIsImage least greatest
+spelled_is_image least greatest low back image s h = subst (λ (bytes : List ℕ). IsImage least greatest s.seed bytes s) (append-nil image) (spelled_is_front least greatest low back image [] s h).0
+
+-- what is read at the front of bytes
+pub front_read : (least : ℤ) (greatest seed : ℕ) → least ≤ℤ pos 0 → ((z : ℤ) → InRange least greatest z → number_in least (bytes_of z) ≡ z) → (bytes : List ℕ) (new : CountState) (used : ℕ) → IsImage least greatest seed bytes new → used ≡ prefix_bytes bytes → ReadsFront least greatest seed bytes new used
+front_read least greatest seed low back bytes new used read used_is image rest old seed_is spelled is =
+    let front = spelled_is_front least greatest low back image rest old spelled in
+    let value = subst (λ (b : List ℕ). new ≡ value_at least seed b) is read.value in
+    (value ∙ ap (λ (k : ℕ). value_at least k (image ++ rest)) seed_is ∙ sym front.0.value, used_is ∙ ap prefix_bytes is ∙ front.1)

@@ -175,3 +175,10 @@ image_bytes s = if s.total == 0 then 16 else 24 + 8 * (s.hashes * s.buckets)
 abbrev pub Restores : ℤ → ℕ → (seed : ℕ) → List ℕ → CountState → Type 0
 Restores least greatest seed image new =
     (old : CountState) → IsImage least greatest seed image old → Extends old new Restored
+
+-- if the bytes begin with the image that is written for a sketch of this seed, that sketch was read, and the image takes the bytes
+-- that were read
+abbrev pub ReadsFront : ℤ → ℕ → (seed : ℕ) → List ℕ → CountState → ℕ → Type 0
+ReadsFront least greatest seed bytes new used =
+    (image rest : List ℕ) (old : CountState) → seed ≡ old.seed → IsSpelled least greatest image old →
+    bytes ≡ image ++ rest → (new ≡ old) × (used ≡ length image)

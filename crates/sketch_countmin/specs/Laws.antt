@@ -1,12 +1,18 @@
 -- The laws of images, for a type with this minimum and this maximum.
-use Rattle.std.specs.Prelude.{◌≡◌, ◌↔◌, ℕ, ◌<◌, ◌^◌, ℤ, List, All, None}
-use Rattle.sketch_countmin.specs.Image.{IsImage, IsSpelled, first_fault}
+use Rattle.std.specs.Prelude.{◌≡◌, ◌↔◌, ℕ, ◌<◌, ◌^◌, ℤ, List, ◌++◌, length, All, None}
+use Rattle.sketch_countmin.specs.Image.{IsImage, IsSpelled, first_fault, prefix_bytes}
 use Rattle.sketch_countmin.specs.State.{CountState, IsCountState}
 
 -- the image that is written for a sketch is an image of it, under its own seed
 abbrev pub SpelledIsImage : ℤ → ℕ → Type 0
 SpelledIsImage least greatest =
     (image : List ℕ) (a : CountState) → IsSpelled least greatest image a → IsImage least greatest a.seed image a
+
+-- so it is if any bytes follow, and as many are read
+abbrev pub SpelledIsFront : ℤ → ℕ → Type 0
+SpelledIsFront least greatest =
+    (image rest : List ℕ) (a : CountState) → IsSpelled least greatest image a
+    → IsImage least greatest a.seed (image ++ rest) a × (prefix_bytes (image ++ rest) ≡ length image)
 
 -- no bytes are an image of two sketches under one seed
 abbrev pub ImageIsOfOne : ℤ → ℕ → Type 0

@@ -2,7 +2,7 @@
 ghost use Rattle.std.specs.Prelude.{◌≡◌, ℕ, ℤ, pos, List, ◌+◌, ◌*◌, ◌-ℤ◌, ◌<◌, ◌≤◌, ◌≤ℤ◌, ◌↔◌, IfOk, IfErr, OnOk, OnErr, IsOk, IsErrOf, IsTrue};
 ghost use Rattle.sketch_base.specs.Errors.{invalid_argument, no_memory};
 ghost use Rattle.sketch_countmin.specs.History.{CountHistory, IsExact, IsNonnegative, followed_by, own_value, others_share};
-ghost use Rattle.sketch_countmin.specs.Laws.{SpelledIsImage, ImageIsOfOne, ImageIsOfSome, ImageIsWithinLimits};
+ghost use Rattle.sketch_countmin.specs.Laws.{SpelledIsImage, SpelledIsFront, ImageIsOfOne, ImageIsOfSome, ImageIsWithinLimits};
 ghost use Rattle.sketch_countmin.specs.Rows.{cell_at};
 ghost use Rattle.sketch_countmin.specs.Sizes.{IsETimesWithin};
 ghost use Rattle.sketch_countmin.specs.Stands.{StandsFor};
@@ -84,6 +84,7 @@ pub fn margin_bound()
 /// image of some sketch exactly if no check fails, and that sketch is within the limits.
 pub fn image_laws<T: CountMinValue>()
     ensures spelled { SpelledIsImage T.least T.greatest }
+    ensures front { SpelledIsFront T.least T.greatest }
     ensures one { ImageIsOfOne T.least T.greatest }
     ensures some { ImageIsOfSome T.least T.greatest }
     ensures within_limits { ImageIsWithinLimits T.least T.greatest }

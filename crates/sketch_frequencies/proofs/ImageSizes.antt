@@ -1,6 +1,7 @@
 -- How many bytes the items of an image take, and how they are written one after another.
 use Rattle.std.proofs.Common.{◌≡◌, ℕ, zero, suc, ◌+◌, ◌-◌, ◌*◌, ◌<◌, ◌≤◌, ◌^◌, List, [], ◌∷◌, ◌++◌, length, take, drop, get_or, min, sum_by, Result, Ok, Err, IsPermutation, refl, sym, ap, subst, ◌∙◌, append_assoc, arith, length-append, length-drop}
 use Rattle.std.specs.Prelude.{IfOk}
+use Rattle.std.proofs.Math.Nat.{mul-suc}
 use Rattle.std.proofs.lemmas.List.{take-append-drop, length-map, map-append}
 use Rattle.std.proofs.lemmas.List.Elements.{filter_map-append}
 use Rattle.std.proofs.lemmas.List.Sorted.{sum_by-IsPermutation}
@@ -10,7 +11,7 @@ use Rattle.counter_table.specs.Slots.{entries_of, slot_entry}
 use Rattle.counter_table.specs.declared.slot.Slot.{Slot}
 use Rattle.counter_table.specs.declared.slot.Slot.TheVariants.{Taken}
 use Rattle.sketch_frequencies.specs.Image.{AreEncoded, contents_of, items_bytes}
-use Rattle.sketch_frequencies.specs.Items.{Codec}
+use Rattle.sketch_frequencies.specs.Items.{Codec, IsWithin}
 use Rattle.sketch_frequencies.specs.Writing.{TakeBytes}
 use Rattle.sketch_frequencies.proofs.SlotEntries.{entries_taken}
 use Rattle.sketch_frequencies.proofs.Spellings.{encoded_push}
@@ -45,6 +46,14 @@ module _ {C : Type 0} (codec : Codec C) where
   -- in any order, the items take the same number of bytes
   pub size_permuted : (es fs : List (C × ℕ)) (a b : List ℕ) → IsPermutation es fs → AreEncoded codec es a → AreEncoded codec fs b → length b ≡ length a
   size_permuted es fs a b perm h k = omega (arith, sum_of_sizes es a h, sum_of_sizes fs b k, sum_by-IsPermutation (λ e. size_of e.0) es fs perm)
+
+  -- items of at most `most` bytes each take no more than so many times
+  pub encoded_within : (most : ℕ) → IsWithin codec most → (es : List (C × ℕ)) (bytes : List ℕ) → AreEncoded codec es bytes → length bytes ≤ most * length es
+  encoded_within most within [] bytes h = omega (arith, ap length h)
+  encoded_within most within (e ∷ es) bytes h =
+      let whole : length bytes ≡ length h.0 + length h.1 = ap length h.3 ∙ length-append h.0 h.1 in
+      let more : most * suc (length es) ≡ most * length es + most = mul-suc most (length es) in
+      omega (arith, whole, within e.0 h.0 h.2, encoded_within most within es h.1 h.4, more)
 
   -- of a list that has an encoding, the entry after a part has one too, within the whole
   next_of : (front : List (C × ℕ)) (e : C × ℕ) (rest : List (C × ℕ)) (whole part : List ℕ) → AreEncoded codec (front ++ e ∷ rest) whole → AreEncoded codec front part → (first : List ℕ) × (codec.encoding e.0 ≡ Ok first) × (length part + length first ≤ length whole)

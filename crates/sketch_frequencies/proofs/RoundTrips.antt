@@ -15,8 +15,9 @@ use Rattle.std.proofs.lemmas.Nat.{from_le_bytes-to_le_bytes_4, from_le_bytes-to_
 use Rattle.sketch_base.specs.Checks.{first_failing}
 use Rattle.sketch_base.specs.Fields.{le_at, words_in}
 use Rattle.sketch_base.specs.PowersOfTwo.{pow_twice}
-use Rattle.sketch_frequencies.specs.Image.{AreEncoded, IsImage, IsSpelled, IsWritten, IsWrittenEmpty, items_in, items_at, weights_at, weight_of, encoded_weights, header, preamble, header_checks, count_checks, active_at, total_at, error_at}
+use Rattle.sketch_frequencies.specs.Image.{AreEncoded, IsImage, IsImageOf, IsWritten, IsWrittenEmpty, ReadsFront, state_of_contents, prefix_bytes, items_bytes, items_in, items_at, weights_at, weight_of, encoded_weights, header, preamble, header_checks, count_checks, active_at, total_at, error_at}
 use Rattle.sketch_frequencies.specs.Items.{Codec, IsLawful}
+use Rattle.sketch_frequencies.specs.Laws.{SpelledIsImage, SpelledIsFront}
 use Rattle.sketch_frequencies.specs.State.{FrequentState, IsState, capacity}
 use Rattle.counter_table.specs.Tables.{count_of, sum_of}
 use Rattle.sketch_frequencies.proofs.Cases.{by_cases}
@@ -126,35 +127,69 @@ exponents a b h =
     absurd (omega (arith, up, pow_twice b, pow_pos b, h)))
     (λ le. le)
 
-module _ {C : Type 0} (codec : Codec C) (lawful : IsLawful codec) where
-  full_image : (image : List ℕ) (s : FrequentState C) → IsState codec.same s → s.total < 2 ^ 64 → IsWritten codec image s → 0 < s.total → IsImage codec image s
-  full_image image s state fits sp some =
+-- the items are read to their end
+bytes_back : {C : Type 0} (codec : Codec C) → IsLawful codec → (es : List (C × ℕ)) (bytes rest : List ℕ) → AreEncoded codec es bytes → items_bytes codec (length es) (bytes ++ rest) ≡ length bytes
+unfolding items_bytes
+bytes_back codec lawful [] bytes rest h = sym (ap length h)
+bytes_back codec lawful (e ∷ es) bytes rest h =
+    let first = h.0 in
+    let others = h.1 in
+    let one = lawful.read_back e.0 first (others ++ rest) h.2 in
+    let shape : bytes ++ rest ≡ first ++ (others ++ rest) = ap (λ (l : List ℕ). l ++ rest) h.3 ∙ append_assoc first others rest in
+    let dropped : drop (length first) (first ++ (others ++ rest)) ≡ others ++ rest = drop_at first (others ++ rest) (length first) refl in
+    rw (shape, one.1, dropped, bytes_back codec lawful es others rest h.4) (sym (ap length h.3 ∙ length-append first others))
+
+-- an image of a sketch that is not empty, and any bytes after it
+module _ {C : Type 0} (codec : Codec C) (lawful : IsLawful codec) (image rest : List ℕ) (s : FrequentState C) (state : IsState codec.same s) (sp : IsWritten codec image s) where
+  abbrev after_preamble : List ℕ
+  after_preamble = encoded_weights sp.order ++ (sp.items ++ rest)
+
+  abbrev whole : List ℕ
+  whole = preamble sp.lg_max sp.lg_cur (length sp.order) s.total s.error ++ after_preamble
+
+  whole_is : image ++ rest ≡ whole
+  whole_is =
+      let front = preamble sp.lg_max sp.lg_cur (length sp.order) s.total s.error in
+      ap (λ (l : List ℕ). l ++ rest) sp.bytes ∙ append_assoc front (encoded_weights sp.order ++ sp.items) rest ∙ ap (λ (l : List ℕ). front ++ l) (append_assoc (encoded_weights sp.order) sp.items rest)
+
+  many : length sp.order ≡ length s.counters
+  many = length_permutation s.counters sp.order sp.whole
+
+  few : length sp.order ≤ capacity (2 ^ sp.lg_cur)
+  few = subst (λ (k : ℕ). length sp.order ≤ capacity k) sp.size (omega (arith, many, state.few))
+
+  small : length sp.order < 2 ^ 32
+  small = omega (arith, few, sp.size, state.within, state.greatest)
+
+  active_is : active_at whole ≡ length sp.order
+  active_is = active_back sp.lg_max sp.lg_cur (length sp.order) s.total s.error after_preamble small
+
+  -- the items begin after the weights
+  items_behind : drop (32 + 8 * length sp.order) whole ≡ sp.items ++ rest
+  items_behind =
+      let front = preamble sp.lg_max sp.lg_cur (length sp.order) s.total s.error in
+      let long : length (front ++ encoded_weights sp.order) ≡ 32 + 8 * length sp.order = length-append front (encoded_weights sp.order) ∙ ap (λ (k : ℕ). 32 + k) (length_encoded sp.order) in
+      drop_at (front ++ encoded_weights sp.order) (sp.items ++ rest) (32 + 8 * length sp.order) long
+
+  full_image : s.total < 2 ^ 64 → 0 < s.total → IsImage codec (image ++ rest) s
+  full_image fits some =
       let order = sp.order in
       let n = length order in
-      let tail = encoded_weights order ++ sp.items in
-      let whole = preamble sp.lg_max sp.lg_cur n s.total s.error ++ tail in
-      let image_is : image ≡ whole = sp.bytes in
       let lg_high : sp.lg_max ≤ 30 = exponents sp.lg_max 30 (omega (arith, sp.max_size, state.greatest)) in
       let lg_mid : sp.lg_cur ≤ sp.lg_max = exponents sp.lg_cur sp.lg_max (omega (arith, sp.max_size, sp.size, state.within)) in
       let lg_low : 3 ≤ sp.lg_cur = exponents 3 sp.lg_cur (omega (arith, sp.size, state.least)) in
-      let many : n ≡ length s.counters = length_permutation s.counters order sp.whole in
-      let few : n ≤ capacity (2 ^ sp.lg_cur) = subst (λ (k : ℕ). n ≤ capacity k) sp.size (omega (arith, many, state.few)) in
-      let small : n < 2 ^ 32 = omega (arith, few, sp.size, state.within, state.greatest) in
       let sum_is : sum_of order ≡ sum_of s.counters = sum_by-IsPermutation (λ (e : C × ℕ). e.1) s.counters order sp.whole in
       let error_fits : s.error < 2 ^ 64 = omega (arith, state.sum, fits) in
-      let weights_are : weights_at whole ≡ weights_of order = ap (λ (k : ℕ). words_in k tail) (active_back sp.lg_max sp.lg_cur n s.total s.error tail small) ∙ weights_back order sp.items (each_below order (2 ^ 64) (omega (arith, sum_is, state.sum, fits))) in
+      let weights_are : weights_at whole ≡ weights_of order = ap (λ (k : ℕ). words_in k after_preamble) active_is ∙ weights_back order (sp.items ++ rest) (each_below order (2 ^ 64) (omega (arith, sum_is, state.sum, fits))) in
       let weights_sum : sum (weights_at whole) ≡ sum_of order = ap sum weights_are ∙ sum-map (λ (e : C × ℕ). e.1) order in
-      let total_is = total_back sp.lg_max sp.lg_cur n s.total s.error tail fits in
-      let error_is = error_back sp.lg_max sp.lg_cur n s.total s.error tail error_fits in
+      let total_is = total_back sp.lg_max sp.lg_cur n s.total s.error after_preamble fits in
+      let error_is = error_back sp.lg_max sp.lg_cur n s.total s.error after_preamble error_fits in
       let weights = weights_pass whole (omega (arith, weights_sum, total_is, error_is, sum_is, state.sum)) in
-      let read = items_back codec lawful order sp.items [] sp.encoded in
-      let prefix = preamble sp.lg_max sp.lg_cur n s.total s.error ++ encoded_weights order in
-      let long : length prefix ≡ 32 + 8 * n = length-append (preamble sp.lg_max sp.lg_cur n s.total s.error) (encoded_weights order) ∙ ap (λ (k : ℕ). 32 + k) (length_encoded order) in
-      let behind : drop (32 + 8 * n) whole ≡ sp.items ++ [] = drop_at prefix sp.items (32 + 8 * n) long ∙ sym (append-nil sp.items) in
-      let items_are : items_at codec whole ≡ Ok read.0 = ap (λ (k : ℕ). items_in codec k (drop (32 + 8 * k) whole)) (active_back sp.lg_max sp.lg_cur n s.total s.error tail small) ∙ ap (items_in codec n) behind ∙ read.1 in
-      let header_pass = header_passes sp.lg_max sp.lg_cur n s.total s.error tail lg_low lg_mid lg_high in
-      let count_pass = counts_pass sp.lg_max sp.lg_cur n s.total s.error tail small fits some few (omega (arith, length-append (encoded_weights order) sp.items, length_encoded order)) in
-      subst (λ (b : List ℕ). IsImage codec b s) (sym image_is) (record {
+      let read = items_back codec lawful order sp.items rest sp.encoded in
+      let items_are : items_at codec whole ≡ Ok read.0 = ap (λ (k : ℕ). items_in codec k (drop (32 + 8 * k) whole)) active_is ∙ ap (items_in codec n) items_behind ∙ read.1 in
+      let header_pass = header_passes sp.lg_max sp.lg_cur n s.total s.error after_preamble lg_low lg_mid lg_high in
+      let count_pass = counts_pass sp.lg_max sp.lg_cur n s.total s.error after_preamble small fits some few (omega (arith, length-append (encoded_weights order) (sp.items ++ rest), length_encoded order)) in
+      subst (λ (b : List ℕ). IsImage codec b s) (sym whole_is) (record {
         no_fault = rw (header_pass, count_pass, weights, items_are) refl;
         state = state;
         max_size = sp.max_size;
@@ -166,16 +201,29 @@ module _ {C : Type 0} (codec : Codec C) (lawful : IsLawful codec) where
             sym (rw items_are read_weight);
       })
 
-  empty_image : (image : List ℕ) (s : FrequentState C) → IsState codec.same s → IsWrittenEmpty image s → s.total ≡ 0 → IsImage codec image s
-  empty_image image s state sp zero_is =
-      let whole = header 1 sp.lg_max 3 5 in
+  full_prefix : prefix_bytes codec (image ++ rest) ≡ length image
+  full_prefix =
+      let n = length sp.order in
+      let front = preamble sp.lg_max sp.lg_cur n s.total s.error in
+      let long : length image ≡ 32 + 8 * n + length sp.items = omega (arith, ap length sp.bytes, length-append front (encoded_weights sp.order ++ sp.items), length-append (encoded_weights sp.order) sp.items, length_encoded sp.order) in
+      ap (prefix_bytes codec) whole_is
+      ∙ ap (λ (k : ℕ). 32 + 8 * k + items_bytes codec k (drop (32 + 8 * k) whole)) active_is
+      ∙ ap (λ (l : List ℕ). 32 + 8 * n + items_bytes codec n l) items_behind
+      ∙ ap (λ (k : ℕ). 32 + 8 * n + k) (bytes_back codec lawful sp.order sp.items rest sp.encoded)
+      ∙ sym long
+
+module _ {C : Type 0} (codec : Codec C) (lawful : IsLawful codec) where
+  empty_image : (image rest : List ℕ) (s : FrequentState C) → IsState codec.same s → IsWrittenEmpty image s → s.total ≡ 0 → IsImage codec (image ++ rest) s
+  empty_image image rest s state sp zero_is =
+      let whole = header 1 sp.lg_max 3 5 ++ rest in
       let lg_high : sp.lg_max ≤ 30 = exponents sp.lg_max 30 (omega (arith, sp.max_size, state.greatest)) in
       let lg_low : 3 ≤ sp.lg_max = exponents 3 sp.lg_max (omega (arith, sp.max_size, state.least, state.within)) in
+      let t0 : leb 8 (length whole) ≡ true = le-leb _ _ (omega (arith, length-append (header 1 sp.lg_max 3 5) rest)) in
       let t1 : leb sp.lg_max 30 ≡ true = le-leb _ _ lg_high in
       let t2 : leb 3 sp.lg_max ≡ true = le-leb _ _ lg_low in
       let none : s.counters ≡ [] = nil_from_length s.counters (omega (arith, length_le_sum s.counters state.positive, state.sum, zero_is)) in
-      subst (λ (b : List ℕ). IsImage codec b s) (sym sp.bytes) (record {
-        no_fault = rw (t1, t2) refl;
+      subst (λ (b : List ℕ). IsImage codec (b ++ rest) s) (sym sp.bytes) (record {
+        no_fault = rw (t0, t1, t2) refl;
         state = state;
         max_size = sp.max_size;
         size = state.empty zero_is;
@@ -184,11 +232,38 @@ module _ {C : Type 0} (codec : Codec C) (lawful : IsLawful codec) where
         counters = λ x. rw none refl;
       })
 
-  -- what is spelled is an image
-  pub spelled_is_image : (image : List ℕ) (s : FrequentState C) → IsSpelled codec image s → IsImage codec image s
-  spelled_is_image image s h =
+  empty_prefix : (image rest : List ℕ) (s : FrequentState C) → IsWrittenEmpty image s → prefix_bytes codec (image ++ rest) ≡ length image
+  empty_prefix image rest s sp = subst (λ (b : List ℕ). prefix_bytes codec (b ++ rest) ≡ length b) (sym sp.bytes) refl
+
+  -- what is spelled is an image, and is read to its end, whatever stands behind it
+  pub spelled_is_front : SpelledIsFront codec
+  spelled_is_front image rest s h =
       by_cases (cases_lt 0 s.total)
-      (λ some. full_image image s h.state h.total (h.full some) some)
+      (λ some. (full_image codec lawful image rest s h.state (h.full some) h.total some, full_prefix codec lawful image rest s h.state (h.full some)))
       (λ none.
       let zero_is : s.total ≡ 0 = omega (arith, none) in
-      empty_image image s h.state (h.empty zero_is) zero_is)
+      (empty_image image rest s h.state (h.empty zero_is) zero_is, empty_prefix image rest s (h.empty zero_is)))
+
+  pub spelled_is_image : SpelledIsImage codec
+  spelled_is_image image s h = subst (λ (b : List ℕ). IsImage codec b s) (append-nil image) (spelled_is_front image [] s h).0
+
+-- bytes that are images of one sketch are images of the same sketches
+same_image : {C : Type 0} (codec : Codec C) (a b : List ℕ) (s t : FrequentState C) → IsImage codec a s → IsImage codec b s → IsImage codec a t → IsImage codec b t
+same_image codec a b s t old image new = record {
+  no_fault = image.no_fault;
+  state = new.state;
+  max_size = new.max_size ∙ sym old.max_size ∙ image.max_size;
+  size = new.size ∙ sym old.size ∙ image.size;
+  total = new.total ∙ sym old.total ∙ image.total;
+  error = new.error ∙ sym old.error ∙ image.error;
+  counters = λ x. new.counters x ∙ sym (old.counters x) ∙ image.counters x;
+}
+
+-- what is read at the front of bytes
+pub front_read : {T C : Type 0} (codec : Codec C) (content : T → C) → IsLawful codec → (bytes : List ℕ) (new : FrequentState T) (used : ℕ) → IsImageOf codec content bytes new → used ≡ prefix_bytes codec bytes → ReadsFront codec content bytes new used
+front_read codec content lawful bytes new used read used_is image rest old spelled is =
+    let front = spelled_is_front codec lawful image rest (state_of_contents content old) spelled in
+    let new_is = subst (λ (b : List ℕ). IsImage codec b (state_of_contents content new)) is read in (
+      same_image codec (image ++ rest) image (state_of_contents content old) (state_of_contents content new) front.0 (spelled_is_image codec lawful image (state_of_contents content old) spelled) new_is,
+      used_is ∙ ap (prefix_bytes codec) is ∙ front.1,
+    )

@@ -260,11 +260,26 @@ module _ {T C : Type 0} (codec : Codec C) (content : T → C) where
   abbrev pub IsSpelledFor : List ℕ → FrequentState T → Type 0
   IsSpelledFor image s = IsSpelled codec image (state_of_contents content s)
 
+  -- an item of these counters cannot be written for this fault
+  abbrev pub IsItemFault : List (T × ℕ) → ErrorValue → Type 0
+  IsItemFault counters e =
+      (e ≡ invalid_argument e.fault) × Any (λ counter. codec.encoding (content counter.0) ≡ Err e.fault) counters
+
   -- an allocation failed, or an item of these counters cannot be written for this fault
   abbrev pub IsImageWritingRefusal : List (T × ℕ) → ErrorValue → Type 0
-  IsImageWritingRefusal counters e =
-      (e ≡ no_memory)
-      ⊎ ((e ≡ invalid_argument e.fault) × Any (λ counter. codec.encoding (content counter.0) ≡ Err e.fault) counters)
+  IsImageWritingRefusal counters e = (e ≡ no_memory) ⊎ IsItemFault counters e
+
+  -- the sketch has an image, and each is longer than n bytes
+  pub record HasImagesAbove (s : FrequentState T) (n : ℕ) : Type 0 where
+    pub some : (image : List ℕ) × IsSpelledFor image s
+    pub each : (image : List ℕ) → IsSpelledFor image s → n < length image
+
+  -- if the bytes begin with an image that a sketch writes, it is an image of the sketch that was read, and takes the bytes that
+  -- were read
+  abbrev pub ReadsFront : List ℕ → FrequentState T → ℕ → Type 0
+  ReadsFront bytes new used =
+      (image rest : List ℕ) (old : FrequentState T) → IsSpelledFor image old → bytes ≡ image ++ rest →
+      IsImageOf image new × (used ≡ length image)
 
   -- if a sketch encloses a history and has this image, the sketch that was read represents the restored history
   abbrev pub Restores : (T → T → Bool) → List ℕ → FrequentState T → Type 0

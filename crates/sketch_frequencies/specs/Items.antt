@@ -27,6 +27,10 @@ pub record Codec (C : Type 0) : Type 0 where
 abbrev pub max_owned : {C : Type 0} → Codec C → ℕ → ℕ
 max_owned codec n = if codec.owns then n else 0
 
+-- each content is written in at most n bytes
+abbrev pub IsWithin : {C : Type 0} → Codec C → ℕ → Type 0
+IsWithin {C} codec n = (v : C) (bytes : List ℕ) → codec.encoding v ≡ Ok bytes → length bytes ≤ n
+
 -- Equality is an equivalence. What was written is read as an equal item, whatever follows it. An item that was read owns at
 -- most the number of bytes that it takes.
 pub record IsLawful {C : Type 0} (codec : Codec C) : Type 0 where

@@ -1,12 +1,19 @@
 -- The length of an image that is to be written. No public clause cites this module.
-use Rattle.std.specs.Prelude.{◌≡◌, ℕ, ◌+◌, ◌*◌, ◌<◌, List, ◌++◌, length}
-use Rattle.sketch_frequencies.specs.Image.{AreEncoded, encoded_weights, preamble, contents_of}
+use Rattle.std.specs.Prelude.{◌≡◌, ◌⊎◌, ℕ, ◌+◌, ◌-◌, ◌*◌, ◌^◌, ◌<◌, ◌≤◌, List, ◌++◌, length}
+use Rattle.sketch_base.specs.Errors.{ErrorValue, no_memory}
+use Rattle.sketch_frequencies.specs.Image.{AreEncoded, IsItemFault, encoded_weights, preamble, contents_of}
 use Rattle.sketch_frequencies.specs.Items.{Codec}
 use Rattle.sketch_frequencies.specs.State.{FrequentState}
 
 -- the items have an encoding, and it takes n bytes
 abbrev pub TakeBytes : {C : Type 0} → Codec C → List (C × ℕ) → ℕ → Type 0
 TakeBytes codec counters n = (items : List ℕ) × AreEncoded codec counters items × (n ≡ length items)
+
+-- the items of these counters take `usize::MAX` bytes or more, or one cannot be written for this fault
+abbrev pub IsItemsSizeRefusal : {T C : Type 0} → Codec C → (T → C) → List (T × ℕ) → ErrorValue → Type 0
+IsItemsSizeRefusal codec content counters e =
+    ((e ≡ no_memory) × ((size : ℕ) × TakeBytes codec (contents_of content counters) size × (2 ^ 64 - 1 ≤ size)))
+    ⊎ IsItemFault codec content counters e
 
 -- the sketch has an image, and it takes n bytes
 pub record IsImageSize {T C : Type 0} (codec : Codec C) (content : T → C) (s : FrequentState T) (n : ℕ) : Type 0 where

@@ -5,13 +5,13 @@ ghost use Rattle.sketch_base.specs.Checks.{first_failing};
 ghost use Rattle.sketch_base.specs.Errors.{invalid_data, no_memory};
 ghost use Rattle.sketch_base.specs.Fields.{byte_at};
 ghost use Rattle.counter_table.specs.Bytes.{table_bytes};
-ghost use Rattle.sketch_frequencies.specs.Image.{items_bytes, header_checks, count_checks, weight_checks, active_at, weights_at, header, preamble, encoded_weights, contents_of, AreEncoded, IsImageWritingRefusal};
+ghost use Rattle.sketch_frequencies.specs.Image.{items_bytes, header_checks, count_checks, weight_checks, active_at, weights_at, header, preamble, encoded_weights, contents_of, AreEncoded};
 ghost use Rattle.sketch_frequencies.specs.Items.{max_owned};
 ghost use Rattle.sketch_frequencies.specs.Memory.{owned_by, memory_bytes};
 ghost use Rattle.sketch_frequencies.specs.Reading.{IsHeader, AreNumbers, AreCounters, IsItemsRefusal};
 ghost use Rattle.counter_table.specs.Slots.{entries_of};
 ghost use Rattle.sketch_frequencies.specs.State.{capacity};
-ghost use Rattle.sketch_frequencies.specs.Writing.{TakeBytes, IsWhole};
+ghost use Rattle.sketch_frequencies.specs.Writing.{TakeBytes, IsItemsSizeRefusal, IsWhole};
 
 use crate::frequent_item_value::FrequentItemValue;
 use counter_table::{ReversePurgeItemHashMap, Slot, TableKey, bytes_of_table, capacity_of};
@@ -271,10 +271,10 @@ pub(crate) fn table_size(lg: u8) -> usize
 
 /// Returns the number of bytes that the items in the slots take in an image.
 ///
-/// Returns the error of the first item that cannot be written, or `NoMemory` if there is no such item and the sum is `usize::MAX` or more.
+/// Returns the error of the first item that cannot be written, or `NoMemory` if there is none and the sum is `usize::MAX` or more.
 pub(crate) fn items_size<T: FrequentItemValue>(slots: &[Slot<T>]) -> Result<usize, Error>
     ensures ok { IfOk result (TakeBytes T.codec (contents_of T.content (entries_of slots.now))) }
-    ensures err { IfErr result (IsImageWritingRefusal T.codec T.content (entries_of slots.now)) }
+    ensures err { IfErr result (IsItemsSizeRefusal T.codec T.content (entries_of slots.now)) }
 {
     let mut size = 0usize;
     for slot in slots {

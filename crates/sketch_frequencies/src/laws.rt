@@ -6,7 +6,7 @@ ghost use Rattle.std.specs.Prelude.{◌≡◌, ℕ, ◌*◌, ◌<◌, ◌≤◌,
 ghost use Rattle.counter_table.specs.declared.table_key.TableKey.TheVariants.{Plain};
 ghost use Rattle.sketch_frequencies.specs.History.{FrequentHistory, budget_size, min_size, min_sample, total_weight, HasUsualSamples};
 ghost use Rattle.sketch_frequencies.specs.Image.{IsImageWritingRefusal};
-ghost use Rattle.sketch_frequencies.specs.Laws.{SpelledIsImage, ImageIsOfOne, ImageIsOfSome, ImageIsWithinTotal};
+ghost use Rattle.sketch_frequencies.specs.Laws.{SpelledIsImage, SpelledIsFront, ImageIsOfOne, ImageIsOfSome, ImageIsWithinTotal};
 ghost use Rattle.sketch_frequencies.specs.Stands.{Encloses, KeepsTailBudget};
 ghost use Rattle.sketch_frequencies.specs.State.{FrequentState, max_sample_size};
 ghost use Rattle.sketch_frequencies.specs.Streams.{EnclosesStreams, KeepsBudgetOfStreams};
@@ -20,11 +20,12 @@ use std::alloc::Global;
 
 /// Proves the laws of images.
 ///
-/// The bytes that `serialize` writes are an image of the sketch (`spelled`). Two sketches with the same image differ at most
+/// The bytes that `serialize` writes are an image of the sketch (`spelled`), whatever bytes follow (`front`). Two sketches with the same image differ at most
 /// in their sample sizes, in their keys and in which of equal items they hold (`one`). Bytes are an image of some sketch exactly if no check
 /// fails (`some`). For every image, also an untrusted one, the counts plus the error are at most the total (`within`).
 pub fn image_laws<T: FrequentItemValue>()
     ensures spelled { SpelledIsImage T.codec }
+    ensures front { SpelledIsFront T.codec }
     ensures one { ImageIsOfOne T.codec }
     ensures some { ImageIsOfSome T.codec }
     ensures within { ImageIsWithinTotal T.codec }

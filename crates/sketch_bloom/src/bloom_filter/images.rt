@@ -2,7 +2,7 @@
 ghost use Rattle.std.specs.Prelude.{◌≡◌, ℕ, List, ◌*◌, ◌≤◌, ◌↔◌, length, take, drop, IfOk, IfErr, IfSome, IfNone, IsSome};
 ghost use Rattle.sketch_base.specs.Checks.{IsImageRefusal};
 ghost use Rattle.sketch_base.specs.Errors.{no_memory};
-ghost use Rattle.sketch_bloom.specs.Image.{IsImage, IsSpelled, Restores, image_bytes, early_fault, first_fault, early_fault_within, first_fault_within, prefix_bytes};
+ghost use Rattle.sketch_bloom.specs.Image.{IsImage, IsSpelled, ReadsFront, Restores, image_bytes, early_fault, first_fault, early_fault_within, first_fault_within, prefix_bytes};
 ghost use Rattle.sketch_bloom.specs.State.{IsFilterState};
 
 use crate::bits::Bits;
@@ -196,6 +196,7 @@ impl BloomFilter {
         ensures stands { IfOk result (λ r. Restores image.now r.0) }
         ensures within { IfOk result (λ r. 8 * r.0.num_words ≤ max_bytes) }
         ensures used { IfOk result (λ r. r.1 ≡ prefix_bytes image.now) }
+        ensures front { IfOk result (λ r. ReadsFront image.now r.0 r.1) }
         ensures there { IfOk result (λ r. r.1 ≤ length image.now) }
         ensures err { IfErr result
             (IsImageRefusal (early_fault_within max_bytes image.now) (first_fault_within max_bytes image.now)) }

@@ -3,7 +3,7 @@ ghost use Rattle.std.specs.Prelude.{◌≡◌, ◌≢◌, ℕ, List, ◌+◌, �
 ghost use Rattle.sketch_base.specs.Checks.{IsImageRefusal};
 ghost use Rattle.sketch_base.specs.Errors.{no_memory};
 ghost use Rattle.sketch_base.specs.Hashes.{seed_hash};
-ghost use Rattle.sketch_countmin.specs.Image.{early_fault, late_fault, first_fault, early_fault_within, first_fault_within, value_at, image_bytes, IsImage, IsSpelled, Restores, prefix_bytes};
+ghost use Rattle.sketch_countmin.specs.Image.{early_fault, late_fault, first_fault, early_fault_within, first_fault_within, value_at, image_bytes, IsImage, IsSpelled, ReadsFront, Restores, prefix_bytes};
 ghost use Rattle.sketch_countmin.specs.Preamble.{IsPreamble};
 ghost use Rattle.sketch_countmin.specs.State.{IsCountState};
 
@@ -266,6 +266,7 @@ impl<T: CountMinValue> CountMinSketch<T> {
         ensures within { IfOk result
             (λ r. r.0.hashes * r.0.buckets * T.SIZE + 8 * r.0.hashes ≤ max_bytes) }
         ensures used { IfOk result (λ r. r.1 ≡ prefix_bytes image.now) }
+        ensures front { IfOk result (λ r. ReadsFront T.least T.greatest seed image.now r.0 r.1) }
         ensures there { IfOk result (λ r. r.1 ≤ length image.now) }
         ensures err { IfErr result
             (IsImageRefusal (early_fault_within T.SIZE max_bytes seed image.now)

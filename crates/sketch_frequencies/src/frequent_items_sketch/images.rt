@@ -1,9 +1,11 @@
 //! Images of sketches.
-ghost use Rattle.std.specs.Prelude.{◌≡◌, ◌<◌, ◌≤◌, ℕ, List, None, length, take, drop, IfOk, IfErr, IfSome, IsOk, OnErr};
+ghost use Rattle.std.specs.Prelude.{◌≡◌, ◌-◌, ◌<◌, ◌≤◌, ◌^◌, ℕ, List, None, length, take, drop, IfOk, IfErr, IfSome, IsOk, OnErr};
 ghost use Rattle.sketch_base.specs.Checks.{IsImageRefusal};
+ghost use Rattle.sketch_base.specs.Errors.{no_memory};
 ghost use Rattle.counter_table.specs.Bytes.{table_bytes};
 ghost use Rattle.counter_table.specs.declared.table_key.TableKey.TheVariants.{Plain};
-ghost use Rattle.sketch_frequencies.specs.Image.{IsImageOf, IsSpelledFor, IsImageWritingRefusal, Restores, RestoresBudget, early_fault, first_fault, limit_fault, early_fault_within, first_fault_within, prefix_bytes};
+ghost use Rattle.sketch_frequencies.specs.Image.{IsImageOf, IsSpelledFor, IsImageWritingRefusal, IsItemFault, HasImagesAbove, ReadsFront, Restores, RestoresBudget, early_fault, first_fault, limit_fault, early_fault_within, first_fault_within, prefix_bytes};
+ghost use Rattle.sketch_frequencies.specs.Items.{IsWithin};
 ghost use Rattle.sketch_frequencies.specs.Memory.{owned_by, memory_bytes};
 ghost use Rattle.sketch_frequencies.specs.State.{IsState, max_sample_size};
 ghost use Rattle.sketch_frequencies.specs.Writing.{IsImageSize};
@@ -27,7 +29,8 @@ impl<T: FrequentItemValue + Drop> FrequentItemsSketch<T> {
     /// # Errors
     ///
     /// Returns a fault of the kind `InvalidArgument` if an item cannot be written, such as `ItemTooLong` for a string of more than
-    /// 2^32 - 1 bytes. Returns `NoMemory` if the bytes of the items are 2^64 - 1 or more.
+    /// 2^32 - 1 bytes. Returns `NoMemory` if the image would take 2^64 bytes or more. It never does if an item takes at most 2^33,
+    /// as numbers and strings do.
     pub fn serialized_size(&self) -> Result<usize, Error>
         // There is an image, and each has this length.
         ensures some { IfOk result (λ n.
@@ -35,6 +38,10 @@ impl<T: FrequentItemValue + Drop> FrequentItemsSketch<T> {
         ensures each { IfOk result (λ n.
             (image : List ℕ) → IsSpelledFor T.codec T.content image self.now → length image ≡ n) }
         ensures err { IfErr result (IsImageWritingRefusal T.codec T.content self.now.counters) }
+
+        // `NoMemory` comes only if the images are longer than `usize::MAX`, so never if each item takes few bytes.
+        ensures memory { IfErr result (λ e. e ≡ no_memory → HasImagesAbove T.codec T.content self.now (2 ^ 64 - 1)) }
+        ensures short { IsWithin T.codec (2 ^ 33) → IfErr result (IsItemFault T.codec T.content self.now.counters) }
     {
         self.image_size()
     }
@@ -71,11 +78,16 @@ impl<T: FrequentItemValue + Drop> FrequentItemsSketch<T> {
         ensures length { IfOk result (λ r. IfSome r (λ n. n ≤ length out.old)) }
         ensures rest { IfOk result (λ r. IfSome r (λ n. drop n out.new ≡ drop n out.old)) }
 
-        // There is none only if `out` is too short for each image.
+        // There is none only if there is an image, and `out` is too short for each.
+        ensures exists { IfOk result (λ r. r ≡ None → (image : List ℕ) × IsSpelledFor T.codec T.content image self.now) }
         ensures room { IfOk result (λ r. r ≡ None →
             (image : List ℕ) → IsSpelledFor T.codec T.content image self.now → length out.old < length image) }
         ensures none { IfOk result (λ r. r ≡ None → out.new ≡ out.old) }
         ensures err { IfErr result (IsImageWritingRefusal T.codec T.content self.now.counters) }
+
+        // `NoMemory` comes only if the images are longer than `usize::MAX`, so never if each item takes few bytes.
+        ensures memory { IfErr result (λ e. e ≡ no_memory → HasImagesAbove T.codec T.content self.now (2 ^ 64 - 1)) }
+        ensures short { IsWithin T.codec (2 ^ 33) → IfErr result (IsItemFault T.codec T.content self.now.counters) }
         ensures unchanged { OnErr result (out.new ≡ out.old) }
     {
         let length = self.image_size()?;
@@ -94,6 +106,10 @@ impl<T: FrequentItemValue + Drop> FrequentItemsSketch<T> {
         ensures each { IfOk result (λ n.
             (image : List ℕ) → IsSpelledFor T.codec T.content image self.now → length image ≡ n) }
         ensures err { IfErr result (IsImageWritingRefusal T.codec T.content self.now.counters) }
+
+        // `NoMemory` comes only if the images are longer than `usize::MAX`, so never if each item takes few bytes.
+        ensures memory { IfErr result (λ e. e ≡ no_memory → HasImagesAbove T.codec T.content self.now (2 ^ 64 - 1)) }
+        ensures short { IsWithin T.codec (2 ^ 33) → IfErr result (IsItemFault T.codec T.content self.now.counters) }
     {
         if self.total == 0 {
             return Ok(8);
@@ -256,7 +272,8 @@ impl<T: FrequentItemValue + Drop> FrequentItemsSketch<T> {
     /// Returns the sketch of the image at the front of `image`, as
     /// [`deserialize_with_limit_and_key`](Self::deserialize_with_limit_and_key) does, and the number of bytes that the image takes.
     ///
-    /// So images can be read that stand one after another. The limit counts all bytes after the weights if items own memory.
+    /// So images can be read that stand one after another: the bytes that a sketch wrote are read as its image, whatever follows
+    /// them. The limit counts all bytes after the weights if items own memory.
     ///
     /// # Errors
     ///
@@ -274,6 +291,7 @@ impl<T: FrequentItemValue + Drop> FrequentItemsSketch<T> {
         ensures stands { IfOk result (λ r. Restores T.codec T.content T.eq image.now r.0) }
         ensures budget { IfOk result (λ r. RestoresBudget T.codec T.content T.eq image.now r.0) }
         ensures used { IfOk result (λ r. r.1 ≡ prefix_bytes T.codec image.now) }
+        ensures front { IfOk result (λ r. ReadsFront T.codec T.content image.now r.0 r.1) }
         ensures there { IfOk result (λ r. r.1 ≤ length image.now) }
         ensures within { IfOk result (λ r.
             memory_bytes (table_bytes T.row r.0.size) (owned_by T.codec T.content r.0.counters) ≤ max_bytes) }

@@ -1,6 +1,8 @@
-use Rattle.std.proofs.Common.{◌≡◌, ◌∙◌, sym, inr, Err}
+use Rattle.std.proofs.Common.{◌≡◌, ◌∙◌, take, length, sym, subst, refl, inl, inr, Err, arith}
+use Rattle.std.proofs.lemmas.List.{take_all}
 use Rattle.std.proofs.lemmas.Result.{err_from_is_err_and}
-use Rattle.sketch_frequencies.proofs.ImageSizes.{size_more}
+use Rattle.counter_table.specs.Slots.{entries_of}
+use Rattle.sketch_frequencies.proofs.ImageSizes.{TakeSoFar, size_more}
 use Rattle.sketch_frequencies.proofs.SlotEntries.{entries_passed}
 use Rattle.sketch_frequencies.proofs.Spellings.{ok_and, any_entry}
 use Rattle.sketch_frequencies.proofs.image.items_size.Goals as goal
@@ -28,3 +30,12 @@ loop-slot-preserved g c =
           size_more codec content slots i t.drift t.count t.item c.slot-item.result c.loop-slot.size _ c.match-slot.size one.0 c.loop-slot-test.true (sym c.slot-item.is ∙ t.is) one.1 one.2 (w.size-is ∙ w.saturating_add-size.ensures) c.loop-slot.invariant
       | in_default w ↦ rw (entries_passed slots i c.slot-item.result c.loop-slot-test.true (sym c.slot-item.is ∙ w.in_default.is), w.size-is) c.loop-slot.invariant
     ]
+
+pub returns-then-size-clause-err : goal.returns-then-size-clause-err
+returns-then-size-clause-err g c =
+    let codec = g.T.FrequentItemValue.codec in
+    let content = g.T.FrequentItemValue.content in
+    let slots = c.args.slots.now in
+    let all : take c.loop-slot.slot-index slots ≡ slots = take_all c.loop-slot.slot-index slots (omega (arith, c.loop-slot-test.false)) in
+    let h = subst (λ l. TakeSoFar codec content (entries_of l) c.loop-slot.size) all c.loop-slot.invariant in
+    inl (c.from.ensures, (length h.0, (h.0, h.1, refl), omega (arith, h.2, c.if-size.true)))

@@ -1,4 +1,4 @@
-use Rattle.std.proofs.Common.{arith, ◌≤◌, ◌^◌, ℕ, refl, ap, sym, ◌∙◌, subst}
+use Rattle.std.proofs.Common.{arith, rules, ◌≤◌, ◌^◌, ℕ, refl, ap, sym, ◌∙◌, subst}
 use Rattle.std.proofs.lemmas.Result.{err_from_is_err_and}
 use Rattle.std.proofs.Math.Pow.{pow_mono}
 use Rattle.sketch_frequencies.specs.Items.{max_owned}
@@ -8,6 +8,7 @@ use Rattle.sketch_frequencies.proofs.Images.{image_of_none, state_of_counters, i
 use Rattle.sketch_frequencies.proofs.OwnedBytes.{memory_le}
 use Rattle.sketch_frequencies.proofs.Powers.{eight_is_power}
 use Rattle.sketch_frequencies.proofs.Refusals.{none_of_empty, counts_of_full, size_of_empty, size_of_full, room_of_empty, room_of_full, is_within, first_of, early_refused, limit_refused, memory_refused, weights_refused, items_refused}
+use Rattle.sketch_frequencies.proofs.RoundTrips.{front_read}
 use Rattle.sketch_frequencies.proofs.SampleSizes.{usual_sample}
 use Rattle.sketch_frequencies.proofs.ImageWeights.{length-weights_at}
 use Rattle.sketch_frequencies.proofs.frequent_items_sketch.FrequentItemsSketch.deserialize_prefix.Goals as goal
@@ -85,43 +86,43 @@ returns-clause-budget g c = λ old was h stands keeps. restores_budget g.T.Frequ
 pub returns-in_err-header : goal.returns-in_err-header
 returns-in_err-header g c =
     let p = err_from_is_err_and c.from_residual.result c.from_residual.ensures.1 in
-    rw (p.1, p.2) (record { image = tt; state = tt; sample = tt; key = tt; stands = tt; budget = tt; used = tt; there = tt; within = tt; accepted = λ ok. absurd cc; err = early_refused _ c.args.max_bytes g.T.FrequentItemValue.codec c.args.image.now _ (c.in_err-header.ensures.err.0, first_of _ _ c.in_err-header.ensures.err.1) })
+    rw (p.1, p.2) (record { image = tt; state = tt; sample = tt; key = tt; stands = tt; budget = tt; used = tt; front = tt; there = tt; within = tt; accepted = λ ok. absurd cc; err = early_refused _ c.args.max_bytes g.T.FrequentItemValue.codec c.args.image.now _ (c.in_err-header.ensures.err.0, first_of _ _ c.in_err-header.ensures.err.1) })
 
 pub returns-in_err-check_limit : goal.returns-in_err-check_limit
 returns-in_err-check_limit g c =
     let p = err_from_is_err_and c.from_residual-in_err-check_limit.result c.from_residual-in_err-check_limit.ensures.1 in
     let empty = sym c.in_ok-header.ensures.fields.is_empty ∙ c.if-header.true in
-    rw (p.1, p.2) (record { image = tt; state = tt; sample = tt; key = tt; stands = tt; budget = tt; used = tt; there = tt; within = tt; accepted = λ ok. absurd cc; err = limit_refused _ c.args.max_bytes g.T.FrequentItemValue.codec c.args.image.now _ (none_of_empty c.args.image.now c.in_ok-header.ensures.checks empty) (size_of_empty c.args.image.now empty) (room_of_empty c.args.image.now empty) c.in_err-check_limit.ensures.err })
+    rw (p.1, p.2) (record { image = tt; state = tt; sample = tt; key = tt; stands = tt; budget = tt; used = tt; front = tt; there = tt; within = tt; accepted = λ ok. absurd cc; err = limit_refused _ c.args.max_bytes g.T.FrequentItemValue.codec c.args.image.now _ (none_of_empty c.args.image.now c.in_ok-header.ensures.checks empty) (size_of_empty c.args.image.now empty) (room_of_empty c.args.image.now empty) c.in_err-check_limit.ensures.err })
 
 pub returns-in_err-map : goal.returns-in_err-map
 returns-in_err-map g c =
     let p = err_from_is_err_and c.from_residual-in_err-map.result c.from_residual-in_err-map.ensures.1 in
     let empty = sym c.in_ok-header.ensures.fields.is_empty ∙ c.if-header.true in
-    rw (p.1, p.2) (record { image = tt; state = tt; sample = tt; key = tt; stands = tt; budget = tt; used = tt; there = tt; within = tt; accepted = λ ok. absurd cc; err = memory_refused _ c.args.max_bytes g.T.FrequentItemValue.codec c.args.image.now _ (none_of_empty c.args.image.now c.in_ok-header.ensures.checks empty) (is_within _ c.args.max_bytes g.T.FrequentItemValue.codec c.args.image.now (size_of_empty c.args.image.now empty) (room_of_empty c.args.image.now empty) c.in_ok-check_limit.ensures.within) c.in_err-map.ensures.err })
+    rw (p.1, p.2) (record { image = tt; state = tt; sample = tt; key = tt; stands = tt; budget = tt; used = tt; front = tt; there = tt; within = tt; accepted = λ ok. absurd cc; err = memory_refused _ c.args.max_bytes g.T.FrequentItemValue.codec c.args.image.now _ (none_of_empty c.args.image.now c.in_ok-header.ensures.checks empty) (is_within _ c.args.max_bytes g.T.FrequentItemValue.codec c.args.image.now (size_of_empty c.args.image.now empty) (room_of_empty c.args.image.now empty) c.in_ok-check_limit.ensures.within) c.in_err-map.ensures.err })
 
 pub returns-in_err-numbers : goal.returns-in_err-numbers
 returns-in_err-numbers g c =
     let p = err_from_is_err_and c.from_residual-in_err-numbers.result c.from_residual-in_err-numbers.ensures.1 in
     let full = sym c.in_ok-header.ensures.fields.is_empty ∙ c.if-header.false in
-    rw (p.1, p.2) (record { image = tt; state = tt; sample = tt; key = tt; stands = tt; budget = tt; used = tt; there = tt; within = tt; accepted = λ ok. absurd cc; err = early_refused _ c.args.max_bytes g.T.FrequentItemValue.codec c.args.image.now _ (c.in_err-numbers.ensures.err.0, counts_of_full c.args.image.now c.in_ok-header.ensures.checks full c.in_err-numbers.ensures.err.1) })
+    rw (p.1, p.2) (record { image = tt; state = tt; sample = tt; key = tt; stands = tt; budget = tt; used = tt; front = tt; there = tt; within = tt; accepted = λ ok. absurd cc; err = early_refused _ c.args.max_bytes g.T.FrequentItemValue.codec c.args.image.now _ (c.in_err-numbers.ensures.err.0, counts_of_full c.args.image.now c.in_ok-header.ensures.checks full c.in_err-numbers.ensures.err.1) })
 
 pub returns-in_err-check_limit-2 : goal.returns-in_err-check_limit-2
 returns-in_err-check_limit-2 g c =
     let p = err_from_is_err_and c.from_residual-in_err-check_limit-2.result c.from_residual-in_err-check_limit-2.ensures.1 in
     let full = sym c.in_ok-header.ensures.fields.is_empty ∙ c.if-header.false in
-    rw (p.1, p.2) (record { image = tt; state = tt; sample = tt; key = tt; stands = tt; budget = tt; used = tt; there = tt; within = tt; accepted = λ ok. absurd cc; err = limit_refused _ c.args.max_bytes g.T.FrequentItemValue.codec c.args.image.now _ (counts_of_full c.args.image.now c.in_ok-header.ensures.checks full c.in_ok-numbers.ensures.checks) (size_of_full c.args.image.now full (c.table_size-size.ensures.value ∙ ap (λ (k : ℕ). 2 ^ k) c.in_ok-header.ensures.fields.lg_cur)) (room_of_full c.args.image.now full c.in_ok-numbers.ensures.fields.active refl) c.in_err-check_limit-2.ensures.err })
+    rw (p.1, p.2) (record { image = tt; state = tt; sample = tt; key = tt; stands = tt; budget = tt; used = tt; front = tt; there = tt; within = tt; accepted = λ ok. absurd cc; err = limit_refused _ c.args.max_bytes g.T.FrequentItemValue.codec c.args.image.now _ (counts_of_full c.args.image.now c.in_ok-header.ensures.checks full c.in_ok-numbers.ensures.checks) (size_of_full c.args.image.now full (c.table_size-size.ensures.value ∙ ap (λ (k : ℕ). 2 ^ k) c.in_ok-header.ensures.fields.lg_cur)) (room_of_full c.args.image.now full c.in_ok-numbers.ensures.fields.active refl) c.in_err-check_limit-2.ensures.err })
 
 pub returns-in_err-check_weights : goal.returns-in_err-check_weights
 returns-in_err-check_weights g c =
     let p = err_from_is_err_and c.from_residual-in_err-check_weights.result c.from_residual-in_err-check_weights.ensures.1 in
     let full = sym c.in_ok-header.ensures.fields.is_empty ∙ c.if-header.false in
-    rw (p.1, p.2) (record { image = tt; state = tt; sample = tt; key = tt; stands = tt; budget = tt; used = tt; there = tt; within = tt; accepted = λ ok. absurd cc; err = weights_refused _ c.args.max_bytes g.T.FrequentItemValue.codec c.args.image.now _ (counts_of_full c.args.image.now c.in_ok-header.ensures.checks full c.in_ok-numbers.ensures.checks) (is_within _ c.args.max_bytes g.T.FrequentItemValue.codec c.args.image.now (size_of_full c.args.image.now full (c.table_size-size.ensures.value ∙ ap (λ (k : ℕ). 2 ^ k) c.in_ok-header.ensures.fields.lg_cur)) (room_of_full c.args.image.now full c.in_ok-numbers.ensures.fields.active refl) c.in_ok-check_limit-2.ensures.within) full c.in_err-check_weights.ensures.err })
+    rw (p.1, p.2) (record { image = tt; state = tt; sample = tt; key = tt; stands = tt; budget = tt; used = tt; front = tt; there = tt; within = tt; accepted = λ ok. absurd cc; err = weights_refused _ c.args.max_bytes g.T.FrequentItemValue.codec c.args.image.now _ (counts_of_full c.args.image.now c.in_ok-header.ensures.checks full c.in_ok-numbers.ensures.checks) (is_within _ c.args.max_bytes g.T.FrequentItemValue.codec c.args.image.now (size_of_full c.args.image.now full (c.table_size-size.ensures.value ∙ ap (λ (k : ℕ). 2 ^ k) c.in_ok-header.ensures.fields.lg_cur)) (room_of_full c.args.image.now full c.in_ok-numbers.ensures.fields.active refl) c.in_ok-check_limit-2.ensures.within) full c.in_err-check_weights.ensures.err })
 
 pub returns-in_err-map-2 : goal.returns-in_err-map-2
 returns-in_err-map-2 g c =
     let p = err_from_is_err_and c.from_residual-in_err-map-2.result c.from_residual-in_err-map-2.ensures.1 in
     let full = sym c.in_ok-header.ensures.fields.is_empty ∙ c.if-header.false in
-    rw (p.1, p.2) (record { image = tt; state = tt; sample = tt; key = tt; stands = tt; budget = tt; used = tt; there = tt; within = tt; accepted = λ ok. absurd cc; err = items_refused _ c.args.max_bytes g.T.FrequentItemValue.codec c.args.image.now _ (counts_of_full c.args.image.now c.in_ok-header.ensures.checks full c.in_ok-numbers.ensures.checks) (is_within _ c.args.max_bytes g.T.FrequentItemValue.codec c.args.image.now (size_of_full c.args.image.now full (c.table_size-size.ensures.value ∙ ap (λ (k : ℕ). 2 ^ k) c.in_ok-header.ensures.fields.lg_cur)) (room_of_full c.args.image.now full c.in_ok-numbers.ensures.fields.active refl) c.in_ok-check_limit-2.ensures.within) full c.in_ok-check_weights.ensures.checks c.in_err-map-2.ensures.err })
+    rw (p.1, p.2) (record { image = tt; state = tt; sample = tt; key = tt; stands = tt; budget = tt; used = tt; front = tt; there = tt; within = tt; accepted = λ ok. absurd cc; err = items_refused _ c.args.max_bytes g.T.FrequentItemValue.codec c.args.image.now _ (counts_of_full c.args.image.now c.in_ok-header.ensures.checks full c.in_ok-numbers.ensures.checks) (is_within _ c.args.max_bytes g.T.FrequentItemValue.codec c.args.image.now (size_of_full c.args.image.now full (c.table_size-size.ensures.value ∙ ap (λ (k : ℕ). 2 ^ k) c.in_ok-header.ensures.fields.lg_cur)) (room_of_full c.args.image.now full c.in_ok-numbers.ensures.fields.active refl) c.in_ok-check_limit-2.ensures.within) full c.in_ok-check_weights.ensures.checks c.in_err-map-2.ensures.err })
 
 pub returns-then-header-clause-sample : goal.returns-then-header-clause-sample
 returns-then-header-clause-sample g c = c.max_sample_of-sample_size.ensures
@@ -151,3 +152,15 @@ returns-then-header-clause-within g c = rw c.in_ok-map.ensures.ok (memory_le _ 0
 
 pub returns-clause-within : goal.returns-clause-within
 returns-clause-within g c = rw c.in_ok-map-2.ensures.size (memory_le _ _ _ c.args.max_bytes c.in_ok-map-2.ensures.owned c.in_ok-check_limit-2.ensures.within)
+
+pub returns-then-header-clause-used : goal.returns-then-header-clause-used
+returns-then-header-clause-used g c = search rules
+
+pub returns-clause-used : goal.returns-clause-used
+returns-clause-used g c = search rules
+
+pub returns-then-header-clause-front : goal.returns-then-header-clause-front
+returns-then-header-clause-front g c = front_read g.T.FrequentItemValue.codec g.T.FrequentItemValue.content g.met.T.FrequentItemValue.lawful c.args.image.now _ 8 (returns-then-header-clause-image g c) (returns-then-header-clause-used g c)
+
+pub returns-clause-front : goal.returns-clause-front
+returns-clause-front g c = front_read g.T.FrequentItemValue.codec g.T.FrequentItemValue.content g.met.T.FrequentItemValue.lawful c.args.image.now _ c.in_ok-map-2.used (returns-clause-image g c) (returns-clause-used g c)
