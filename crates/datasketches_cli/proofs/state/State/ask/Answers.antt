@@ -9,5 +9,5 @@ pub returns : goal.returns
 returns c =
     let alloc = c.args.self.now in
     let (x, same, named) = text_named c.args.item.now c.utf8.item (omega arith) _ in
-    let did : DidWith c.args.item.now (λ x. Ask c.args.name.now x) c.args.self.now.session (told c.ask.result) c.args.self.now.session = (x, same, (c.ask.ensures x named).step) in
+    let did : DidWith c.args.item.now (λ x. Ask c.args.name.now x) c.args.self.now.session (told c.ask.result) c.args.self.now.session = (x, same, (c.ask.ensures.performed x named).step) in
     search (rules, did)
