@@ -6,6 +6,7 @@ ghost use Rattle.std.specs.Prelude.{◌≡◌, ℕ, ◌+◌, ◌<◌, ◌≤◌,
 ghost use Rattle.sketch_base.specs.Checks.{IsImageRefusal};
 ghost use Rattle.sketch_base.specs.Errors.{no_memory, refusal_of};
 ghost use Rattle.counter_table.specs.Bytes.{table_bytes};
+ghost use Rattle.counter_table.specs.declared.table_key.TableKey.TheVariants.{Plain};
 ghost use Rattle.sketch_frequencies.specs.Image.{IsImageOf, IsSpelledFor, IsImageWritingRefusal, limit_fault, early_fault_within, first_fault_within};
 ghost use Rattle.sketch_frequencies.specs.Memory.{owned_by, memory_bytes};
 ghost use Rattle.sketch_frequencies.specs.Rows.{ShowsExactly, Descends};
@@ -42,7 +43,7 @@ impl<G: Eq + Hash + Drop> GroupSums<G> {
     ///
     /// Returns the errors of [`FrequentItemsSketch::new`].
     pub fn new(alloc: Global, max_map_size: usize) -> Result<Self, Error>
-        ensures ok { IfOk result (λ sums. sums ≡ empty_state max_map_size (max_sample_size max_map_size)) }
+        ensures ok { IfOk result (λ sums. sums ≡ empty_state max_map_size (max_sample_size max_map_size) Plain) }
         ensures sums { IfOk result (λ sums. SumsUp G.eq (max_sample_size max_map_size / 2) sums []) }
         ensures accepted { IsOk result → size_fault max_map_size ≡ None }
         ensures refused { IfErr result (λ e. e ≡ refusal_of (size_fault max_map_size)) }
@@ -151,6 +152,7 @@ impl<G: FrequentItemValue + Drop> GroupSums<G> {
     pub fn from_image(alloc: Global, image: &[u8], max_bytes: usize) -> Result<Self, Error>
         ensures image { IfOk result (λ sums. IsImageOf G.codec G.content image.now sums) }
         ensures sample { IfOk result (λ sums. sums.sample_size ≡ max_sample_size sums.max_size) }
+        ensures key { IfOk result (λ sums. sums.key ≡ Plain) }
         ensures sums { IfOk result (λ sums. (n : ℕ) (rows : List (G × ℕ))
             → CarriesSums G.eq G.codec G.content n image.now rows → SumsUp G.eq n sums rows) }
         ensures within { IfOk result (λ sums.
