@@ -1,12 +1,14 @@
 //! The keys of a run: how its tables and maps hash.
-ghost use Rattle.std.specs.Prelude.{◌≡◌, IfOk};
+ghost use Rattle.std.specs.Prelude.{◌≡◌, ℕ, ◌%◌, ◌<◌, length, slice_index, IfErr, IfOk, IsOk};
 ghost use Rattle.datasketches.specs.State.{nothing_stored};
-ghost use Rattle.datasketches_cli.specs.KeyValues.{choice_of, table_key, HasKeys, HashesUnder};
+ghost use Rattle.datasketches_cli.specs.KeyValues.{AreGiven, HasKeys, HasTableKey, HashesUnder, IsChosen, IsKeyed, choice_of, map_key, table_key};
+ghost use Rattle.datasketches_cli.specs.declared.keys.KeyFault.TheVariants.{NoRandomBytes};
 ghost use Rattle.heavy_windows.specs.Calls.{IsMade};
 
 use datasketches::Session;
 use heavy_windows::{Error, HashKey, HeavyWindows, TableKey};
 use hex::FromHex;
+use sketch_base::keyed_hash;
 use std::alloc::Global;
 use std::env::{Env, FillError};
 use std::hash::RandomState;
@@ -52,12 +54,19 @@ pub enum Choice {
 pub fn keys_of(rt: &(impl Env + RandomSource)) -> Result<Keys, KeyFault> {
     let mut value = [0; 32];
     match rt.var(VARIABLE, &mut value) {
-        Ok(len) => match choice_of(&value[..len]) {
-            Some(choice) => chosen_keys(choice),
-            None => Err(KeyFault::BadValue),
-        },
+        Ok(len) => given_keys(&value[..len]),
         Err(FillError::TooLong) => Err(KeyFault::BadValue),
         Err(FillError::NotPresent) => random_keys(rt),
+    }
+}
+
+/// Returns the keys of a value of the variable.
+fn given_keys(value: &[u8]) -> Result<Keys, KeyFault>
+    ensures { AreGiven (choice_of value.now) result }
+{
+    match choice_of(value) {
+        Some(choice) => chosen_keys(choice),
+        None => Err(KeyFault::BadValue),
     }
 }
 
@@ -74,27 +83,56 @@ fn choice_of(value: &[u8]) -> Option<Choice>
     }
 }
 
-/// Returns the keys of a choice. The bytes are the key of tables and that of maps, so a run can be repeated.
-fn chosen_keys(choice: Choice) -> Result<Keys, KeyFault> {
+/// Returns the keys of a choice. The bytes are the key of tables, and that of maps is derived from them. So a run can be repeated.
+fn chosen_keys(choice: Choice) -> Result<Keys, KeyFault>
+    ensures { IfOk result (IsChosen choice) }
+{
     match choice {
         Choice::Plain => Ok(Keys::Plain),
-        Choice::Bytes(bytes) => random_keys(&GivenBytes { bytes }),
+        Choice::Bytes(bytes) => {
+            let table = HashKey::from_bytes(&bytes);
+            keys_under(
+                table,
+                &GivenBytes {
+                    bytes: map_key(table),
+                },
+            )
+        }
     }
 }
 
-/// Returns keys of bytes from a source.
-fn random_keys(source: &impl RandomSource) -> Result<Keys, KeyFault> {
+/// Returns the 16 bytes of the key of maps, by the key of tables: the hashes of two labels.
+///
+/// No string item has the hash of a label, since strings are hashed with the byte 255 at the end.
+fn map_key(table: HashKey) -> [u8; 16]
+    ensures { result ≡ map_key table }
+{
+    let mut bytes = [0; 16];
+    bytes[..8].copy_from_slice(&keyed_hash(table, b"maps 0").to_le_bytes());
+    bytes[8..].copy_from_slice(&keyed_hash(table, b"maps 1").to_le_bytes());
+    bytes
+}
+
+/// Returns random keys, of bytes from a source.
+fn random_keys(source: &impl RandomSource) -> Result<Keys, KeyFault>
+    ensures { IfOk result IsKeyed }
+{
     let mut bytes = [0; 16];
     let Ok(()) = source.fill_bytes(&mut bytes) else {
         return Err(KeyFault::NoRandomBytes);
     };
+    keys_under(HashKey::from_bytes(&bytes), source)
+}
+
+/// Returns the key of tables, and a key of maps from a source.
+fn keys_under(table: HashKey, source: &impl RandomSource) -> Result<Keys, KeyFault>
+    ensures table { IfOk result (HasTableKey table) }
+    ensures err { IfErr result (λ fault. fault ≡ NoRandomBytes) }
+{
     let Ok(maps) = RandomState::new(source) else {
         return Err(KeyFault::NoRandomBytes);
     };
-    Ok(Keys::Keyed {
-        table: HashKey::from_bytes(&bytes),
-        maps,
-    })
+    Ok(Keys::Keyed { table, maps })
 }
 
 /// A source that repeats these bytes.
@@ -104,7 +142,11 @@ struct GivenBytes {
 }
 
 impl RandomSource for GivenBytes {
-    fn fill_bytes(&self, buf: &mut [u8]) -> io::Result<()> {
+    /// Writes the bytes in turn. It does not fail.
+    fn fill_bytes(&self, buf: &mut [u8]) -> io::Result<()>
+        ensures ok { IsOk result }
+        ensures bytes { (i : ℕ) → i < length buf.new → slice_index buf.new i ≡ slice_index self.now.bytes (i % 16) }
+    {
         for i in 0..buf.len() {
             buf[i] = self.bytes[i % 16];
         }
