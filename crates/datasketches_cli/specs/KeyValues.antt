@@ -1,5 +1,5 @@
 -- The values of the environment variable that fixes the key of tables, and the keys that a run has.
-use Rattle.std.specs.Prelude.{◌≡◌, ℕ, List, ◌++◌, Option, Some, None, Result, Ok, Err, IfOk, if◌then◌else◌, codes, option_map}
+use Rattle.std.specs.Prelude.{◌≡◌, ℕ, List, ◌++◌, Option, Some, None, Result, Err, IfOk, if◌then◌else◌, codes, option_map}
 use Rattle.std.specs.Int.{w64, to_le_bytes}
 use Rattle.std.specs.Result.{result_ok}
 use Rattle.std.specs.Str.{bytes_eq}

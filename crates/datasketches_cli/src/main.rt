@@ -1,7 +1,8 @@
 //! Named sketches, their saved images, and windows of tenants, driven by lines.
 //!
-//! The program takes no arguments. It reads lines from standard input and writes a reply line for each to standard
-//! output. `docs/FORMATS.md` lists all lines and their replies.
+//! The program reads lines from standard input and writes a reply line for each to standard output. `docs/FORMATS.md`
+//! lists all lines and their replies. `--help` prints the usage and `--version` the version, with status 0. After any other
+//! argument it prints the usage on standard error and exits with status 2. It reads no input then.
 //!
 //! If a line is not UTF-8 or not a command, the program prints `bad line` and its number, and exits with status 1.
 //! Numbers count all lines from 1. After a failed read or write it prints `input or output failed` on standard error
@@ -14,6 +15,7 @@
 //! status 2. It reads no input then.
 #![tactic(auto)]
 
+mod arguments;
 mod counted;
 mod keys;
 mod laws;
@@ -26,12 +28,37 @@ mod state;
 mod stopped;
 mod verbs;
 
+use arguments::{Request, USAGE, VERSION, request_of};
 use counted::Counted;
 use keys::KeyFault;
 use serve::{CliFault, Ended};
 use std::process::ExitCode;
 
 fn main(rt: HostRuntime) -> ExitCode {
+    match request_of(&rt) {
+        Request::Serve => serve_input(rt),
+        Request::Help => print_text(rt, USAGE),
+        Request::Version => print_text(rt, VERSION),
+        Request::Unknown => {
+            let _ = eprintln!(rt; "{USAGE}");
+            ExitCode::from(2)
+        }
+    }
+}
+
+/// Prints a text. The status is 2 if that fails.
+fn print_text(rt: HostRuntime, text: &str) -> ExitCode {
+    match println!(rt; "{text}") {
+        Ok(()) => ExitCode::SUCCESS,
+        Err(_) => {
+            let _ = eprintln!(rt; "input or output failed");
+            ExitCode::from(2)
+        }
+    }
+}
+
+/// Serves the commands of standard input.
+fn serve_input(rt: HostRuntime) -> ExitCode {
     let keys = match keys::keys_of(&rt) {
         Ok(keys) => keys,
         Err(KeyFault::BadValue) => {

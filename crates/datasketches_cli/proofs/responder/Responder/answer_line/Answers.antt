@@ -1,4 +1,4 @@
-use Rattle.std.proofs.Common.{refl, sym, ap, subst}
+use Rattle.std.proofs.Common.{refl, sym, subst}
 use Rattle.datasketches.specs.State.{SessionKeys}
 use Rattle.datasketches_cli.specs.KeyValues.{HasKeys}
 use Rattle.datasketches_cli.specs.Serving.{answer_by}
