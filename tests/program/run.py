@@ -22,6 +22,7 @@ import examples  # noqa: E402
 import keys  # noqa: E402
 import links  # noqa: E402
 import loads  # noqa: E402
+import manual  # noqa: E402
 import sessions  # noqa: E402
 import streams  # noqa: E402
 import trials  # noqa: E402
@@ -514,6 +515,29 @@ class Tests:
             status, out, said, _ = self.run(lines)
             self.check(f"status after {name}", (status, out, said) == (wanted, text, b""), (status, out, said))
 
+    def arguments(self):
+        """Usage and version, and the usage on standard error after arguments that the program does not take."""
+        with open(os.path.join(os.path.dirname(TESTS), "VERSION"), encoding="utf-8") as file:
+            version = file.read().strip()
+
+        def ended(*words, stdout=subprocess.PIPE):
+            ran = subprocess.run([self.program, *words], input=b"frequent s 8\n", stdout=stdout, stderr=subprocess.PIPE, timeout=60)
+            return ran.returncode, ran.stdout, ran.stderr
+
+        usage = ended("--help")[1]
+        self.check("the usage names both options", usage.startswith(b"usage: ") and b"--help" in usage and b"--version" in usage)
+        self.check("the usage's commands are ones", all(self.run(b"frequent s 64\n" + line[2:].split(b"   ")[0])[0] == 0
+                                                        for line in usage.splitlines() if line.startswith(b"  ")))
+        for words, wanted in [(["--help"], (0, usage, b"")), (["-h"], (0, usage, b"")),
+                              (["--version"], (0, f"datasketches_cli {version}\n".encode(), b"")),
+                              (["-V"], (0, f"datasketches_cli {version}\n".encode(), b""))]:
+            self.check(f"arguments {words}", ended(*words) == wanted, ended(*words))
+        for words in (["help"], ["--helping"], ["--help", "--version"], ["lines.txt"], ["/dev/null"], [""], ["-"], [b"\xff"], ["--", "x"],
+                      ["x" * 100000]):
+            self.check(f"arguments {words[0][:20]!r}, {len(words)}", ended(*words) == (2, b"", usage), ended(*words))
+        with open("/dev/full", "wb") as full:
+            self.check("the usage to a full device", ended("--help", stdout=full)[::2] == (2, b"input or output failed\n"))
+
     def failing_streams(self):
         lines = WORKED * 3
         with open("/dev/full", "wb") as full:
@@ -593,10 +617,12 @@ def main():
         tests.interrupted_streams()
         tests.answers_at_once()
         tests.statuses()
+        tests.arguments()
         tests.failing_streams()
         tests.sizes()
         examples.check(tests)
         links.check(tests)
+        manual.check(tests)
         print(f"requests refused in turn: {worked} and {many} of the program, {run} of a run of a session")
         print(f"{before[0] + tests.passed} passed, {before[1] + tests.failed} failed")
     sys.exit(1 if before[1] + tests.failed else 0)
