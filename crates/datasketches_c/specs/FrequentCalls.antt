@@ -94,8 +94,8 @@ module _ {T : Type 0} (eq : T → T → Bool) where
     pub refused : OnRefused result (new ≡ old)
     pub number : OnRefused result (result ≡ refusal_number BadSampleSize)
 
-  -- new is the empty sketch of old's sizes. It stands for the reset of each history of old, and keeps its tail budget
+  -- new is the empty sketch of old's sizes and key. It stands for the reset of each history of old, and keeps its tail budget
   pub record Empties (old new : FrequentState T) : Type 0 where
-    pub empty : new ≡ empty_state old.max_size old.sample_size
+    pub empty : new ≡ empty_state old.max_size old.sample_size old.key
     pub stands : Extends eq old new Reset
     pub budget : (h : FrequentHistory T) → KeepsTailBudget eq new (Reset h)

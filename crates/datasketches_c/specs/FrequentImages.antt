@@ -4,6 +4,7 @@ use denote.Builtin as builtin
 use denote.RattleType.{RattleType}
 use Rattle.sketch_base.specs.declared.fault.Fault.TheVariants.{NoMemory}
 use Rattle.counter_table.specs.Bytes.{table_bytes}
+use Rattle.counter_table.specs.declared.table_key.TableKey.{TableKey}
 use Rattle.sketch_frequencies.specs.Image.{IsImageOf, IsSpelledFor, Restores, RestoresBudget, limit_fault}
 use Rattle.sketch_frequencies.specs.Items.{Codec}
 use Rattle.sketch_frequencies.specs.Memory.{memory_bytes, owned_by}
@@ -29,13 +30,14 @@ module _ {T C : Type 0} (codec : Codec C) (content : T → C) where
   TellsFrequentLength s bytes result =
       TellsLength (λ image. IsSpelledFor codec content image s) bytes result ⊎ (result ≡ refusal_number NoMemory)
 
--- the sketch was restored from the image. It takes at most `max_bytes`, with the bytes that its items own
+-- the sketch was restored from the image under the key. It takes at most `max_bytes`, with the bytes that its items own
 pub record IsRestored
     {T C : Type 0} (item : RattleType) (eq : T → T → Bool) (codec : Codec C) (content : T → C) (image : List ℕ) (max_bytes : ℕ)
-    (s : FrequentState T)
+    (key : TableKey) (s : FrequentState T)
     : Type 0 where
   pub of_image : IsImageOf codec content image s
   pub sample : s.sample_size ≡ max_sample_size s.max_size
+  pub keyed : s.key ≡ key
   pub stands : Restores codec content eq image s
   pub budget : RestoresBudget codec content eq image s
   pub within : memory_bytes (table_bytes item s.size) (owned_by codec content s.counters) ≤ max_bytes

@@ -2,6 +2,7 @@
 ghost use Rattle.std.specs.Ordering.{int_eq};
 ghost use Rattle.std.specs.Prelude.{length, nat_eq, ◌≡◌, ◌≢◌, ◌≤◌};
 ghost use Rattle.std.specs.String.{string_bytes};
+ghost use Rattle.counter_table.specs.declared.table_key.TableKey.TheVariants.{Keyed};
 ghost use Rattle.sketch_frequencies.specs.Image.{early_fault_within, first_fault_within, prefix_bytes};
 ghost use Rattle.sketch_frequencies.specs.Items.{i64_codec, text_codec, u64_codec};
 ghost use Rattle.datasketches_c.specs.FrequentImages.{IsRestored, TellsFrequentLength, WritesFrequent, i64_row, u64_row};
@@ -113,7 +114,7 @@ pub extern "C" fn ds_frequent_items_string_deserialize_with_key(
     k1: u64,
 ) -> i32
     ensures done { OnDone result ((result ≡ ok) × HoldsFrequentStrings handle.new.value
-        (IsRestored string_row strings_eq text_codec (λ item. string_bytes item) image.now max_bytes)) }
+        (IsRestored string_row strings_eq text_codec (λ item. string_bytes item) image.now max_bytes (Keyed (k0, k1)))) }
     ensures refused { OnRefused result ((handle.new.value ≡ handle.old.value) × IsRefusedImage
         (early_fault_within string_row max_bytes text_codec image.now)
         (first_fault_within string_row max_bytes text_codec image.now) result) }
@@ -144,7 +145,7 @@ pub extern "C" fn ds_frequent_items_u64_deserialize_with_key(
     k1: u64,
 ) -> i32
     ensures done { OnDone result ((result ≡ ok) × HoldsFrequentU64 handle.new.value
-        (IsRestored u64_row nat_eq u64_codec (λ n. n) image.now max_bytes)) }
+        (IsRestored u64_row nat_eq u64_codec (λ n. n) image.now max_bytes (Keyed (k0, k1)))) }
     ensures refused { OnRefused result ((handle.new.value ≡ handle.old.value) × IsRefusedImage
         (early_fault_within u64_row max_bytes u64_codec image.now)
         (first_fault_within u64_row max_bytes u64_codec image.now) result) }
@@ -175,7 +176,7 @@ pub extern "C" fn ds_frequent_items_i64_deserialize_with_key(
     k1: u64,
 ) -> i32
     ensures done { OnDone result ((result ≡ ok) × HoldsFrequentI64 handle.new.value
-        (IsRestored i64_row int_eq i64_codec (λ n. n) image.now max_bytes)) }
+        (IsRestored i64_row int_eq i64_codec (λ n. n) image.now max_bytes (Keyed (k0, k1)))) }
     ensures refused { OnRefused result ((handle.new.value ≡ handle.old.value) × IsRefusedImage
         (early_fault_within i64_row max_bytes i64_codec image.now)
         (first_fault_within i64_row max_bytes i64_codec image.now) result) }
@@ -262,7 +263,7 @@ pub extern "C" fn ds_frequent_items_string_deserialize_prefix_with_key(
     used: &mut usize,
 ) -> i32
     ensures done { OnDone result ((result ≡ ok) × HoldsFrequentStrings handle.new.value
-        (IsRestored string_row strings_eq text_codec (λ item. string_bytes item) image.now max_bytes)) }
+        (IsRestored string_row strings_eq text_codec (λ item. string_bytes item) image.now max_bytes (Keyed (k0, k1)))) }
     ensures used { OnDone result ((used.new ≡ prefix_bytes text_codec image.now) × (used.new ≤ length image.now)) }
     ensures refused { OnRefused result ((handle.new.value ≡ handle.old.value) × IsRefusedImage
         (early_fault_within string_row max_bytes text_codec image.now)
@@ -289,7 +290,7 @@ pub extern "C" fn ds_frequent_items_u64_deserialize_prefix_with_key(
     used: &mut usize,
 ) -> i32
     ensures done { OnDone result ((result ≡ ok) × HoldsFrequentU64 handle.new.value
-        (IsRestored u64_row nat_eq u64_codec (λ n. n) image.now max_bytes)) }
+        (IsRestored u64_row nat_eq u64_codec (λ n. n) image.now max_bytes (Keyed (k0, k1)))) }
     ensures used { OnDone result ((used.new ≡ prefix_bytes u64_codec image.now) × (used.new ≤ length image.now)) }
     ensures refused { OnRefused result ((handle.new.value ≡ handle.old.value) × IsRefusedImage
         (early_fault_within u64_row max_bytes u64_codec image.now)
@@ -316,7 +317,7 @@ pub extern "C" fn ds_frequent_items_i64_deserialize_prefix_with_key(
     used: &mut usize,
 ) -> i32
     ensures done { OnDone result ((result ≡ ok) × HoldsFrequentI64 handle.new.value
-        (IsRestored i64_row int_eq i64_codec (λ n. n) image.now max_bytes)) }
+        (IsRestored i64_row int_eq i64_codec (λ n. n) image.now max_bytes (Keyed (k0, k1)))) }
     ensures used { OnDone result ((used.new ≡ prefix_bytes i64_codec image.now) × (used.new ≤ length image.now)) }
     ensures refused { OnRefused result ((handle.new.value ≡ handle.old.value) × IsRefusedImage
         (early_fault_within i64_row max_bytes i64_codec image.now)

@@ -1,6 +1,7 @@
 //! Calls on whole sketches of frequent items: create, merge, reset and describe.
 ghost use Rattle.std.specs.Ordering.{int_eq};
 ghost use Rattle.std.specs.Prelude.{None, Some, nat_eq, ◌≡◌};
+ghost use Rattle.counter_table.specs.declared.table_key.TableKey.TheVariants.{Keyed};
 ghost use Rattle.sketch_base.specs.Errors.{refusal_of};
 ghost use Rattle.sketch_frequencies.specs.History.FrequentHistory.{New};
 ghost use Rattle.sketch_frequencies.specs.Sizes.{sizes_fault};
@@ -39,9 +40,11 @@ pub extern "C" fn ds_frequent_items_string_new_with_key(
     k1: u64,
 ) -> i32
     ensures done { OnDone result ((result ≡ ok)
-        × (handle.new.value ≡ Some (FrequentStrings (empty_state max_map_size sample_size)))) }
-    ensures stands { OnDone result (StandsFor strings_eq (empty_state max_map_size sample_size) (New max_map_size sample_size)) }
-    ensures budget { OnDone result (KeepsTailBudget strings_eq (empty_state max_map_size sample_size) (New max_map_size sample_size)) }
+        × (handle.new.value ≡ Some (FrequentStrings (empty_state max_map_size sample_size (Keyed (k0, k1)))))) }
+    ensures stands { OnDone result (StandsFor strings_eq (empty_state max_map_size sample_size (Keyed (k0, k1)))
+        (New max_map_size sample_size)) }
+    ensures budget { OnDone result (KeepsTailBudget strings_eq (empty_state max_map_size sample_size (Keyed (k0, k1)))
+        (New max_map_size sample_size)) }
     ensures accepted { OnDone result (sizes_fault max_map_size sample_size ≡ None) }
     ensures refused { OnRefused result ((handle.new.value ≡ handle.old.value)
         × (result ≡ refusal_number (refusal_of (sizes_fault max_map_size sample_size)).fault)) }
@@ -78,9 +81,11 @@ pub extern "C" fn ds_frequent_items_u64_new_with_key(
     k1: u64,
 ) -> i32
     ensures done { OnDone result ((result ≡ ok)
-        × (handle.new.value ≡ Some (FrequentU64 (empty_state max_map_size sample_size)))) }
-    ensures stands { OnDone result (StandsFor nat_eq (empty_state max_map_size sample_size) (New max_map_size sample_size)) }
-    ensures budget { OnDone result (KeepsTailBudget nat_eq (empty_state max_map_size sample_size) (New max_map_size sample_size)) }
+        × (handle.new.value ≡ Some (FrequentU64 (empty_state max_map_size sample_size (Keyed (k0, k1)))))) }
+    ensures stands { OnDone result (StandsFor nat_eq (empty_state max_map_size sample_size (Keyed (k0, k1)))
+        (New max_map_size sample_size)) }
+    ensures budget { OnDone result (KeepsTailBudget nat_eq (empty_state max_map_size sample_size (Keyed (k0, k1)))
+        (New max_map_size sample_size)) }
     ensures accepted { OnDone result (sizes_fault max_map_size sample_size ≡ None) }
     ensures refused { OnRefused result ((handle.new.value ≡ handle.old.value)
         × (result ≡ refusal_number (refusal_of (sizes_fault max_map_size sample_size)).fault)) }
@@ -117,9 +122,11 @@ pub extern "C" fn ds_frequent_items_i64_new_with_key(
     k1: u64,
 ) -> i32
     ensures done { OnDone result ((result ≡ ok)
-        × (handle.new.value ≡ Some (FrequentI64 (empty_state max_map_size sample_size)))) }
-    ensures stands { OnDone result (StandsFor int_eq (empty_state max_map_size sample_size) (New max_map_size sample_size)) }
-    ensures budget { OnDone result (KeepsTailBudget int_eq (empty_state max_map_size sample_size) (New max_map_size sample_size)) }
+        × (handle.new.value ≡ Some (FrequentI64 (empty_state max_map_size sample_size (Keyed (k0, k1)))))) }
+    ensures stands { OnDone result (StandsFor int_eq (empty_state max_map_size sample_size (Keyed (k0, k1)))
+        (New max_map_size sample_size)) }
+    ensures budget { OnDone result (KeepsTailBudget int_eq (empty_state max_map_size sample_size (Keyed (k0, k1)))
+        (New max_map_size sample_size)) }
     ensures accepted { OnDone result (sizes_fault max_map_size sample_size ≡ None) }
     ensures refused { OnRefused result ((handle.new.value ≡ handle.old.value)
         × (result ≡ refusal_number (refusal_of (sizes_fault max_map_size sample_size)).fault)) }
