@@ -167,7 +167,7 @@ int32_t ds_memory_bytes(ds_sketch *handle, size_t *bytes);
  * shared sketch return DS_WRONG_KIND. `ds_free` drops the handle's share, and frees the sketch with the last one. --- */
 
 /* Makes the handle's sketch shared, so that `ds_share` takes it and no call changes it until `ds_thaw`. Does nothing to a shared
- * sketch. Returns DS_NO_SKETCH, or DS_NO_MEMORY. */
+ * sketch. Returns DS_NO_SKETCH, or DS_NO_MEMORY for a sketch that is not shared. */
 int32_t ds_freeze(ds_sketch *handle);
 
 /* Puts one more share of the sketch of `shared` into the handle, without a copy. The handle may then go to another thread. Returns
@@ -619,8 +619,8 @@ int32_t ds_frequent_items_i64_get_status(ds_sketch *handle, ds_frequent_items_st
 int32_t ds_frequent_items_string_get_status(ds_sketch *handle, ds_frequent_items_status *status);
 
 /* Writes the length in bytes of the sketch's image, in one pass over its table: 8 if the total is 0, and otherwise 32, and for each
- * counter 16 for a number, or 12 and the bytes of a string. Returns DS_ITEM_TOO_LONG if a string has 2^32 bytes or more, and
- * DS_NO_MEMORY if the length is too large for `size_t`. Does not allocate. */
+ * counter 16 for a number, or 12 and the bytes of a string. Returns DS_ITEM_TOO_LONG if a string has 2^32 bytes or more. Does not
+ * allocate. */
 int32_t ds_frequent_items_u64_serialized_bytes(ds_sketch *handle, size_t *bytes);
 int32_t ds_frequent_items_i64_serialized_bytes(ds_sketch *handle, size_t *bytes);
 int32_t ds_frequent_items_string_serialized_bytes(ds_sketch *handle, size_t *bytes);

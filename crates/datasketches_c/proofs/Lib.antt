@@ -14,6 +14,7 @@ pub mod Reading
 pub mod ReadingCounts
 pub mod Refusals
 pub mod Reports
+pub mod ShortItems
 pub mod StringLemmas
 pub mod StringReports
 pub mod StringRows

@@ -1,6 +1,6 @@
 -- Images that are read, and refusals to write one.
 use Rattle.std.proofs.Common.{◌≡◌, ℕ, ◌*◌, ◌^◌, ◌≤◌, Bool, true, false, List, length, Option, Some, None, ℤ, pos, negsuc, cond, ap, sym, subst, inl, inr, refl}
-use Rattle.std.specs.Prelude.{nat_lt, Result, Ok, Err, MatchResult, IfOk, IfErr, IsOk}
+use Rattle.std.specs.Prelude.{nat_lt, Any, Result, Ok, Err, MatchResult, IfOk, IfErr, IsOk}
 use Rattle.std.specs.Global.{Global}
 use Rattle.std.specs.Str.{is_utf8}
 use Rattle.std.specs.String.{string_bytes}
@@ -10,14 +10,14 @@ use Rattle.std.proofs.lemmas.Str.{IsUtf8-string_bytes, is_utf8-from_IsUtf8}
 use Rattle.sketch_base.specs.Checks.{or_else, IsImageRefusal}
 use Rattle.sketch_base.specs.Errors.{ErrorValue}
 use Rattle.sketch_base.specs.declared.fault.Fault.{Fault}
-use Rattle.sketch_base.specs.declared.fault.Fault.TheVariants.{ItemTooLong, NoMemory, TableTooLarge}
+use Rattle.sketch_base.specs.declared.fault.Fault.TheVariants.{BadItem, ItemTooLong, NoMemory, TableTooLarge}
 use Rattle.sketch_bloom.specs.Image.{IsImage, early_fault, early_fault_within, limit_fault, num_words_at}
 use Rattle.sketch_bloom.specs.State.{FilterState}
 use Rattle.sketch_frequencies.specs.Image as frequent
 use Rattle.sketch_frequencies.specs.Items.{Codec, text_codec, text_encoding}
 use Rattle.sketch_frequencies.specs.State.{FrequentState}
 use denote.RattleType.{RattleType}
-use Rattle.datasketches_c.specs.FrequentStringImages.{TellsStringsLength, WritesFrequentStrings}
+use Rattle.datasketches_c.specs.FrequentImages.{IsOfNumbers, RejectsItem}
 use Rattle.datasketches_c.specs.Images.{IsRefusedImage}
 use Rattle.datasketches_c.specs.Numbers.{OnRefused, refusal_number}
 
@@ -44,21 +44,20 @@ too_long string fault none =
       | inr long ↦ let over : nat_lt (length bytes) (2 ^ 32) ≡ false = le-ltb _ _ long in let is : fault ≡ ItemTooLong = cc in (is, long)
     ]
 
--- a refusal to write an image of strings, by its number
-pub strings_not_written : (s : FrequentState (String Global)) (old new : List ℕ) (written : ℕ) (e : ErrorValue)
-    → frequent.IsImageWritingRefusal text_codec (λ (item : String Global). string_bytes item) s.counters e → WritesFrequentStrings s old new written (refusal_number e.fault)
-strings_not_written s old new written e (inl is) = inl (inr (inr (ap (λ (x : ErrorValue). refusal_number x.fault) is)))
-strings_not_written s old new written e (inr (is, (k, counter, there, at, none))) =
-    let why = too_long counter.0 e.fault none in
-    inr (ap refusal_number why.0, (k, counter, there, at, why.1))
+-- a number that cannot be written is outside the range of its type
+pub number_rejected : {T C : Type 0} (codec : Codec C) (content : T → C) (s : FrequentState T) (e : ErrorValue) → IsOfNumbers codec
+    → frequent.IsItemFault codec content s.counters e → RejectsItem codec content s (refusal_number e.fault)
+number_rejected codec content s e numbers (is, (k, counter, there, at, none)) =
+    let bad : e.fault ≡ BadItem = numbers.fault (content counter.0) e.fault none in
+    (ap refusal_number bad, (k, counter, there, at, subst (λ (fault : Fault). codec.encoding (content counter.0) ≡ Err fault) bad none))
 
--- a refusal to count its bytes
-pub strings_not_counted : (s : FrequentState (String Global)) (bytes : ℕ) (e : ErrorValue)
-    → frequent.IsImageWritingRefusal text_codec (λ (item : String Global). string_bytes item) s.counters e → TellsStringsLength s bytes (refusal_number e.fault)
-strings_not_counted s bytes e (inl is) = inl (inr (ap (λ (x : ErrorValue). refusal_number x.fault) is))
-strings_not_counted s bytes e (inr (is, (k, counter, there, at, none))) =
+-- a string that cannot be written is too long
+pub string_rejected : (s : FrequentState (String Global)) (e : ErrorValue)
+    → frequent.IsItemFault text_codec (λ (item : String Global). string_bytes item) s.counters e
+    → (refusal_number e.fault ≡ refusal_number ItemTooLong) × Any (λ (counter : String Global × ℕ). 2 ^ 32 ≤ length (string_bytes counter.0)) s.counters
+string_rejected s e (is, (k, counter, there, at, none)) =
     let why = too_long counter.0 e.fault none in
-    inr (ap refusal_number why.0, (k, counter, there, at, why.1))
+    (ap refusal_number why.0, (k, counter, there, at, why.1))
 
 -- a refusal to read one
 refused_to_read : (before whole : Option Fault) (e : ErrorValue) → IsImageRefusal before whole e

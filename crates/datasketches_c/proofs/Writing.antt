@@ -22,7 +22,7 @@ module _ (Spelled : List ℕ → Type 0) (size written : ℕ) (old new : List �
   -- an image for which there was no room
   pub front_short : (size ≤ length old → ⊥) → (image : List ℕ) × Spelled image → ((image : List ℕ) → Spelled image → length image ≡ written) → WritesSizedImage Spelled size old new written no_room
   front_short short some each = elim (cases_lt (length old) size) as (λ _. WritesSizedImage Spelled size old new written no_room) [
-    | inl few ↦ (inr (inl (refl, omega (arith, few, counted), (some.0, some.1, each some.0 some.1))), record { counted = counted; fits = λ fits. absurd (short fits); short = λ _. refl })
+    | inl few ↦ (inr (refl, omega (arith, few, counted), (some.0, some.1, each some.0 some.1)), record { counted = counted; fits = λ fits. absurd (short fits); short = λ _. refl })
     | inr fits ↦ absurd (short fits)
   ]
 

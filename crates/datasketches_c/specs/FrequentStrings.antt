@@ -1,5 +1,5 @@
 -- Updates of frequent items sketches of strings. An update allocates only for a string that is not tracked.
-use Rattle.std.specs.Prelude.{◌≡◌, ◌⊎◌, ℕ, ℤ, Bool, false, List, sum}
+use Rattle.std.specs.Prelude.{◌≡◌, ◌⊎◌, ℕ, ℤ, ◌<◌, Bool, false, List, sum}
 use Rattle.std.specs.Global.{Global}
 use Rattle.std.specs.String.{string_bytes, string_eq}
 use Rattle.std.specs.declared.string.String.{String}
@@ -16,11 +16,13 @@ use Rattle.datasketches_c.specs.Numbers.{OnDone, OnRefused, ok, refusal_number}
 abbrev pub strings_eq : String Global → String Global → Bool
 strings_eq = string_eq
 
--- the result is `NoMemory`, and the sketch is unchanged. The string is not tracked, and the total has room for the weight
+-- the result is `NoMemory`, and the sketch is unchanged. The weight is above 0, the string is not tracked, and the total has room
+-- for the weight
 pub record RunsOutOfMemory (old : FrequentState (String Global)) (string : List ℕ) (weight : ℕ) (new : FrequentState (String Global))
     (result : ℤ) : Type 0 where
   pub number : result ≡ refusal_number NoMemory
   pub unchanged : new ≡ old
+  pub some : 0 < weight
   pub untracked : is_tracked_by_key (names_string string) old.counters ≡ false
   pub room : TotalHasRoom old weight
 

@@ -5,12 +5,11 @@ use Rattle.sketch_base.specs.declared.fault.Fault.TheVariants.{NoMemory}
 use Rattle.datasketches_c.specs.Numbers.{ok, no_room, refusal_number}
 
 -- the image is at the front of the buffer, and the rest of the buffer is unchanged. Or the result is `no_room`, and `written` is
--- the length of the image, which exceeds the buffer. Or it is `NoMemory`
+-- the length of the image, which exceeds the buffer
 abbrev pub WritesImage : (List ℕ → Type 0) → (old new : List ℕ) → ℕ → ℤ → Type 0
 WritesImage IsImage old new written result =
     ((result ≡ ok) × (written ≤ length old) × IsImage (take written new) × (drop written new ≡ drop written old))
-    ⊎ (((result ≡ no_room) × (length old < written) × ((image : List ℕ) × IsImage image × (length image ≡ written)))
-    ⊎ (result ≡ refusal_number NoMemory))
+    ⊎ ((result ≡ no_room) × (length old < written) × ((image : List ℕ) × IsImage image × (length image ≡ written)))
 
 -- the result is `ok` if a buffer of `room` bytes has room for the image, whose length is `size`, and `no_room` otherwise. `written` is
 -- the length

@@ -34,17 +34,24 @@ abbrev pub IsShareOf : Option AnySketch → Option AnySketch → Type 0
 IsShareOf (Some held) (Some share) = (unshared share ≡ unshared held) × (is_shared share ≡ true)
 IsShareOf held share = ⊥
 
+-- the sketch is shared
+abbrev pub HoldsShared : Option AnySketch → Type 0
+HoldsShared (Some held) = is_shared held ≡ true
+HoldsShared None = ⊥
+
 -- new holds the sketch of old for itself
 abbrev pub IsOwnOf : Option AnySketch → Option AnySketch → Type 0
 IsOwnOf (Some held) (Some own) = (unshared own ≡ unshared held) × (is_shared own ≡ false)
 IsOwnOf held own = ⊥
 
--- why a sketch is not frozen: there is none, a call is moving it, or memory ran out
+-- why a sketch is not frozen: there is none, a call is moving it, or there was no memory for one that is not shared yet
 abbrev pub IsFreezeRefusal : Option AnySketch → ℤ → Type 0
 IsFreezeRefusal None result = result ≡ no_sketch
-IsFreezeRefusal (Some held) result = ((result ≡ wrong_kind) × (held ≡ Moved)) ⊎ (result ≡ refusal_number NoMemory)
+IsFreezeRefusal (Some held) result =
+    ((result ≡ wrong_kind) × (held ≡ Moved)) ⊎ ((result ≡ refusal_number NoMemory) × (is_shared held ≡ false))
 
--- why a sketch is not shared: there is none, it is not frozen, or memory ran out
+-- why a sketch is not shared: there is none, it is not frozen, or there was no memory for one more handle
 abbrev pub IsShareRefusal : Option AnySketch → ℤ → Type 0
 IsShareRefusal None result = result ≡ no_sketch
-IsShareRefusal (Some held) result = ((result ≡ wrong_kind) × (is_shared held ≡ false)) ⊎ (result ≡ refusal_number NoMemory)
+IsShareRefusal (Some held) result =
+    ((result ≡ wrong_kind) × (is_shared held ≡ false)) ⊎ ((result ≡ refusal_number NoMemory) × (is_shared held ≡ true))

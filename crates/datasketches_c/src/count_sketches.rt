@@ -2,7 +2,7 @@
 ghost use Rattle.std.specs.Prelude.{None, Some, pos, length, ◌<◌, ◌≡◌, ◌≢◌, ◌≤◌};
 ghost use Rattle.sketch_base.specs.Errors.{refusal_of};
 ghost use Rattle.sketch_countmin.specs.History.CountHistory.{Decay, Halve, New};
-ghost use Rattle.sketch_countmin.specs.Image.{IsSpelled, image_bytes, prefix_bytes, early_fault_within, first_fault_within};
+ghost use Rattle.sketch_countmin.specs.Image.{IsSpelled, ReadsFront, image_bytes, prefix_bytes, early_fault_within, first_fault_within};
 ghost use Rattle.sketch_countmin.specs.Shapes.{shape_fault};
 ghost use Rattle.sketch_countmin.specs.Stands.{Extends, StandsFor};
 ghost use Rattle.sketch_countmin.specs.State.{decayed_state, empty_state, halved_state};
@@ -365,7 +365,8 @@ pub extern "C" fn ds_count_min_i64_deserialize(
 }
 
 /// Reads a sketch from the image at the front of `image`, as `ds_count_min_u64_deserialize` does, and writes the number of
-/// bytes that the image takes to `used`. What follows is not read.
+/// bytes that the image takes to `used`. What follows is not read: the bytes that a sketch of this seed wrote are read as that
+/// sketch, to their end.
 ///
 /// Returns the errors of `ds_count_min_u64_deserialize`. Then nothing changes.
 #[unsafe(no_mangle)]
@@ -380,6 +381,8 @@ pub extern "C" fn ds_count_min_u64_deserialize_prefix(
     ensures done { OnDone result ((result ≡ ok) × HoldsCountU64 handle.new.value
         (IsRestored (pos 0) max_u64 seed image.now max_bytes)) }
     ensures used { OnDone result ((used.new ≡ prefix_bytes image.now) × (used.new ≤ length image.now)) }
+    ensures front { OnDone result (HoldsCountU64 handle.new.value
+        (λ s. ReadsFront (pos 0) max_u64 seed image.now s used.new)) }
     ensures refused { OnRefused result ((handle.new.value ≡ handle.old.value) × IsRefusedImage
         (early_fault_within 8 max_bytes seed image.now)
         (first_fault_within (pos 0) max_u64 8 max_bytes seed image.now) result) }
@@ -390,7 +393,8 @@ pub extern "C" fn ds_count_min_u64_deserialize_prefix(
 }
 
 /// Reads a sketch from the image at the front of `image`, as `ds_count_min_i64_deserialize` does, and writes the number of
-/// bytes that the image takes to `used`. What follows is not read.
+/// bytes that the image takes to `used`. What follows is not read: the bytes that a sketch of this seed wrote are read as that
+/// sketch, to their end.
 ///
 /// Returns the errors of `ds_count_min_i64_deserialize`. Then nothing changes.
 #[unsafe(no_mangle)]
@@ -405,6 +409,8 @@ pub extern "C" fn ds_count_min_i64_deserialize_prefix(
     ensures done { OnDone result ((result ≡ ok) × HoldsCountI64 handle.new.value
         (IsRestored min_i64 max_i64 seed image.now max_bytes)) }
     ensures used { OnDone result ((used.new ≡ prefix_bytes image.now) × (used.new ≤ length image.now)) }
+    ensures front { OnDone result (HoldsCountI64 handle.new.value
+        (λ s. ReadsFront min_i64 max_i64 seed image.now s used.new)) }
     ensures refused { OnRefused result ((handle.new.value ≡ handle.old.value) × IsRefusedImage
         (early_fault_within 8 max_bytes seed image.now)
         (first_fault_within min_i64 max_i64 8 max_bytes seed image.now) result) }

@@ -8,7 +8,7 @@ ghost use Rattle.sketch_base.specs.Hashes.{fed_bytes};
 ghost use Rattle.sketch_bloom.specs.Building.{request_fault, words_for};
 ghost use Rattle.sketch_bloom.specs.History.{all_inserted_after};
 ghost use Rattle.sketch_bloom.specs.History.BloomHistory.{Difference, Insert, Intersection, New, Reset, Union};
-ghost use Rattle.sketch_bloom.specs.Image.{IsSpelled, image_bytes, prefix_bytes, early_fault_within, first_fault_within};
+ghost use Rattle.sketch_bloom.specs.Image.{IsSpelled, ReadsFront, image_bytes, prefix_bytes, early_fault_within, first_fault_within};
 ghost use Rattle.sketch_bloom.specs.Stands.{Extends, ExtendsBoth, StandsFor};
 ghost use Rattle.sketch_bloom.specs.State.{empty_state, contains_item, inserted, all_inserted, IsCompatible, united, intersected, subtracted, capacity_of, cleared};
 ghost use Rattle.datasketches_c.specs.Images.{WritesImage, WritesSizedImage, TellsRoom, IsRefusedImage};
@@ -554,7 +554,7 @@ pub extern "C" fn ds_bloom_deserialize(
 }
 
 /// Reads a filter from the image at the front of `image`, as `ds_bloom_deserialize` does, and writes the number of bytes
-/// that the image takes to `used`. What follows is not read.
+/// that the image takes to `used`. What follows is not read: the bytes that a filter wrote are read as that filter, to their end.
 ///
 /// Returns the errors of `ds_bloom_deserialize`. Then nothing changes.
 #[unsafe(no_mangle)]
@@ -567,6 +567,7 @@ pub extern "C" fn ds_bloom_deserialize_prefix(
 ) -> i32
     ensures done { OnDone result ((result ≡ ok) × HoldsFilter handle.new.value (IsRestored image.now max_bytes)) }
     ensures used { OnDone result ((used.new ≡ prefix_bytes image.now) × (used.new ≤ length image.now)) }
+    ensures front { OnDone result (HoldsFilter handle.new.value (λ s. ReadsFront image.now s used.new)) }
     ensures refused { OnRefused result ((handle.new.value ≡ handle.old.value) × IsRefusedImage
         (early_fault_within max_bytes image.now) (first_fault_within max_bytes image.now) result) }
     ensures untouched { OnRefused result (used.new ≡ used.old) }

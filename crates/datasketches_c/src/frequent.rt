@@ -1,14 +1,15 @@
 //! Calls on sketches of frequent items in handles, for any type of items.
 ghost use Rattle.std.specs.Ordering.{int_eq};
-ghost use Rattle.std.specs.Prelude.{◌≡◌, ◌≢◌, ◌⊎◌, ℕ, ℤ, IfOk, IfErr, OnErr, IsTrue, length, nat_eq};
-ghost use Rattle.sketch_frequencies.specs.Image.{IsImageWritingRefusal};
-ghost use Rattle.sketch_frequencies.specs.Items.{i64_codec, u64_codec};
+ghost use Rattle.std.specs.Prelude.{◌≡◌, ◌≢◌, ◌⊎◌, ◌^◌, ℕ, ℤ, IfOk, IfErr, OnErr, IsTrue, length, nat_eq};
+ghost use Rattle.sketch_frequencies.specs.Image.{IsItemFault, IsSpelledFor};
+ghost use Rattle.sketch_frequencies.specs.Items.{IsWithin, i64_codec, u64_codec};
 ghost use Rattle.datasketches_c.specs.FrequentBatches.{AreBoundsOfAll};
 ghost use Rattle.datasketches_c.specs.FrequentCalls.{Updates, UpdatesMany, WeighsMany, MergesInto, Empties, Resamples, AreBounds, AreNumbers};
-ghost use Rattle.datasketches_c.specs.FrequentImages.{TellsFrequentLength, WritesFrequent};
+ghost use Rattle.datasketches_c.specs.FrequentImages.{IsOfNumbers, TellsNumbersLength, WritesNumbers};
 ghost use Rattle.datasketches_c.specs.FrequentRows.{LeavesRows, WritesRows, error_type};
 ghost use Rattle.datasketches_c.specs.FrequentStringImages.{TellsStringsLength, WritesFrequentStrings};
 ghost use Rattle.datasketches_c.specs.FrequentStrings.{strings_eq};
+ghost use Rattle.datasketches_c.specs.Images.{WritesImage};
 ghost use Rattle.datasketches_c.specs.Kinds.{OnKind, HoldsKind, WritesDown, WritesDownEach};
 ghost use Rattle.datasketches_c.specs.Numbers.{OnRefused, ok, no_room, refusal_number};
 ghost use Rattle.datasketches_c.specs.Sharing.{reads};
@@ -330,10 +331,11 @@ fn write_image<T: FrequentItemValue + Drop>(
     out: &mut [u8],
     written: &mut usize,
 ) -> Result<i32, Error>
-    ensures image { IfOk result (WritesFrequent T.codec T.content sketch.now out.old out.new written.new) }
+    ensures image { IfOk result
+        (WritesImage (λ image. IsSpelledFor T.codec T.content image sketch.now) out.old out.new written.new) }
     ensures no_room { IfOk result (λ z. OnRefused z (out.new ≡ out.old)) }
     ensures counted { IfOk result (λ z. (z ≡ ok) ⊎ (z ≡ no_room)) }
-    ensures err { IfErr result (IsImageWritingRefusal T.codec T.content sketch.now.counters) }
+    ensures err { IsWithin T.codec (2 ^ 33) → IfErr result (IsItemFault T.codec T.content sketch.now.counters) }
     ensures untouched { OnErr result (out.new ≡ out.old) }
     ensures uncounted { OnErr result (written.new ≡ written.old) }
 {
@@ -349,25 +351,25 @@ fn write_image<T: FrequentItemValue + Drop>(
     }
 }
 
-/// Writes the image of a sketch of numbers to the front of the caller's buffer. Each number can be written, so the only
-/// error of the library is `NoMemory`.
+/// Writes the image of a sketch of numbers to the front of the caller's buffer. The library rejects no number of the item type.
 fn write_numbers<T: FrequentItemValue + Drop>(
     sketch: &FrequentItemsSketch<T>,
     out: &mut [u8],
     written: &mut usize,
 ) -> i32
-    ensures image { WritesFrequent T.codec T.content sketch.now out.old out.new written.new result }
+    ensures image { IsOfNumbers T.codec →
+        WritesNumbers T.codec T.content sketch.now out.old out.new written.new result }
     ensures untouched { OnRefused result (out.new ≡ out.old) }
     ensures uncounted { result ≢ ok → result ≢ no_room → written.new ≡ written.old }
 {
     match write_image(sketch, out, written) {
         Ok(result) => result,
-        Err(_) => refusal_number(Fault::NoMemory),
+        Err(error) => refusal_number(error.fault()),
     }
 }
 
 impl HasImage for FrequentItemsSketch<i64> {
-    ghost writes = { WritesFrequent i64_codec (λ n. n) };
+    ghost writes = { WritesNumbers i64_codec (λ n. n) };
 
     fn write_to(&self, out: &mut [u8], written: &mut usize) -> i32 {
         write_numbers(self, out, written)
@@ -375,7 +377,7 @@ impl HasImage for FrequentItemsSketch<i64> {
 }
 
 impl HasImage for FrequentItemsSketch<u64> {
-    ghost writes = { WritesFrequent u64_codec (λ n. n) };
+    ghost writes = { WritesNumbers u64_codec (λ n. n) };
 
     fn write_to(&self, out: &mut [u8], written: &mut usize) -> i32 {
         write_numbers(self, out, written)
@@ -403,13 +405,12 @@ pub(crate) trait HasImageLength: Kind {
         ensures untouched { OnRefused result (bytes.new ≡ bytes.old) };
 }
 
-/// Writes the length of the image of a sketch of numbers. Each number can be written, so the only error of the library
-/// is `NoMemory`.
+/// Writes the length of the image of a sketch of numbers. The library rejects no number of the item type.
 fn tell_length<T: FrequentItemValue + Drop>(
     sketch: &FrequentItemsSketch<T>,
     bytes: &mut usize,
 ) -> i32
-    ensures length { TellsFrequentLength T.codec T.content sketch.now bytes.new result }
+    ensures length { IsOfNumbers T.codec → TellsNumbersLength T.codec T.content sketch.now bytes.new result }
     ensures untouched { OnRefused result (bytes.new ≡ bytes.old) }
 {
     match sketch.serialized_size() {
@@ -417,12 +418,12 @@ fn tell_length<T: FrequentItemValue + Drop>(
             *bytes = length;
             OK
         }
-        Err(_) => refusal_number(Fault::NoMemory),
+        Err(error) => refusal_number(error.fault()),
     }
 }
 
 impl HasImageLength for FrequentItemsSketch<i64> {
-    ghost tells = { TellsFrequentLength i64_codec (λ n. n) };
+    ghost tells = { TellsNumbersLength i64_codec (λ n. n) };
 
     fn length_to(&self, bytes: &mut usize) -> i32 {
         tell_length(self, bytes)
@@ -430,7 +431,7 @@ impl HasImageLength for FrequentItemsSketch<i64> {
 }
 
 impl HasImageLength for FrequentItemsSketch<u64> {
-    ghost tells = { TellsFrequentLength u64_codec (λ n. n) };
+    ghost tells = { TellsNumbersLength u64_codec (λ n. n) };
 
     fn length_to(&self, bytes: &mut usize) -> i32 {
         tell_length(self, bytes)

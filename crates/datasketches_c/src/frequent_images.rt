@@ -3,9 +3,9 @@ ghost use Rattle.std.specs.Ordering.{int_eq};
 ghost use Rattle.std.specs.Prelude.{length, nat_eq, ◌≡◌, ◌≢◌, ◌≤◌};
 ghost use Rattle.std.specs.String.{string_bytes};
 ghost use Rattle.counter_table.specs.declared.table_key.TableKey.TheVariants.{Keyed};
-ghost use Rattle.sketch_frequencies.specs.Image.{early_fault_within, first_fault_within, prefix_bytes};
+ghost use Rattle.sketch_frequencies.specs.Image.{ReadsFront, early_fault_within, first_fault_within, prefix_bytes};
 ghost use Rattle.sketch_frequencies.specs.Items.{i64_codec, text_codec, u64_codec};
-ghost use Rattle.datasketches_c.specs.FrequentImages.{IsRestored, TellsFrequentLength, WritesFrequent, i64_row, u64_row};
+ghost use Rattle.datasketches_c.specs.FrequentImages.{IsRestored, TellsNumbersLength, WritesNumbers, i64_row, u64_row};
 ghost use Rattle.datasketches_c.specs.FrequentStringImages.{TellsStringsLength, WritesFrequentStrings, string_row};
 ghost use Rattle.datasketches_c.specs.FrequentStrings.{strings_eq};
 ghost use Rattle.datasketches_c.specs.Images.{IsRefusedImage};
@@ -25,7 +25,7 @@ use std::alloc::Global;
 /// Returns the first of these errors, and then changes nothing:
 ///
 /// - `NO_SKETCH` if the handle has no sketch, and `WRONG_KIND` if its sketch is of another kind.
-/// - `NoMemory` if an allocation fails, or `ItemTooLong` if a string has 2^32 bytes or more.
+/// - `ItemTooLong` if a string has 2^32 bytes or more.
 ///
 /// Returns `NO_ROOM` if the image is longer than `out`. Then `written` is the image's length, and `out` is unchanged.
 #[unsafe(no_mangle)]
@@ -50,7 +50,6 @@ pub extern "C" fn ds_frequent_items_string_serialize(
 /// Returns the first of these errors, and then changes nothing:
 ///
 /// - `NO_SKETCH` if the handle has no sketch, and `WRONG_KIND` if its sketch is of another kind.
-/// - `NoMemory` if an allocation fails.
 ///
 /// Returns `NO_ROOM` if the image is longer than `out`. Then `written` is the image's length, and `out` is unchanged.
 #[unsafe(no_mangle)]
@@ -64,7 +63,7 @@ pub extern "C" fn ds_frequent_items_u64_serialize(
     ensures untouched { OnRefused result (out.new ≡ out.old) }
     ensures uncounted { result ≢ ok → result ≢ no_room → written.new ≡ written.old }
     ensures image { ReadsFrequentU64 handle.old.value handle.new.value result (λ s.
-        WritesFrequent u64_codec (λ n. n) s out.old out.new written.new result) }
+        WritesNumbers u64_codec (λ n. n) s out.old out.new written.new result) }
 {
     to_bytes::<FrequentItemsSketch<u64>>(alloc, handle, out, written)
 }
@@ -75,7 +74,6 @@ pub extern "C" fn ds_frequent_items_u64_serialize(
 /// Returns the first of these errors, and then changes nothing:
 ///
 /// - `NO_SKETCH` if the handle has no sketch, and `WRONG_KIND` if its sketch is of another kind.
-/// - `NoMemory` if an allocation fails.
 ///
 /// Returns `NO_ROOM` if the image is longer than `out`. Then `written` is the image's length, and `out` is unchanged.
 #[unsafe(no_mangle)]
@@ -89,7 +87,7 @@ pub extern "C" fn ds_frequent_items_i64_serialize(
     ensures untouched { OnRefused result (out.new ≡ out.old) }
     ensures uncounted { result ≢ ok → result ≢ no_room → written.new ≡ written.old }
     ensures image { ReadsFrequentI64 handle.old.value handle.new.value result (λ s.
-        WritesFrequent i64_codec (λ n. n) s out.old out.new written.new result) }
+        WritesNumbers i64_codec (λ n. n) s out.old out.new written.new result) }
 {
     to_bytes::<FrequentItemsSketch<i64>>(alloc, handle, out, written)
 }
@@ -193,7 +191,7 @@ pub extern "C" fn ds_frequent_items_i64_deserialize_with_key(
 /// Returns the first of these errors, and then changes nothing:
 ///
 /// - `NO_SKETCH` if the handle has no sketch, and `WRONG_KIND` if its sketch is of another kind.
-/// - `NoMemory` if the length exceeds 2^64 - 1 bytes, or `ItemTooLong` if a string has 2^32 bytes or more.
+/// - `ItemTooLong` if a string has 2^32 bytes or more.
 #[unsafe(no_mangle)]
 pub extern "C" fn ds_frequent_items_string_serialized_bytes(
     alloc: Global,
@@ -210,10 +208,7 @@ pub extern "C" fn ds_frequent_items_string_serialized_bytes(
 
 /// Writes the length in bytes of the sketch's image, in one pass over its table. Does not allocate.
 ///
-/// Returns the first of these errors, and then changes nothing:
-///
-/// - `NO_SKETCH` if the handle has no sketch, and `WRONG_KIND` if its sketch is of another kind.
-/// - `NoMemory` if the length exceeds 2^64 - 1 bytes.
+/// Returns `NO_SKETCH` if the handle has no sketch, and `WRONG_KIND` if its sketch is of another kind. Then nothing changes.
 #[unsafe(no_mangle)]
 pub extern "C" fn ds_frequent_items_u64_serialized_bytes(
     alloc: Global,
@@ -223,17 +218,14 @@ pub extern "C" fn ds_frequent_items_u64_serialized_bytes(
     ensures kept { handle.new.value ≡ handle.old.value }
     ensures untouched { OnRefused result (bytes.new ≡ bytes.old) }
     ensures length { ReadsFrequentU64 handle.old.value handle.new.value result (λ s.
-        TellsFrequentLength u64_codec (λ n. n) s bytes.new result) }
+        TellsNumbersLength u64_codec (λ n. n) s bytes.new result) }
 {
     frequent::serialized_bytes::<FrequentItemsSketch<u64>>(alloc, handle, bytes)
 }
 
 /// Writes the length in bytes of the sketch's image, in one pass over its table. Does not allocate.
 ///
-/// Returns the first of these errors, and then changes nothing:
-///
-/// - `NO_SKETCH` if the handle has no sketch, and `WRONG_KIND` if its sketch is of another kind.
-/// - `NoMemory` if the length exceeds 2^64 - 1 bytes.
+/// Returns `NO_SKETCH` if the handle has no sketch, and `WRONG_KIND` if its sketch is of another kind. Then nothing changes.
 #[unsafe(no_mangle)]
 pub extern "C" fn ds_frequent_items_i64_serialized_bytes(
     alloc: Global,
@@ -243,13 +235,14 @@ pub extern "C" fn ds_frequent_items_i64_serialized_bytes(
     ensures kept { handle.new.value ≡ handle.old.value }
     ensures untouched { OnRefused result (bytes.new ≡ bytes.old) }
     ensures length { ReadsFrequentI64 handle.old.value handle.new.value result (λ s.
-        TellsFrequentLength i64_codec (λ n. n) s bytes.new result) }
+        TellsNumbersLength i64_codec (λ n. n) s bytes.new result) }
 {
     frequent::serialized_bytes::<FrequentItemsSketch<i64>>(alloc, handle, bytes)
 }
 
 /// Reads a sketch from the image at the front of `image`, as `ds_frequent_items_string_deserialize_with_key` does, and
-/// writes the number of bytes that the image takes to `used`. What follows is not read.
+/// writes the number of bytes that the image takes to `used`. What follows is not read: the bytes that a sketch wrote are read as
+/// its image, to their end.
 ///
 /// Returns the errors of `ds_frequent_items_string_deserialize_with_key`. Then nothing changes.
 #[unsafe(no_mangle)]
@@ -265,6 +258,8 @@ pub extern "C" fn ds_frequent_items_string_deserialize_prefix_with_key(
     ensures done { OnDone result ((result ≡ ok) × HoldsFrequentStrings handle.new.value
         (IsRestored string_row strings_eq text_codec (λ item. string_bytes item) image.now max_bytes (Keyed (k0, k1)))) }
     ensures used { OnDone result ((used.new ≡ prefix_bytes text_codec image.now) × (used.new ≤ length image.now)) }
+    ensures front { OnDone result (HoldsFrequentStrings handle.new.value
+        (λ s. ReadsFront text_codec (λ item. string_bytes item) image.now s used.new)) }
     ensures refused { OnRefused result ((handle.new.value ≡ handle.old.value) × IsRefusedImage
         (early_fault_within string_row max_bytes text_codec image.now)
         (first_fault_within string_row max_bytes text_codec image.now) result) }
@@ -276,7 +271,8 @@ pub extern "C" fn ds_frequent_items_string_deserialize_prefix_with_key(
 }
 
 /// Reads a sketch from the image at the front of `image`, as `ds_frequent_items_u64_deserialize_with_key` does, and
-/// writes the number of bytes that the image takes to `used`. What follows is not read.
+/// writes the number of bytes that the image takes to `used`. What follows is not read: the bytes that a sketch wrote are read as
+/// its image, to their end.
 ///
 /// Returns the errors of `ds_frequent_items_u64_deserialize_with_key`. Then nothing changes.
 #[unsafe(no_mangle)]
@@ -292,6 +288,8 @@ pub extern "C" fn ds_frequent_items_u64_deserialize_prefix_with_key(
     ensures done { OnDone result ((result ≡ ok) × HoldsFrequentU64 handle.new.value
         (IsRestored u64_row nat_eq u64_codec (λ n. n) image.now max_bytes (Keyed (k0, k1)))) }
     ensures used { OnDone result ((used.new ≡ prefix_bytes u64_codec image.now) × (used.new ≤ length image.now)) }
+    ensures front { OnDone result (HoldsFrequentU64 handle.new.value
+        (λ s. ReadsFront u64_codec (λ n. n) image.now s used.new)) }
     ensures refused { OnRefused result ((handle.new.value ≡ handle.old.value) × IsRefusedImage
         (early_fault_within u64_row max_bytes u64_codec image.now)
         (first_fault_within u64_row max_bytes u64_codec image.now) result) }
@@ -303,7 +301,8 @@ pub extern "C" fn ds_frequent_items_u64_deserialize_prefix_with_key(
 }
 
 /// Reads a sketch from the image at the front of `image`, as `ds_frequent_items_i64_deserialize_with_key` does, and
-/// writes the number of bytes that the image takes to `used`. What follows is not read.
+/// writes the number of bytes that the image takes to `used`. What follows is not read: the bytes that a sketch wrote are read as
+/// its image, to their end.
 ///
 /// Returns the errors of `ds_frequent_items_i64_deserialize_with_key`. Then nothing changes.
 #[unsafe(no_mangle)]
@@ -319,6 +318,8 @@ pub extern "C" fn ds_frequent_items_i64_deserialize_prefix_with_key(
     ensures done { OnDone result ((result ≡ ok) × HoldsFrequentI64 handle.new.value
         (IsRestored i64_row int_eq i64_codec (λ n. n) image.now max_bytes (Keyed (k0, k1)))) }
     ensures used { OnDone result ((used.new ≡ prefix_bytes i64_codec image.now) × (used.new ≤ length image.now)) }
+    ensures front { OnDone result (HoldsFrequentI64 handle.new.value
+        (λ s. ReadsFront i64_codec (λ n. n) image.now s used.new)) }
     ensures refused { OnRefused result ((handle.new.value ≡ handle.old.value) × IsRefusedImage
         (early_fault_within i64_row max_bytes i64_codec image.now)
         (first_fault_within i64_row max_bytes i64_codec image.now) result) }

@@ -1,8 +1,8 @@
 //! Calls that share a sketch among handles, as for threads that read it at once.
-ghost use Rattle.std.specs.Prelude.{◌≡◌, ◌⊎◌, true, false, IfOk, IfErr, not};
+ghost use Rattle.std.specs.Prelude.{◌≡◌, ◌⊎◌, true, false, IfOk, IfErr, IsOk, not};
 ghost use Rattle.std.specs.Arc.{arc_value};
 ghost use Rattle.datasketches_c.specs.Numbers.{OnDone, OnRefused, ok, no, yes, no_sketch, wrong_kind, refusal_number};
-ghost use Rattle.datasketches_c.specs.Sharing.{is_shared, unshared, IsFreezeRefusal, IsShareOf, IsOwnOf, IsShareRefusal};
+ghost use Rattle.datasketches_c.specs.Sharing.{is_shared, unshared, HoldsShared, IsFreezeRefusal, IsShareOf, IsOwnOf, IsShareRefusal};
 ghost use Rattle.datasketches_c.specs.declared.any_sketch.AnySketch.TheVariants.{Moved};
 
 use crate::any_sketch::AnySketch;
@@ -30,7 +30,8 @@ fn freeze_any(alloc: Global, sketch: AnySketch) -> (AnySketch, i32)
     ensures done { OnDone result.1
         ((result.1 ≡ ok) × (unshared result.0 ≡ unshared sketch) × (is_shared result.0 ≡ true)) }
     ensures refused { OnRefused result.1 ((result.0 ≡ sketch)
-        × (((result.1 ≡ wrong_kind) × (sketch ≡ Moved)) ⊎ (result.1 ≡ refusal_number Fault.NoMemory))) }
+        × (((result.1 ≡ wrong_kind) × (sketch ≡ Moved))
+        ⊎ ((result.1 ≡ refusal_number Fault.NoMemory) × (is_shared sketch ≡ false)))) }
 {
     match sketch {
         AnySketch::FrequentStrings(sketch) => freeze(alloc, sketch),
@@ -85,8 +86,10 @@ fn share<K: Kind>(shared: &Arc<K>) -> Result<AnySketch, i32>
 /// Returns one more share of a sketch of any kind. Returns `WRONG_KIND` if it is not shared.
 fn share_any(sketch: &AnySketch) -> Result<AnySketch, i32>
     ensures ok { IfOk result (λ any. (unshared any ≡ unshared sketch.now) × (is_shared any ≡ true)) }
+    ensures shared { IsOk result → is_shared sketch.now ≡ true }
     ensures err { IfErr result (λ e.
-        ((e ≡ wrong_kind) × (is_shared sketch.now ≡ false)) ⊎ (e ≡ refusal_number Fault.NoMemory)) }
+        ((e ≡ wrong_kind) × (is_shared sketch.now ≡ false))
+        ⊎ ((e ≡ refusal_number Fault.NoMemory) × (is_shared sketch.now ≡ true))) }
 {
     match sketch {
         AnySketch::SharedFrequentStrings(shared) => share(shared),
@@ -107,7 +110,7 @@ fn share_any(sketch: &AnySketch) -> Result<AnySketch, i32>
 /// Returns the first of these errors, and then changes nothing:
 ///
 /// - `NO_SKETCH` if the handle has no sketch.
-/// - `NoMemory` if an allocation fails.
+/// - `NoMemory` if an allocation fails. It never comes for a sketch that is shared.
 #[unsafe(no_mangle)]
 pub extern "C" fn ds_freeze(alloc: Global, handle: &mut SketchHandle) -> i32
     ensures done { OnDone result ((result ≡ ok) × IsShareOf handle.old.value handle.new.value) }
@@ -138,6 +141,7 @@ pub extern "C" fn ds_share(
 ) -> i32
     ensures other { shared.new.value ≡ shared.old.value }
     ensures done { OnDone result ((result ≡ ok) × IsShareOf shared.old.value handle.new.value) }
+    ensures shared { OnDone result (HoldsShared shared.old.value) }
     ensures refused { OnRefused result (IsShareRefusal shared.old.value result × (handle.new.value ≡ handle.old.value)) }
 {
     let Some(sketch) = shared.take(alloc) else {

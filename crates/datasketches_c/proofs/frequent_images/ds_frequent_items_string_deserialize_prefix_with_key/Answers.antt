@@ -10,4 +10,4 @@ use Rattle.datasketches_c.proofs.frequent_images.ds_frequent_items_string_deseri
 pub returns : goal.returns
 unfolding table_bytes
 returns c =
-    record { done = search rules; used = search rules; untouched = search rules; refused = search (rules, items_not_read_with string_row text_codec (λ item. string_bytes item) c.args.max_bytes c.args.image.now (λ r. r.0) c.deserialize_prefix-read.result c.put_read.result _ c.deserialize_prefix-read.ensures.image c.deserialize_prefix-read.ensures.accepted c.deserialize_prefix-read.ensures.err c.put_read.ensures.refused) }
+    record { done = search rules; used = search rules; front = search rules; untouched = search rules; refused = search (rules, items_not_read_with string_row text_codec (λ item. string_bytes item) c.args.max_bytes c.args.image.now (λ r. r.0) c.deserialize_prefix-read.result c.put_read.result _ c.deserialize_prefix-read.ensures.image c.deserialize_prefix-read.ensures.accepted c.deserialize_prefix-read.ensures.err c.put_read.ensures.refused) }

@@ -1,4 +1,5 @@
 use Rattle.std.proofs.Common.{◌+◌, ◌<◌, ◌^◌, length, inl, inr, refl, sym, arith}
+use Rattle.std.proofs.Math.Nat.{pos_of_ne-zero}
 use Rattle.std.proofs.lemmas.Bool.{cases_eq, cases_lt, false_from_ne_true, false≢true}
 use Rattle.std.specs.Cmp.Lexicographic.{bytes_decides}
 use Rattle.std.specs.String.{string_bytes}
@@ -50,6 +51,7 @@ returns-in-Err-clause-updates c =
       | inl room ↦ inr (record {
         number = refused_as c.in-Err.error _ _ _ c.refusal_number.type_inv c.fault.ensures c.refusal_number.ensures (said.memory room);
         unchanged = said.err;
+        some = pos_of_ne-zero (λ none. false≢true (said.zero none).0);
         untracked = false_from_ne_true _ (λ tracked. false≢true (said.succeeds room tracked));
         room = room;
       })
