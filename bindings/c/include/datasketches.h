@@ -493,9 +493,8 @@ int32_t ds_count_min_i64_image_estimate_string(const uint8_t *image, size_t leng
  * key of its original. A merge keeps the handle's own key. An image has no key.
  *
  * `new`, `deserialize` and `deserialize_prefix` draw a key. The first call of a process asks the system for two random words. Each
- * call counts the first word up, so no two sketches of a process get the same key. After a `fork`, parent and child count on from
- * the same words, which stay secret. If the system has no random bytes, these calls return DS_NO_RANDOM. Only DS_BAD_ARGUMENT comes
- * before.
+ * call counts the first word up, so no two sketches of a process get the same key. After a `fork`, the child draws words of its own.
+ * If the system has no random bytes, these calls return DS_NO_RANDOM. Only DS_BAD_ARGUMENT comes before.
  *
  * Calls whose names end in `_with_key` take the key from the caller. With the same keys a run is reproducible: the same calls have
  * the same results. Runs with drawn keys may differ in the counters that purges remove, so in bounds and rows, within the

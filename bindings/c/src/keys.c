@@ -2,15 +2,15 @@
  * call of the same name with `_with_key`.
  *
  * The first call of a process asks the system for two random words. Each call counts the first word up, as Rust's `RandomState`
- * does, so no two sketches of a process get the same key. Both words stay secret, also after a `fork`. Then parent and child count
- * on from the same words, so a sketch of one may have the same key as a sketch of the other. There is no lock that a `fork` could
- * leave held. */
+ * does, so no two sketches of a process get the same key. Both words stay secret. After a `fork` the child draws words of its own.
+ * There is no lock that a `fork` could leave held. */
 #define _POSIX_C_SOURCE 200809L
 
 #include "datasketches.h"
 
 #include <errno.h>
 #include <fcntl.h>
+#include <pthread.h>
 #include <stdatomic.h>
 #include <unistd.h>
 
@@ -23,6 +23,18 @@
 
 /* The words of the next key. A word that is 0 was not drawn yet. */
 static _Atomic uint64_t words[2];
+
+static void forget_words(void)
+{
+    atomic_store(&words[0], 0);
+    atomic_store(&words[1], 0);
+}
+
+/* Lets a child of `fork` draw words of its own. */
+__attribute__((constructor)) static void forget_words_after_fork(void)
+{
+    pthread_atfork(NULL, NULL, forget_words);
+}
 
 /* Reads a random word from the device, for systems without `getrandom`. */
 static bool read_device(uint64_t *word)

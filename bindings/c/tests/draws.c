@@ -270,12 +270,13 @@ int main(void)
     /* each process draws words of its own: two of them are close with a probability below 2^-40 */
     for (int i = 0; i < RUNS; i++)
         for (int j = 0; j < i; j++) CHECK(drawn[i].k1 != drawn[j].k1 && drawn[i].k0 - drawn[j].k0 + MOST > 2 * MOST);
-    /* parent and child count on from the same words */
+    /* a child of a process that drew its words draws others, and the parent counts on from its own */
     draw_one();
+    struct key before = keys[0];
     in_child(draw_one, &of_child);
-    CHECK(of_child.k0 == keys[0].k0 + 1 && of_child.k1 == keys[0].k1);
+    CHECK(of_child.k1 != before.k1 && of_child.k0 - before.k0 + MOST > 2 * MOST);
     draw_one();
-    CHECK(of_child.k0 == keys[0].k0 && of_child.k1 == keys[0].k1);
+    CHECK(keys[0].k0 == before.k0 + 1 && keys[0].k1 == before.k1);
     printf("%d of %d checks hold\n", checks - failures, checks);
     return failures != 0;
 }

@@ -77,12 +77,12 @@ class Given(Keys):
         keys = [bytearray(KEY), memoryview(KEY), memoryview(bytearray(KEY)), array.array("B", KEY)]
         for key in keys + ([numpy.frombuffer(KEY, "u1")] if numpy else []):
             self.assertEqual(bytes(sketch(items, key=key)), wanted)
-            self.assertEqual(ds.FrequentItemsSketch.deserialize(wanted, key=key).total_weight, len(items))
+            self.assertEqual(ds.FrequentItemsSketch.deserialize(wanted, int, key=key).total_weight, len(items))
         self.assertEqual(bytes(ds.FrequentItemsSketch(32, int, None, KEY)), bytes(ds.FrequentItemsSketch(32)))
 
     def test_other_arguments(self):
         image = bytes(ds.FrequentItemsSketch(64))
-        for call in (functools.partial(ds.FrequentItemsSketch, 64), functools.partial(ds.FrequentItemsSketch.deserialize, image)):
+        for call in (functools.partial(ds.FrequentItemsSketch, 64), functools.partial(ds.FrequentItemsSketch.deserialize, image, int)):
             for key in (b"", KEY[:15], KEY + b"x"):
                 self.assertRaisesRegex(ValueError, f"^the key has 16 bytes, not {len(key)}$", call, key=key)
             for key in ("0123456789abcdef", 7, False, array.array("Q", KEY)):
@@ -93,7 +93,7 @@ class Given(Keys):
             ds.FrequentItemsSketch(65, key=KEY)
         self.assertEqual(refused.exception.fault, "MapSizeNotPowerOfTwo")
         with self.assertRaises(ds.SketchError) as refused:
-            ds.FrequentItemsSketch.deserialize(image[:-1], key=KEY)
+            ds.FrequentItemsSketch.deserialize(image[:-1], int, key=KEY)
         self.assertEqual((refused.exception.kind, refused.exception.fault), ("InvalidData", "InsufficientData"))
 
 
@@ -161,7 +161,7 @@ class Drawn(Keys):
 
         def create():
             for _ in range(50):
-                heavy = ds.FrequentItemsSketch.deserialize(bytes(sketch(items)))
+                heavy = ds.FrequentItemsSketch.deserialize(bytes(sketch(items)), int)
                 if heavy.total_weight != len(items):
                     wrong.append(heavy)
 
@@ -171,6 +171,26 @@ class Drawn(Keys):
         for thread in threads:
             thread.join()
         self.assertEqual(wrong, [])
+
+    def test_keys_after_a_fork(self):
+        # the order of an image's items depends on the key
+        def order():
+            sketch = ds.FrequentItemsSketch(1024)
+            sketch.update(range(500))
+            return sketch.serialize()
+
+        ds.FrequentItemsSketch(8)
+        ends = os.pipe()
+        child = os.fork()
+        if child == 0:
+            with os.fdopen(ends[1], "wb") as out:
+                out.write(order())
+            os._exit(0)
+        os.close(ends[1])
+        own = order()
+        with os.fdopen(ends[0], "rb") as found:
+            self.assertNotEqual(found.read(), own)
+        self.assertEqual(os.waitpid(child, 0)[1], 0)
 
     def test_after_a_fork(self):
         ds.FrequentItemsSketch(8)
