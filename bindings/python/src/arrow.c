@@ -26,14 +26,17 @@ typedef struct {
     bool with_texts;
 } Dictionary;
 
-bool is_arrow(PyObject *object)
+int is_arrow(PyObject *object)
 {
-    return type_has(object, "__arrow_c_array__") || type_has(object, "__arrow_c_stream__");
+    int answer = type_has(object, "__arrow_c_array__");
+    return answer == 0 ? type_has(object, "__arrow_c_stream__") : answer;
 }
 
 PyObject *arrow_export(PyObject *object)
 {
-    bool is_array = type_has(object, "__arrow_c_array__");
+    int is_array = type_has(object, "__arrow_c_array__");
+    if (is_array < 0)
+        return NULL;
     PyObject *made = called(object, is_array ? "__arrow_c_array__" : "__arrow_c_stream__");
     bool good = made != NULL && (is_array ? PyTuple_Check(made) && PyTuple_GET_SIZE(made) == 2 &&
                                                 PyCapsule_IsValid(PyTuple_GET_ITEM(made, 0), "arrow_schema") &&

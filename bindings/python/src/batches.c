@@ -323,49 +323,49 @@ static bool ask(Batch *batch, const Question *question, const Items *items, void
     return answer >= 0;
 }
 
-static PyObject *list_of(const Sketch *self, const Question *question, const void *answers, size_t count)
+/* Appends `count` times None to a list. A batch that changes a sketch does so before it begins, and so fails before it. */
+static bool make_places(PyObject *list, size_t count)
 {
-    PyObject *list = PyList_New((Py_ssize_t)count);
-    for (size_t i = 0; list != NULL && i < count; i++) {
+    Py_ssize_t length = PyList_GET_SIZE(list);
+    PyObject *more = PyList_New((Py_ssize_t)count);
+    for (size_t i = 0; more != NULL && i < count; i++)
+        PyList_SET_ITEM(more, (Py_ssize_t)i, Py_NewRef(Py_None));
+    bool made = more != NULL && PyList_SetSlice(list, length, length, more) == 0;
+    Py_XDECREF(more);
+    return made;
+}
+
+/* Writes results to the last places of a list. */
+static bool fill_places(PyObject *list, const Sketch *self, const Question *question, const void *answers, size_t count)
+{
+    size_t first = (size_t)PyList_GET_SIZE(list) - count;
+    for (size_t i = 0; i < count; i++) {
         PyObject *answer = question->object(self, answers, i);
-        if (answer == NULL)
-            Py_CLEAR(list);
-        else
-            PyList_SET_ITEM(list, (Py_ssize_t)i, answer);
+        if (answer == NULL || PyList_SetItem(list, (Py_ssize_t)(first + i), answer) < 0)
+            return false;
     }
-    return list;
+    return true;
 }
 
-/* Adds results to a list, which is NULL at first. Takes the reference to `more`. */
-static bool add_to(PyObject **list, PyObject *more)
+/* Asks for the items that were read, and appends the results to a list. */
+static bool ask_into(Batch *batch, const Question *question, const Items *items, void *answers, PyObject *list)
 {
-    if (*list == NULL)
-        *list = more;
-    else if (more != NULL) {
-        Py_ssize_t length = PyList_GET_SIZE(*list);
-        bool added = PyList_SetSlice(*list, length, length, more) == 0;
-        Py_DECREF(more);
-        return added;
-    }
-    return more != NULL;
+    return make_places(list, items->count) && ask(batch, question, items, answers) &&
+           fill_places(list, batch->self, question, answers, items->count);
 }
 
-/* Returns the results of the items of an iterator, which it reads in chunks. */
-static PyObject *ask_stream(Batch *batch, const Question *question, Items *items)
+/* Asks for the items of an iterator, which it reads in chunks, and appends the results to a list. */
+static bool ask_stream(Batch *batch, const Question *question, Items *items, PyObject *list)
 {
-    PyObject *list = NULL;
     bool asked;
     void *answers = PyMem_Malloc(STREAM_CHUNK * question->size);
     if (answers == NULL)
-        return PyErr_NoMemory();
+        PyErr_NoMemory();
     do {
-        asked = items_next(items, STREAM_CHUNK) && ask(batch, question, items, answers) &&
-                add_to(&list, list_of(batch->self, question, answers, items->count));
+        asked = answers != NULL && items_next(items, STREAM_CHUNK) && ask_into(batch, question, items, answers, list);
     } while (asked && items->iterator != NULL);
     PyMem_Free(answers);
-    if (!asked)
-        Py_CLEAR(list);
-    return list;
+    return asked;
 }
 
 /* Returns whether no item is missing. Sets an error if one is: it has no result. */
@@ -382,17 +382,22 @@ static PyObject *ask_source(Batch *batch, const Source *source, const Question *
 {
     Items items = {0};
     Room room = {0};
-    PyObject *result = NULL;
-    if (items_open(source, &items)) {
-        if (items.iterator != NULL)
-            result = ask_stream(batch, question, &items);
-        else if (no_gaps(&items, question) && room_for(question, source->in_array, items.count, &room) &&
-                 ask(batch, question, &items, room.values))
-            result = room.array != NULL ? Py_NewRef(room.array) : list_of(batch->self, question, room.values, items.count);
+    if (!items_open(source, &items))
+        return NULL;
+    bool asked = false, is_stream = items.iterator != NULL, in_array = source->in_array && !is_stream;
+    PyObject *list = in_array ? NULL : PyList_New(0);
+    if ((in_array || list != NULL) && no_gaps(&items, question)) {
+        if (is_stream)
+            asked = ask_stream(batch, question, &items, list);
+        else if (room_for(question, in_array, items.count, &room))
+            asked = in_array ? ask(batch, question, &items, room.values)
+                             : ask_into(batch, question, &items, room.values, list);
     }
+    PyObject *result = !asked ? NULL : Py_NewRef(in_array ? room.array : list);
+    Py_XDECREF(list);
     room_release(&room);
     items_release(&items);
-    if (result == NULL && batch->done > 0)
+    if (!asked && batch->done > 0)
         note_taken(batch->done);
     return result;
 }
@@ -402,7 +407,10 @@ PyObject *ask_all(Sketch *self, PyObject *given, const Question *question)
     Batch batch = {.self = self, .use = {.changes = question->changes}, .context = question->context, .took = QUICK};
     Source source;
     PyObject *result = NULL;
-    if (is_masked(given))
+    int masked = is_masked(given);
+    if (masked < 0)
+        return NULL;
+    if (masked > 0)
         return PyErr_Format(PyExc_TypeError, "%s takes no masked array: write %s(array.compressed())", question->call,
                             question->call);
     if (source_of(given, question->call, false, &source))

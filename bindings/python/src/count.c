@@ -320,7 +320,7 @@ static PyGetSetDef count_fields[] = {
 #define FAST(function) (PyCFunction)(void (*)(void))(function)
 
 static PyMethodDef count_methods[] = {
-    {"update", FAST(count_update), METH_FASTCALL, count_update_doc},
+    {"update", FAST(count_update), METH_FASTCALL | METH_KEYWORDS, count_update_doc},
     WITH_KEYWORDS("update_words", count_update_words),
     WITH_KEYWORDS("update_lines", count_update_lines),
     {"estimate", count_estimate, METH_O, count_estimate_doc},

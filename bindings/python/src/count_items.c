@@ -88,7 +88,7 @@ static int32_t update_numbers(Batch *batch, const uint64_t *numbers, const uint6
 static const Updates updates = {.room = room, .longest = longest, .strings = update_strings, .numbers = update_numbers};
 
 const char count_update_doc[] = PyDoc_STR(
-"update($self, items, weight=1, /)\n--\n\n"
+"update($self, items, /, weight=1)\n--\n\n"
 "Add a weight to an item's, or to those of many: an iterable, a buffer of integers, an array of strings, or a column of\n"
 "Arrow or pandas.\n\n"
 "The weight is from 0 to 2**64 - 1, in a signed sketch from -2**63 to 2**63 - 1. Many items have one weight each, or a\n"
@@ -108,16 +108,16 @@ const char count_update_doc[] = PyDoc_STR(
 ">>> load['apple'], load['pear']\n"
 "(5, 2)\n");
 
-PyObject *count_update(PyObject *object, PyObject *const *args, Py_ssize_t count)
+PyObject *count_update(PyObject *object, PyObject *const *args, Py_ssize_t count, PyObject *names)
 {
     Sketch *self = (Sketch *)object;
-    PyObject *given = count == 2 ? args[1] : NULL;
+    PyObject *given = NULL;
     Item item;
     Items items;
     Weights weights;
     uint64_t weight = 1;
-    if (count < 1 || count > 2)
-        return PyErr_Format(PyExc_TypeError, "update takes items and a weight, not %zd arguments", count);
+    if (!update_arguments(args, count, names, &given))
+        return NULL;
     if (!is_single(args[0])) {
         bool opened = update_open(args[0], given, self->with_sign, &items, &weights);
         return opened ? update_all(self, &items, &weights, &updates) : NULL;

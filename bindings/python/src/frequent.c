@@ -35,19 +35,19 @@ static const Kind *kind_of(const Sketch *self)
     return self->with_texts ? &texts : self->with_sign ? &numbers_with_sign : &numbers_without_sign;
 }
 
-/* Returns the kind that `item` names: int or 'i64' for signed numbers, 'u64' for unsigned numbers, and str for strings. Returns
- * NULL, with an error set, if it is none of these. */
+/* Returns the kind that `item` names: int or 'i64' for signed numbers, 'u64' for unsigned numbers, and str or 'str' for strings.
+ * Returns NULL, with an error set, if it is none of these. */
 static const Kind *kind_named(PyObject *item)
 {
-    if (item == (PyObject *)&PyUnicode_Type)
-        return &texts;
     if (item == NULL || item == (PyObject *)&PyLong_Type)
         return &numbers_with_sign;
+    if (item == (PyObject *)&PyUnicode_Type || (PyUnicode_Check(item) && PyUnicode_CompareWithASCIIString(item, "str") == 0))
+        return &texts;
     if (PyUnicode_Check(item) && PyUnicode_CompareWithASCIIString(item, "i64") == 0)
         return &numbers_with_sign;
     if (PyUnicode_Check(item) && PyUnicode_CompareWithASCIIString(item, "u64") == 0)
         return &numbers_without_sign;
-    PyErr_SetString(PyExc_ValueError, "item is int, 'i64', 'u64' or str");
+    PyErr_SetString(PyExc_ValueError, "item is int, 'i64', 'u64', str or 'str'");
     return NULL;
 }
 
@@ -221,15 +221,16 @@ static PyObject *frequent_serialize(PyObject *object, PyObject *Py_UNUSED(unused
 }
 
 PyDoc_STRVAR(deserialize_doc,
-"deserialize($type, image, item=int, max_bytes=1073741824, sample_size=None, key=None)\n--\n\n"
-"Return the sketch of an image, which may be untrusted, with items of this type. An image has no sample size: without\n"
+"deserialize($type, image, item, max_bytes=1073741824, sample_size=None, key=None)\n--\n\n"
+"Return the sketch of an image, which may be untrusted, with items of this type: int, 'i64', 'u64' or str. The image does not\n"
+"say which, and an image of other items may be read as garbage. An image has no sample size: without\n"
 "`sample_size` it is the largest. It has no key either: without `key` the sketch gets a drawn one.\n\n"
 "Raise 'TableTooLarge' if the table, with the bytes of all strings, would take more than `max_bytes`; None is no limit.\n"
 "Bytes are read in place, and any other buffer is copied first, up to the limit.\n\n"
 ">>> import datasketches_rattle as ds\n"
 ">>> heavy = ds.FrequentItemsSketch(64)\n"
 ">>> heavy.update(7, 30)\n"
-">>> ds.FrequentItemsSketch.deserialize(bytes(heavy))[7]\n"
+">>> ds.FrequentItemsSketch.deserialize(bytes(heavy), item=int)[7]\n"
 "30\n");
 
 /* Reads the image at the front of the argument's bytes. */
@@ -271,11 +272,11 @@ static PyObject *frequent_read(PyObject *type, PyObject *args, PyObject *keyword
 static PyObject *frequent_deserialize(PyObject *type, PyObject *args, PyObject *keywords)
 {
     size_t used = 0;
-    return frequent_read(type, args, keywords, "y*|OOOO:deserialize", &used);
+    return frequent_read(type, args, keywords, "y*O|OOO:deserialize", &used);
 }
 
 PyDoc_STRVAR(frequent_deserialize_prefix_doc,
-"deserialize_prefix($type, image, item=int, max_bytes=1073741824, sample_size=None, key=None)\n--\n\n"
+"deserialize_prefix($type, image, item, max_bytes=1073741824, sample_size=None, key=None)\n--\n\n"
 "Return the sketch of the image at the front of `image`, and the number of bytes that it takes. Bytes after it are ignored, so\n"
 "images can stand one after another. But with strings, all bytes of `image` after the weights count for `max_bytes`. Otherwise\n"
 "as `deserialize`.\n\n"
@@ -289,7 +290,7 @@ PyDoc_STRVAR(frequent_deserialize_prefix_doc,
 static PyObject *frequent_deserialize_prefix(PyObject *type, PyObject *args, PyObject *keywords)
 {
     size_t used = 0;
-    PyObject *sketch = frequent_read(type, args, keywords, "y*|OOOO:deserialize_prefix", &used);
+    PyObject *sketch = frequent_read(type, args, keywords, "y*O|OOO:deserialize_prefix", &used);
     return with_used(sketch, used);
 }
 
@@ -374,7 +375,7 @@ static PyGetSetDef frequent_fields[] = {
 };
 
 static PyMethodDef frequent_methods[] = {
-    {"update", (PyCFunction)(void (*)(void))frequent_update, METH_FASTCALL, frequent_update_doc},
+    {"update", (PyCFunction)(void (*)(void))frequent_update, METH_FASTCALL | METH_KEYWORDS, frequent_update_doc},
     WITH_KEYWORDS("update_words", frequent_update_words),
     WITH_KEYWORDS("update_lines", frequent_update_lines),
     CLASS_METHOD("from_file", frequent_from_file),

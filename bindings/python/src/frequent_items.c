@@ -85,7 +85,7 @@ static bool counts_all(const Sketch *self, const Items *items)
 }
 
 const char frequent_update_doc[] = PyDoc_STR(
-"update($self, items, weight=1, /)\n--\n\n"
+"update($self, items, /, weight=1)\n--\n\n"
 "Add a weight, 0 to 2**64 - 1, to an item's, or to those of many: an iterable, a buffer of integers, an array of strings,\n"
 "or a column of Arrow or pandas.\n\n"
 "Many items have one weight each, or a weight for each item in an iterable, a buffer or a column. Missing items and items\n"
@@ -172,16 +172,16 @@ static int32_t update_numbers(Batch *batch, const uint64_t *numbers, const uint6
 
 static const Updates updates = {.check = counts_all, .room = room, .strings = update_strings, .numbers = update_numbers};
 
-PyObject *frequent_update(PyObject *object, PyObject *const *args, Py_ssize_t count)
+PyObject *frequent_update(PyObject *object, PyObject *const *args, Py_ssize_t count, PyObject *names)
 {
     Sketch *self = (Sketch *)object;
-    PyObject *given = count == 2 ? args[1] : NULL;
+    PyObject *given = NULL;
     Item item;
     Items items;
     Weights weights;
     uint64_t weight = 1;
-    if (count < 1 || count > 2)
-        return PyErr_Format(PyExc_TypeError, "update takes items and a weight, not %zd arguments", count);
+    if (!update_arguments(args, count, names, &given))
+        return NULL;
     if (!is_single(args[0])) {
         bool opened = update_open(args[0], given, false, &items, &weights);
         return opened ? update_all(self, &items, &weights, &updates) : NULL;

@@ -1,6 +1,8 @@
 /* Arguments with many items: mappings, tables, numpy arrays, pandas Series, and other iterables. */
 #include "sketches.h"
 
+#include <string.h>
+
 /* Interns the name, since the caches of types keep the names that are looked up in them. */
 PyObject *attribute(PyObject *object, const char *name)
 {
@@ -10,13 +12,28 @@ PyObject *attribute(PyObject *object, const char *name)
     return value;
 }
 
-bool type_has(PyObject *object, const char *name)
+/* Returns 0 and clears the error that is set if it says that there is no such attribute. Otherwise returns -1 and keeps it. */
+static int no_attribute(void)
+{
+    if (!PyErr_ExceptionMatches(PyExc_AttributeError))
+        return -1;
+    PyErr_Clear();
+    return 0;
+}
+
+int type_has(PyObject *object, const char *name)
 {
     PyObject *value = attribute((PyObject *)Py_TYPE(object), name);
-    bool has = value != NULL;
-    Py_XDECREF(value);
-    PyErr_Clear();
-    return has;
+    if (value == NULL)
+        return no_attribute();
+    Py_DECREF(value);
+    return 1;
+}
+
+int type_has_both(PyObject *object, const char *first, const char *second)
+{
+    int has = type_has(object, first);
+    return has > 0 ? type_has(object, second) : has;
 }
 
 PyObject *called(PyObject *object, const char *name)
@@ -36,32 +53,37 @@ static PyObject *called_with(PyObject *module, const char *name, PyObject *argum
     return result;
 }
 
-/* Returns whether a module is imported and the object is an instance of its class. */
-static bool is_of(PyObject *object, const char *module, const char *name)
+int is_of(PyObject *object, const char *module, const char *name)
 {
-    PyObject *imported = PyDict_GetItemString(PyImport_GetModuleDict(), module);
-    PyObject *type = imported != NULL ? attribute(imported, name) : NULL;
-    int answer = type != NULL ? PyObject_IsInstance(object, type) : 0;
-    Py_XDECREF(type);
-    PyErr_Clear();
-    return answer > 0;
+    PyObject *module_name = PyUnicode_InternFromString(module);
+    PyObject *imported = module_name != NULL ? PyDict_GetItemWithError(PyImport_GetModuleDict(), module_name) : NULL;
+    Py_XDECREF(module_name);
+    if (imported == NULL)
+        return PyErr_Occurred() ? -1 : 0;
+    PyObject *type = attribute(imported, name);
+    if (type == NULL)
+        return no_attribute();
+    int answer = PyObject_IsInstance(object, type);
+    Py_DECREF(type);
+    return answer;
 }
 
-bool is_numpy_array(PyObject *object)
+int is_numpy_array(PyObject *object)
 {
-    return PyObject_CheckBuffer(object) && is_of(object, "numpy", "ndarray");
+    return PyObject_CheckBuffer(object) ? is_of(object, "numpy", "ndarray") : 0;
 }
 
-bool is_array_of_bytes(PyObject *object)
+int is_array_of_bytes(PyObject *object)
 {
-    return is_of(object, "array", "array") || is_numpy_array(object);
+    int answer = is_of(object, "array", "array");
+    return answer == 0 ? is_numpy_array(object) : answer;
 }
 
 /* Looks at the base class first: a class of masked arrays is derived from numpy's array class, and not only from `object`. */
-bool is_masked(PyObject *source)
+int is_masked(PyObject *source)
 {
-    return PyObject_CheckBuffer(source) && Py_TYPE(source)->tp_base != &PyBaseObject_Type &&
-           is_of(source, "numpy.ma", "MaskedArray");
+    bool may_be = PyObject_CheckBuffer(source) && Py_TYPE(source)->tp_base != &PyBaseObject_Type;
+    return may_be ? is_of(source, "numpy.ma", "MaskedArray") : 0;
 }
 
 /* Returns whether the object is a list, a tuple or a set, which is read as a whole. */
@@ -71,17 +93,25 @@ static bool is_whole(PyObject *object)
 }
 
 /* Returns whether the object is a table with named columns, such as a DataFrame of pandas, dask or polars. */
-static bool is_table(PyObject *object)
+static int is_table(PyObject *object)
 {
-    return type_has(object, "__dataframe__") || (type_has(object, "columns") && type_has(object, "dtypes"));
+    int answer = type_has(object, "__dataframe__");
+    return answer == 0 ? type_has_both(object, "columns", "dtypes") : answer;
 }
 
-bool is_mapping(PyObject *object)
+int is_mapping(PyObject *object)
 {
     if (is_whole(object) || PyObject_CheckBuffer(object) || PyIter_Check(object))
-        return false;
-    return PyDict_Check(object) || (PyMapping_Check(object) && type_has(object, "keys") && type_has(object, "items") &&
-                                    !type_has(object, "dtype") && !is_table(object));
+        return 0;
+    if (PyDict_Check(object) || !PyMapping_Check(object))
+        return PyDict_Check(object);
+    int answer = type_has_both(object, "keys", "items");
+    if (answer <= 0)
+        return answer;
+    answer = type_has(object, "dtype");
+    if (answer == 0)
+        answer = is_table(object);
+    return answer < 0 ? answer : !answer;
 }
 
 static bool mapping_split_pairs(PyObject *mapping, PyObject *keys, PyObject *values)
@@ -102,24 +132,25 @@ static bool mapping_split_pairs(PyObject *mapping, PyObject *keys, PyObject *val
 }
 
 /* Returns whether the object is a dict whose class does not override the dict's keys and values. */
-static bool is_plain_dict(PyObject *object)
+static int is_plain_dict(PyObject *object)
 {
-    bool plain = PyDict_Check(object);
+    int plain = PyDict_Check(object);
     const char *const names[] = {"keys", "values", "items", "__iter__", "__getitem__"};
-    for (size_t i = 0; plain && !PyDict_CheckExact(object) && i < sizeof names / sizeof *names; i++) {
+    for (size_t i = 0; plain > 0 && !PyDict_CheckExact(object) && i < sizeof names / sizeof *names; i++) {
         PyObject *own = attribute((PyObject *)Py_TYPE(object), names[i]);
-        PyObject *first = attribute((PyObject *)&PyDict_Type, names[i]);
-        plain = own != NULL && own == first;
+        PyObject *first = own != NULL ? attribute((PyObject *)&PyDict_Type, names[i]) : NULL;
+        plain = first != NULL ? own == first : -1;
         Py_XDECREF(own);
         Py_XDECREF(first);
-        PyErr_Clear();
     }
     return plain;
 }
 
 bool mapping_split(PyObject *mapping, PyObject **keys, PyObject **values)
 {
-    bool plain = is_plain_dict(mapping);
+    int plain = is_plain_dict(mapping);
+    if (plain < 0)
+        return false;
     int collects = PyGC_Disable(); /* a finalizer could change the dict between its keys and its values */
     *keys = plain ? PyDict_Keys(mapping) : PyList_New(0);
     *values = plain ? PyDict_Values(mapping) : PyList_New(0);
@@ -153,27 +184,36 @@ static bool masked_source(PyObject *array, Source *source)
 static bool has_items(PyObject *object, const Source *source)
 {
     const char *call = source->call;
-    if (is_table(object))
+    int table = is_table(object), levels = is_of(object, "pandas", "MultiIndex");
+    if (table > 0)
         return no_table(source);
-    if (is_mapping(object))
+    if (levels > 0)
+        PyErr_Format(PyExc_TypeError, "%s takes no %.200s: pass one of its levels, as in %s(index.get_level_values(0))", call,
+                     Py_TYPE(object)->tp_name, call);
+    if (levels != 0)
+        return false;
+    int mapping = table == 0 ? is_mapping(object) : 0;
+    if (mapping > 0)
         PyErr_Format(PyExc_TypeError, "%s takes no mapping (%.200s): write %s(mapping.keys())", call, Py_TYPE(object)->tp_name,
                      call);
-    else if (Py_TYPE(object)->tp_iter == NULL && type_has(object, "keys"))
+    else if (table == 0 && mapping == 0 && Py_TYPE(object)->tp_iter == NULL && type_has(object, "keys") > 0)
         PyErr_Format(PyExc_TypeError, "%s takes no %.200s: it has keys, and no iterator", call, Py_TYPE(object)->tp_name);
     return !PyErr_Occurred();
 }
 
 static bool find_source(PyObject *object, bool of_weights, Source *source)
 {
-    bool has_buffer = PyObject_CheckBuffer(object);
-    if (has_buffer && is_masked(object))
-        return masked_source(object, source);
-    if (!has_buffer && !is_whole(object) && !PyIter_Check(object)) {
-        if (!has_items(object, source))
+    int masked = is_masked(object);
+    if (masked != 0)
+        return masked > 0 && masked_source(object, source);
+    if (!PyObject_CheckBuffer(object) && !is_whole(object) && !PyIter_Check(object)) {
+        int series = has_items(object, source) ? is_series(object) : -1;
+        if (series != 0)
+            return series > 0 && series_source(object, of_weights, source);
+        int arrow = is_arrow(object);
+        if (arrow < 0)
             return false;
-        if (is_series(object))
-            return series_source(object, of_weights, source);
-        source->of_arrow = is_arrow(object);
+        source->of_arrow = arrow > 0;
     }
     source->values = source->of_arrow ? arrow_export(object) : Py_NewRef(object);
     return source->values != NULL;
@@ -182,12 +222,12 @@ static bool find_source(PyObject *object, bool of_weights, Source *source)
 bool source_of(PyObject *object, const char *call, bool of_weights, Source *source)
 {
     *source = (Source){.call = call, .type = Py_TYPE(object)->tp_name};
-    if (!find_source(object, of_weights, source)) {
+    int in_array = find_source(object, of_weights, source) ? is_numpy_array(source->values) : -1;
+    if (in_array < 0) {
         source_release(source);
         return false;
     }
-    if (source->values != NULL && is_numpy_array(source->values))
-        source->in_array = true;
+    source->in_array |= in_array > 0;
     return true;
 }
 
@@ -213,13 +253,14 @@ static bool has_one_dimension(PyObject *array)
     return !PyErr_Occurred();
 }
 
-Py_UCS4 kind_of_array(PyObject *dtype)
+int kind_of_array(PyObject *dtype)
 {
     PyObject *letter = attribute(dtype, "kind");
-    bool is_letter = letter != NULL && PyUnicode_Check(letter) && PyUnicode_GET_LENGTH(letter) == 1;
-    Py_UCS4 kind = is_letter ? PyUnicode_READ_CHAR(letter, 0) : 0;
-    Py_XDECREF(letter);
-    PyErr_Clear();
+    if (letter == NULL)
+        return no_attribute();
+    bool is_letter = PyUnicode_Check(letter) && PyUnicode_GET_LENGTH(letter) == 1;
+    int kind = is_letter ? (int)PyUnicode_READ_CHAR(letter, 0) : 0;
+    Py_DECREF(letter);
     return kind;
 }
 
@@ -227,14 +268,17 @@ PyObject *array_entries(PyObject *array, const char *what)
 {
     PyObject *dtype = has_one_dimension(array) ? attribute(array, "dtype") : NULL;
     Py_ssize_t count = dtype != NULL ? PyObject_Size(array) : -1;
-    Py_UCS4 kind = count > 0 ? kind_of_array(dtype) : 0;
+    int kind = count > 0 ? kind_of_array(dtype) : 0;
     PyObject *list = NULL;
     if (count == 0)
         list = PyList_New(0);
     else if (kind == 'U' || kind == 'S' || kind == 'O' || kind == 'T')
         list = called(array, "tolist");
-    else if (count > 0)
-        PyErr_Format(PyExc_TypeError, "an array of %s has integers or strings, not %S", what, dtype);
+    else if (count > 0 && (kind == 'M' || kind == 'm'))
+        PyErr_Format(PyExc_TypeError, "an array of %s has no times (%S): write array.astype('int64')", what, dtype);
+    else if (count > 0 && kind >= 0)
+        PyErr_Format(PyExc_TypeError, "an array of %s has integers%s, not %S", what,
+                     strcmp(what, "weights") == 0 ? "" : " or strings", dtype);
     Py_XDECREF(dtype);
     if (list == NULL || PyList_Check(list))
         return list;

@@ -36,10 +36,26 @@ bool image_take(Image *image, size_t limit)
     return true;
 }
 
-/* Changes the error of an image that was cut. Bytes are missing there only if the sketch would take more than the limit. */
+/* Returns the number of bytes before the limit of an image whose header was accepted, as docs/FORMATS.md has it: of a filter's words,
+ * of Count-Min's cells, or of frequent items' weights. */
+static uint64_t checked_bytes(const uint8_t *header)
+{
+    uint32_t at_8, at_16;
+    memcpy(&at_8, header + 8, sizeof at_8);
+    memcpy(&at_16, header + 16, sizeof at_16);
+    switch (header[2]) {
+    case 21: return 32 + 8 * (uint64_t)at_16;
+    case 18: return 24 + 8 * (uint64_t)at_8 * header[12];
+    default: return 32 + 8 * (uint64_t)at_8;
+    }
+}
+
+/* A part that ends too early is of an image that does so too, or that exceeds the limit. */
 int32_t image_answer(const Image *image, int32_t answer)
 {
-    return image->is_cut && answer == DS_INSUFFICIENT_DATA ? DS_TABLE_TOO_LARGE : answer;
+    if (!image->is_cut || answer != DS_INSUFFICIENT_DATA || checked_bytes(image->bytes) > (uint64_t)image->view.len)
+        return answer;
+    return DS_TABLE_TOO_LARGE;
 }
 
 void image_release(Image *image)

@@ -23,9 +23,11 @@ static bool number_of(PyObject *object, Item *item)
         return false;
     int overflow = 0;
     long long value = PyLong_AsLongLongAndOverflow(number, &overflow);
-    if (overflow > 0)
+    if (overflow > 0) {
         item->value = PyLong_AsUnsignedLongLong(number);
-    else if (overflow < 0)
+        if (PyErr_Occurred() && PyErr_ExceptionMatches(PyExc_OverflowError))
+            PyErr_SetString(PyExc_OverflowError, "the item is above 2**64 - 1");
+    } else if (overflow < 0)
         PyErr_SetString(PyExc_OverflowError, "the item is below -2**63");
     else
         item->value = (uint64_t)value;
@@ -43,9 +45,10 @@ bool item_of(PyObject *object, Item *item)
         item->value = (uint64_t)length;
         return item->text != NULL;
     }
-    if (is_number(object))
-        return number_of(object, item);
-    PyErr_Format(PyExc_TypeError, "an item is a str or an int, not %.200s", Py_TYPE(object)->tp_name);
+    if (is_number(object) && number_of(object, item))
+        return true;
+    if (!PyErr_Occurred() || PyErr_ExceptionMatches(PyExc_TypeError))
+        PyErr_Format(PyExc_TypeError, "an item is a str or an int, not %.200s", Py_TYPE(object)->tp_name);
     return false;
 }
 

@@ -48,19 +48,19 @@ static PyObject *hash_of(const uint8_t *bytes, size_t length, const uint64_t wor
     return PyLong_FromUnsignedLongLong(hash);
 }
 
-/* Returns whether the object is many strings: an iterable that is no buffer, a column, or a numpy array of strings. */
-static bool is_many(PyObject *object)
+/* Returns whether the object is many strings: an iterable that is no buffer, a column, or a numpy array of strings. Returns -1 with
+ * an error set. */
+static int is_many(PyObject *object)
 {
-    PyObject *dtype;
     if (!PyObject_CheckBuffer(object))
-        return Py_TYPE(object)->tp_iter != NULL || is_arrow(object);
-    if (!is_numpy_array(object))
-        return false;
-    dtype = attribute(object, "dtype");
-    Py_UCS4 kind = dtype != NULL ? kind_of_array(dtype) : 0;
+        return Py_TYPE(object)->tp_iter != NULL ? 1 : is_arrow(object);
+    int in_array = is_numpy_array(object);
+    if (in_array <= 0)
+        return in_array;
+    PyObject *dtype = attribute(object, "dtype");
+    int kind = dtype != NULL ? kind_of_array(dtype) : -1;
     Py_XDECREF(dtype);
-    PyErr_Clear();
-    return kind == 'U' || kind == 'S' || kind == 'O' || kind == 'T';
+    return kind < 0 ? -1 : kind == 'U' || kind == 'S' || kind == 'O' || kind == 'T';
 }
 
 static bool has_numbers(const Items *items)
@@ -132,8 +132,9 @@ static PyObject *keyed_hash(PyObject *Py_UNUSED(module), PyObject *const *args, 
         const char *text = PyUnicode_AsUTF8AndSize(args[1], &length);
         return text != NULL ? hash_of((const uint8_t *)text, (size_t)length, words) : NULL;
     }
-    if (is_many(args[1]))
-        return ask_all(NULL, args[1], &many);
+    int of_many = is_many(args[1]);
+    if (of_many != 0)
+        return of_many > 0 ? ask_all(NULL, args[1], &many) : NULL;
     if (!open_bytes(args[1], "an item", "a str or bytes", &image))
         return NULL;
     PyObject *hash = hash_of(image.bytes, image.length, words);

@@ -124,11 +124,21 @@ static bool items_of_buffer(PyObject *object, Items *items)
     Run run = {0};
     const char *format = view->format != NULL ? view->format : "B";
     bool of_numbers = reads_format(format, view->itemsize, &run.with_sign, &run.swapped);
-    if (!of_numbers && view->ndim == 1 && !items->of_weights && is_numpy_array(object))
+    bool may_be_bytes = of_numbers && view->itemsize == 1 && !run.with_sign;
+    int in_array = may_be_bytes ? is_array_of_bytes(object)
+                   : !of_numbers && view->ndim == 1 && !items->of_weights ? is_numpy_array(object)
+                                                                          : 0;
+    if (!of_numbers && in_array > 0)
         run.layout = fixed_layout(format, &run.swapped);
-    if (!of_numbers && view->ndim == 0)
+    if (in_array < 0)
+        ;
+    else if (!of_numbers && view->ndim == 0)
         set_wrong_type(object, items);
-    else if (run.layout == NUMBERS && (!of_numbers || (view->itemsize == 1 && !run.with_sign && !is_array_of_bytes(object))))
+    else if (may_be_bytes && in_array == 0)
+        PyErr_Format(PyExc_TypeError, "%s are a str, an int or many of these, and the bytes of a %.200s may be either: write "
+                     "str(.., 'utf-8') for one string, or array('B', ..) for many integers", name_of(items),
+                     Py_TYPE(object)->tp_name);
+    else if (run.layout == NUMBERS && !of_numbers)
         PyErr_Format(PyExc_TypeError, "a buffer of %s has integers, not the format '%.50s' (%.200s)", name_of(items), format,
                      Py_TYPE(object)->tp_name);
     else if (view->ndim != 1)
@@ -211,21 +221,54 @@ static bool items_of_iterable(PyObject *object, Items *items)
     return items->iterator != NULL;
 }
 
-/* Opens the entries of a numpy array whose buffer cannot be read, and clears the error that is set. Keeps the error of a buffer
- * that was read, and that of another object. */
+/* Marks each None of a list as missing, as a Series does. */
+static bool find_none(PyObject *list, Items *items)
+{
+    size_t count = (size_t)PyList_GET_SIZE(list);
+    for (size_t i = 0; i < count; i++) {
+        if (PyList_GET_ITEM(list, (Py_ssize_t)i) != Py_None)
+            continue;
+        if (items->missing == NULL) {
+            items->missing = PyMem_Calloc(count, sizeof(bool));
+            items->count = count;
+        }
+        if (items->missing == NULL || !set_count(items, count)) {
+            if (items->missing == NULL)
+                PyErr_NoMemory();
+            return false;
+        }
+        items->missing[i] = items->has_gaps = true;
+    }
+    return true;
+}
+
+/* Returns whether the error that is set says that a buffer has another format, or is of a kind that cannot be exported. */
+static bool is_format_error(void)
+{
+    return PyErr_ExceptionMatches(PyExc_TypeError) || PyErr_ExceptionMatches(PyExc_ValueError) ||
+           PyErr_ExceptionMatches(PyExc_BufferError);
+}
+
+/* Opens the entries of a numpy array whose buffer has another format, and clears the error that says so. Keeps the error of a
+ * buffer that was read, that of another object, and any other error. */
 static bool items_of_entries(PyObject *array, Items *items)
 {
+    if (items->view.obj != NULL || !is_format_error())
+        return false;
     PyObject *type, *error, *trace;
     PyErr_Fetch(&type, &error, &trace);
-    if (!is_numpy_array(array) || items->view.obj != NULL) {
+    int in_array = is_numpy_array(array);
+    if (in_array == 0) {
         PyErr_Restore(type, error, trace);
         return false;
     }
     Py_XDECREF(type);
     Py_XDECREF(error);
     Py_XDECREF(trace);
+    if (in_array < 0)
+        return false;
     PyObject *entries = array_entries(array, name_of(items));
-    bool opened = entries != NULL && items_of_tuple(entries, items);
+    bool opened = entries != NULL && find_none(entries, items) && items_of_tuple(entries, items);
     Py_XDECREF(entries);
     return opened;
 }

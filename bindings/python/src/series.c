@@ -1,28 +1,16 @@
 /* Columns with a type and an array of their values, such as a Series or an Index of pandas. */
 #include "sketches.h"
 
-bool is_series(PyObject *object)
+int is_series(PyObject *object)
 {
-    return type_has(object, "to_numpy") && type_has(object, "dtype");
+    return type_has_both(object, "to_numpy", "dtype");
 }
 
-/* Returns whether the type is one of numpy's own. */
-static bool is_numpy_type(PyObject *dtype)
-{
-    PyObject *numpy = PyDict_GetItemString(PyImport_GetModuleDict(), "numpy");
-    PyObject *type = numpy != NULL ? attribute(numpy, "dtype") : NULL;
-    int answer = type != NULL ? PyObject_IsInstance(dtype, type) : 0;
-    Py_XDECREF(type);
-    PyErr_Clear();
-    return answer > 0;
-}
-
-/* Returns numpy's type of the integers of a column that may miss some, or NULL if it has others. */
+/* Returns numpy's type of the integers of a column that may miss some. Returns NULL if it has others, or with an error set. */
 static PyObject *integer_type(PyObject *dtype)
 {
-    PyObject *own = type_has(dtype, "numpy_dtype") ? attribute(dtype, "numpy_dtype") : NULL;
-    Py_UCS4 kind = own != NULL ? kind_of_array(own) : 0;
-    PyErr_Clear();
+    PyObject *own = type_has(dtype, "numpy_dtype") > 0 ? attribute(dtype, "numpy_dtype") : NULL;
+    int kind = own != NULL ? kind_of_array(own) : 0;
     if (kind != 'i' && kind != 'u')
         Py_CLEAR(own);
     return own;
@@ -31,8 +19,9 @@ static PyObject *integer_type(PyObject *dtype)
 /* Sets `missing` to the array of `isna`. Without such a method no value is missing. */
 static bool find_missing(PyObject *series, Source *source)
 {
-    if (!type_has(series, "isna"))
-        return true;
+    int has = type_has(series, "isna");
+    if (has <= 0)
+        return has == 0;
     source->missing = called(series, "isna");
     if (source->missing != NULL && !PyObject_CheckBuffer(source->missing))
         Py_SETREF(source->missing, called(source->missing, "to_numpy"));
@@ -75,39 +64,57 @@ static bool array_source(PyObject *series, bool may_miss, Source *source)
     return false;
 }
 
-/* Reads the column by Arrow's interface. Sets no error if that needs a package that is not there. */
-static bool arrow_source(PyObject *series, Source *source)
+/* Clears the error that is set if it says that a package is not there. */
+static void clear_import_error(void)
+{
+    if (PyErr_ExceptionMatches(PyExc_ImportError))
+        PyErr_Clear();
+}
+
+/* Reads the column by Arrow's interface. Returns 0 if that needs a package that is not there. */
+static int arrow_source(PyObject *series, Source *source)
 {
     source->values = arrow_export(series);
     source->of_arrow = source->values != NULL;
-    if (source->values == NULL && PyErr_ExceptionMatches(PyExc_ImportError))
-        PyErr_Clear();
-    if (source->values == NULL)
-        return false;
+    if (source->values == NULL) {
+        clear_import_error();
+        return PyErr_Occurred() ? -1 : 0;
+    }
     PyObject *numpy = PyImport_ImportModule("numpy");
     source->in_array = numpy != NULL;
     Py_XDECREF(numpy);
-    PyErr_Clear();
-    return true;
+    if (numpy == NULL)
+        clear_import_error();
+    return PyErr_Occurred() ? -1 : 1;
+}
+
+/* Reads a column whose type is none of numpy's, has no categories and is not known to be of integers. */
+static bool other_source(PyObject *series, Source *source)
+{
+    int arrow = is_arrow(series);
+    if (arrow > 0)
+        arrow = arrow_source(series, source);
+    return arrow == 0 ? array_source(series, true, source) : arrow > 0;
 }
 
 static bool source_by_type(PyObject *series, PyObject *dtype, bool of_weights, Source *source)
 {
-    if (is_numpy_type(dtype))
-        return array_source(series, kind_of_array(dtype) == 'O', source);
-    bool has_categories = type_has(dtype, "categories") && type_has(series, "array");
-    PyObject *integers = integer_type(dtype);
-    bool found;
-    if (integers != NULL)
-        found = integer_source(series, integers, source);
-    else if (has_categories && !of_weights)
-        found = category_source(series, source);
-    else if (!has_categories && is_arrow(series) && (arrow_source(series, source) || PyErr_Occurred()))
-        found = source->of_arrow;
-    else
-        found = array_source(series, true, source);
-    Py_XDECREF(integers);
-    return found;
+    int of_numpy = is_of(dtype, "numpy", "dtype");
+    int kind = of_numpy > 0 ? kind_of_array(dtype) : of_numpy;
+    if (of_numpy > 0 && kind >= 0)
+        return array_source(series, kind == 'O', source);
+    PyObject *integers = of_numpy == 0 ? integer_type(dtype) : NULL;
+    if (integers != NULL) {
+        bool found = integer_source(series, integers, source);
+        Py_DECREF(integers);
+        return found;
+    }
+    int has_categories = PyErr_Occurred() ? -1 : type_has(dtype, "categories");
+    if (has_categories > 0)
+        has_categories = type_has(series, "array");
+    if (has_categories > 0)
+        return of_weights ? array_source(series, true, source) : category_source(series, source);
+    return has_categories == 0 && other_source(series, source);
 }
 
 bool series_source(PyObject *series, bool of_weights, Source *source)

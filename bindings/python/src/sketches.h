@@ -196,11 +196,19 @@ PyObject *attribute(PyObject *object, const char *name);
 /* Calls a method without arguments. */
 PyObject *called(PyObject *object, const char *name);
 
+/* The tests of an object below return 1 or 0, or -1 with an error set: only an error that means 'no' is cleared. */
+
 /* Returns whether the object's type has an attribute of this name. */
-bool type_has(PyObject *object, const char *name);
+int type_has(PyObject *object, const char *name);
+
+/* Returns whether the object's type has attributes of both names. */
+int type_has_both(PyObject *object, const char *first, const char *second);
+
+/* Returns whether a module is imported and the object is an instance of its class. */
+int is_of(PyObject *object, const char *module, const char *name);
 
 /* Returns whether the object is a mapping of items to weights: it has keys and items, and is not a table or a pandas Series. */
-bool is_mapping(PyObject *object);
+int is_mapping(PyObject *object);
 
 /* Returns the keys and the values of a mapping as two lists in the same order. */
 bool mapping_split(PyObject *mapping, PyObject **keys, PyObject **values);
@@ -223,26 +231,26 @@ void source_release(Source *source);
 /* Sets the error for a table, and returns false. */
 bool no_table(const Source *source);
 
-bool is_numpy_array(PyObject *object);
+int is_numpy_array(PyObject *object);
 
 /* Returns whether the object is an array of the module `array` or of numpy, in which unsigned 8-bit numbers are numbers. In other
  * buffers they are bytes. */
-bool is_array_of_bytes(PyObject *object);
+int is_array_of_bytes(PyObject *object);
 
 /* Returns a list of the entries of a numpy array. Sets an error, which names them by `what`, if they are neither strings nor
  * objects. An empty array is accepted. */
 PyObject *array_entries(PyObject *array, const char *what);
 
 /* Returns whether the object is a numpy array that may have masked entries. */
-bool is_masked(PyObject *object);
+int is_masked(PyObject *object);
 
-/* Returns the letter for the kind of an array's type, or 0 if it has none. */
-Py_UCS4 kind_of_array(PyObject *dtype);
+/* Returns the letter for the kind of an array's type, 0 if it has none, or -1 with an error set. */
+int kind_of_array(PyObject *dtype);
 
 /* --- series.c --- */
 
 /* Returns whether the object is a column with a type and an array of its values, such as a pandas Series or Index. */
-bool is_series(PyObject *object);
+int is_series(PyObject *object);
 
 /* Finds out what the items of a Series are read from. Its missing values are those of its `isna`. */
 bool series_source(PyObject *series, bool of_weights, Source *source);
@@ -387,8 +395,8 @@ int32_t chunk_read(Chunk *chunk, const Items *items, const Weights *weights, siz
 
 /* --- arrow.c --- */
 
-/* Returns whether the object exports a column by Arrow's C data interface. */
-bool is_arrow(PyObject *object);
+/* Returns whether the object exports a column by Arrow's C data interface, or -1 with an error set. */
+int is_arrow(PyObject *object);
 
 /* Calls the object's export. Returns a capsule of a stream, or a tuple of the capsules of a schema and an array. */
 PyObject *arrow_export(PyObject *object);
@@ -405,6 +413,9 @@ struct Weights {
     bool with_sign; /* whether a weight may be below 0 */
     Items items;
 };
+
+/* Finds the weight among the arguments of an update, or NULL. Returns false, with an error set, if the arguments are others. */
+bool update_arguments(PyObject *const *args, Py_ssize_t count, PyObject *names, PyObject **weight);
 
 /* Opens the arguments of an update: a mapping, or items with weights, which may be NULL. */
 bool update_open(PyObject *given, PyObject *given_weights, bool with_sign, Items *items, Weights *weights);
@@ -498,7 +509,7 @@ int filter_has(PyObject *object, PyObject *given);
 extern const char count_update_doc[];
 extern const char count_estimate_doc[];
 extern const char count_upper_bound_doc[];
-PyObject *count_update(PyObject *object, PyObject *const *args, Py_ssize_t count);
+PyObject *count_update(PyObject *object, PyObject *const *args, Py_ssize_t count, PyObject *names);
 PyObject *count_at(PyObject *object, PyObject *item);
 PyObject *count_estimate(PyObject *object, PyObject *given);
 PyObject *count_upper_bound(PyObject *object, PyObject *item);
@@ -508,7 +519,7 @@ PyObject *count_upper_bound(PyObject *object, PyObject *item);
 extern const char frequent_update_doc[];
 extern const char frequent_bounds_doc[];
 extern const char frequent_estimate_doc[];
-PyObject *frequent_update(PyObject *object, PyObject *const *args, Py_ssize_t count);
+PyObject *frequent_update(PyObject *object, PyObject *const *args, Py_ssize_t count, PyObject *names);
 PyObject *frequent_bounds(PyObject *object, PyObject *items);
 PyObject *frequent_at(PyObject *object, PyObject *item);
 PyObject *frequent_estimate(PyObject *object, PyObject *items);

@@ -3,10 +3,14 @@
 
 #include <string.h>
 
-static bool is_many(PyObject *object)
+/* Returns whether the object is many weights, or -1 with an error set. */
+static int is_many(PyObject *object)
 {
-    return !is_single(object) &&
-           (PyObject_CheckBuffer(object) || Py_TYPE(object)->tp_iter != NULL || PySequence_Check(object) || is_arrow(object));
+    if (is_single(object))
+        return 0;
+    if (PyObject_CheckBuffer(object) || Py_TYPE(object)->tp_iter != NULL || PySequence_Check(object))
+        return 1;
+    return is_arrow(object);
 }
 
 /* Finds out what weights are read from. Sets an error for a set, and for a mapping, whose keys would be read. */
@@ -14,7 +18,7 @@ static bool weight_source_of(PyObject *object, Source *source)
 {
     if (PyAnySet_Check(object))
         PyErr_Format(PyExc_TypeError, "weights come in the order of the items, and a %.200s has none", Py_TYPE(object)->tp_name);
-    else if (is_mapping(object))
+    else if (is_mapping(object) > 0)
         PyErr_Format(PyExc_TypeError, "weights are no mapping (%.200s): a mapping of items to weights is the first argument",
                      Py_TYPE(object)->tp_name);
     return !PyErr_Occurred() && source_of(object, "update", true, source);
@@ -94,17 +98,39 @@ static bool open_sources(const Source *source, const Source *weight_source, Item
 /* Finds out what the arguments are read from. */
 static bool find_sources(PyObject *given, PyObject *given_weights, Source *source, Source *weight_source, Weights *weights)
 {
-    if (is_mapping(given)) {
+    int mapping = is_mapping(given);
+    if (mapping < 0)
+        return false;
+    if (mapping > 0) {
         if (given_weights != NULL)
             PyErr_SetString(PyExc_TypeError, "a mapping of items to weights takes no second argument");
         weights->each = given_weights == NULL && mapping_split(given, &source->values, &weight_source->values);
         return weights->each;
     }
-    weights->each = given_weights != NULL && is_many(given_weights);
+    int many = given_weights != NULL ? is_many(given_weights) : 0;
+    if (many < 0)
+        return false;
+    weights->each = many > 0;
     if (weights->each)
         return source_of(given, "update", false, source) && weight_source_of(given_weights, weight_source);
     return (given_weights == NULL || number_of_kind(given_weights, "weight", weights->with_sign, &weights->same)) &&
            source_of(given, "update", false, source);
+}
+
+bool update_arguments(PyObject *const *args, Py_ssize_t count, PyObject *names, PyObject **weight)
+{
+    Py_ssize_t named = names != NULL ? PyTuple_GET_SIZE(names) : 0;
+    for (Py_ssize_t i = 0; i < named; i++)
+        if (PyUnicode_CompareWithASCIIString(PyTuple_GET_ITEM(names, i), "weight") != 0) {
+            PyErr_Format(PyExc_TypeError, "update() got an unexpected keyword argument '%U'", PyTuple_GET_ITEM(names, i));
+            return false;
+        }
+    if (count < 1 || count + named > 2) {
+        PyErr_Format(PyExc_TypeError, "update takes items and a weight, not %zd arguments", count + named);
+        return false;
+    }
+    *weight = count + named == 2 ? args[1] : NULL;
+    return true;
 }
 
 bool update_open(PyObject *given, PyObject *given_weights, bool with_sign, Items *items, Weights *weights)

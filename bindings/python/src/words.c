@@ -31,6 +31,10 @@ static bool text_open(PyObject *given, const Method *method, Text *text)
         text->length = text->bytes != NULL ? (size_t)length : 0;
         return text->bytes != NULL;
     }
+    if (!PyObject_CheckBuffer(given)) {
+        PyErr_Format(PyExc_TypeError, "%s takes a str or a buffer of bytes, not %.200s", method->name, Py_TYPE(given)->tp_name);
+        return false;
+    }
     if (PyObject_GetBuffer(given, &text->view, PyBUF_ND | PyBUF_FORMAT) < 0)
         return false;
     text->bytes = text->view.buf;
@@ -189,7 +193,8 @@ static bool take_text(Sketch *self, Text *text, const Method *method)
     return true;
 }
 
-/* Returns the number of bytes, or of the characters of a str, before those at the end that are not taken. */
+/* Returns the number of bytes, or of the characters of a str, before those at the end that are not taken. It is made before any
+ * word or line is taken, so that no error comes after all of them. */
 static PyObject *used_of(PyObject *given, const Text *text, size_t whole)
 {
     size_t used = text->length;
@@ -216,8 +221,9 @@ static PyObject *take(PyObject *object, PyObject *args, PyObject *keywords, cons
         size_t whole = text.length;
         if (!final)
             text.length = method->of_lines ? ds_finished_lines(text.bytes, whole) : ds_finished_words(text.bytes, whole);
-        if (take_text(self, &text, method))
-            used = used_of(given, &text, whole);
+        used = used_of(given, &text, whole);
+        if (used != NULL && !take_text(self, &text, method))
+            Py_CLEAR(used);
     }
     text_release(&text);
     return used;

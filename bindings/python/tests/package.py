@@ -45,7 +45,7 @@ def main():
         of_package, of_jobs = f"{BINDINGS}/python/tests/run.py", f"{BINDINGS}/dask/tests/run.py"
         for name, script, path, seconds, most_skipped in [
             ("the package with numpy", of_package, built, 600, 0),
-            ("the package without numpy", of_package, f"{hidden}:{built}", 600, 21),
+            ("the package without numpy", of_package, f"{hidden}:{built}", 600, 22),
             ("the jobs on Dask", of_jobs, built, 1200, 0),
         ]:
             more = counts_of(name, script, path, seconds, most_skipped, program)

@@ -221,7 +221,7 @@ class Images(unittest.TestCase):
                 with self.assertRaises(ds.SketchError) as refused:
                     ds.FrequentItemsSketch.deserialize(image, item=kind, sample_size=wrong)
                 self.assertEqual((refused.exception.kind, refused.exception.fault), ("InvalidArgument", "BadSampleSize"))
-            self.assertRaises(ValueError, ds.FrequentItemsSketch.deserialize, image, sample_size=-2)
+            self.assertRaises(ValueError, ds.FrequentItemsSketch.deserialize, image, kind, sample_size=-2)
 
     def test_refused_images(self):
         heavy = ds.FrequentItemsSketch(64)
@@ -231,13 +231,13 @@ class Images(unittest.TestCase):
             altered = bytearray(image)
             altered[place] ^= 0xFF
             with self.assertRaises(ds.SketchError) as refused:
-                ds.FrequentItemsSketch.deserialize(altered)
+                ds.FrequentItemsSketch.deserialize(altered, int)
             self.assertEqual((refused.exception.kind, refused.exception.fault), ("InvalidData", fault))
         for length in range(len(image)):
             with self.assertRaises(ds.SketchError):
-                ds.FrequentItemsSketch.deserialize(image[:length])
+                ds.FrequentItemsSketch.deserialize(image[:length], int)
         with self.assertRaises(ds.SketchError) as refused:
-            ds.FrequentItemsSketch.deserialize(image, max_bytes=100)
+            ds.FrequentItemsSketch.deserialize(image, int, max_bytes=100)
         self.assertEqual(refused.exception.fault, "TableTooLarge")
         with self.assertRaises(ValueError):
             ds.FrequentItemsSketch.deserialize(image, item="text")
@@ -252,10 +252,10 @@ class Images(unittest.TestCase):
             for _ in range(chance.randint(1, 3)):
                 altered[chance.randrange(len(altered))] = chance.randrange(256)
             try:
-                read = ds.FrequentItemsSketch.deserialize(altered, max_bytes=1 << 16)
+                read = ds.FrequentItemsSketch.deserialize(altered, int, max_bytes=1 << 16)
             except (ds.SketchError, MemoryError):
                 continue
-            self.assertEqual(ds.FrequentItemsSketch.deserialize(bytes(read)).total_weight, read.total_weight)
+            self.assertEqual(ds.FrequentItemsSketch.deserialize(bytes(read), int).total_weight, read.total_weight)
 
 
 if __name__ == "__main__":

@@ -418,12 +418,61 @@ class Types(unittest.TestCase):
         self.assertEqual(list(load.estimate(mixed)), [1, 1, 1])
         self.assertEqual(filled(["a"]).contains(numpy.array(["a\0", "\0a"])).tolist(), [True, False])
 
+    @unittest.skipIf(numpy is None or pandas is None, "no numpy or pandas here")
+    def test_none_in_an_array_is_missing(self):
+        """None means the same in an array of objects, a masked one and a Series: a missing item or weight."""
+        items, weights = numpy.array(["a", None, "b", "a"], dtype=object), numpy.array([1, 2, None, 4], dtype=object)
+        for ways in ((items, weights), (pandas.Series(items), pandas.Series(weights, dtype=object)),
+                     (numpy.ma.array(items, mask=False), numpy.ma.array(weights, mask=False))):
+            load, heavy = sketches()
+            for sketch in (load, heavy):
+                sketch.update(ways[0])
+                sketch.update(*ways)
+                self.assertEqual((sketch["a"], sketch["b"], sketch.total_weight), (2 + 5, 1, 8))
+            seen = filled()
+            seen.insert(ways[0])
+            self.assertEqual(seen.contains(["a", "b"]), [True, True])
+            self.assertRaisesRegex((TypeError, ValueError), "missing|masked", seen.contains, ways[0])
+        self.assertRaises(TypeError, filled().insert, [None])
+
+    def test_weight_by_name(self):
+        for sketch in sketches():
+            sketch.update("a", weight=3)
+            sketch.update(["a", "b"], weight=[1, 2])
+            self.assertEqual((sketch["a"], sketch["b"]), (4, 2))
+            for wrong in ({"weights": 3}, {"items": "a"}, {"weight": 1, "more": 2}):
+                self.assertRaisesRegex(TypeError, "unexpected keyword argument", sketch.update, "a", **wrong)
+            self.assertRaises(TypeError, sketch.update, "a", 1, weight=1)
+            self.assertRaises(TypeError, sketch.update, weight=1)
+
+    def test_messages(self):
+        """Messages that name what was wrong, and what to write instead."""
+        heavy = ds.FrequentItemsSketch(64, item="str")
+        cases = [(lambda: heavy.update(memoryview(b"abc")), TypeError, "bytes of a memoryview may be either"),
+                 (lambda: heavy.update((ctypes.c_uint8 * 3)()), TypeError, "bytes of a c_ubyte_Array_3 may be either"),
+                 (lambda: heavy.update(2**70), OverflowError, "above 2\\*\\*64 - 1"),
+                 (lambda: heavy.update(-2**70), OverflowError, "below -2\\*\\*63"),
+                 (lambda: heavy.update([2**70]), OverflowError, "above 2\\*\\*64 - 1"),
+                 (lambda: heavy.update_words(["to", "be"]), TypeError, "update_words takes a str or a buffer of bytes, not list")]
+        if numpy is not None:
+            cases += [(lambda: heavy.update(["a"], numpy.array([1.5])), TypeError, "an array of weights has integers, not float64"),
+                      (lambda: heavy.update(numpy.array([1.5])), TypeError, "an array of items has integers or strings, not float64"),
+                      (lambda: heavy.update([numpy.ma.masked]), TypeError, "an item is a str or an int, not Masked"),
+                      (lambda: heavy.update(numpy.array(["2020"], dtype="M8[ns]")), TypeError, "no times .* array.astype\\('int64'\\)")]
+        if pandas is not None:
+            levels = pandas.MultiIndex.from_tuples([("a", 1), ("b", 2)])
+            cases += [(lambda: heavy.update(levels), TypeError, "get_level_values\\(0\\)")]
+        for call, error, message in cases:
+            with self.assertRaisesRegex(error, message):
+                call()
+        self.assertEqual(heavy.total_weight, 0)
+
     @unittest.skipIf(numpy is None, "no numpy here")
     def test_arrays_that_are_rejected(self):
         words = numpy.array(["a", "b"])
         bad = [(numpy.array([1.0]), TypeError), (numpy.array([True]), TypeError), (numpy.array([1j]), TypeError),
                (numpy.array(["2020"], dtype="M8[Y]"), TypeError), (numpy.array([5], dtype="m8[s]"), TypeError),
-               (numpy.array([("a", 1)], dtype="U1,i4"), TypeError), (numpy.array(["a", None]), TypeError),
+               (numpy.array([("a", 1)], dtype="U1,i4"), TypeError),
                (numpy.array([b"a", 1.0], dtype=object), TypeError), (numpy.array([b"\xff"]), ValueError),
                (numpy.array(["\ud800"]), ValueError), (numpy.array(5), ValueError), (numpy.array("a"), ValueError),
                (words.reshape(2, 1), ValueError), (numpy.zeros((2, 2), dtype="i4"), ValueError),

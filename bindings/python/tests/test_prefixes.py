@@ -36,7 +36,7 @@ def readers(kind, **more):
 
 FILTERS = readers(ds.BloomFilter)
 COUNTS, SIGNED_COUNTS = readers(ds.CountMinSketch), readers(ds.CountMinSketch, signed=True)
-NUMBERS, UNSIGNED = readers(ds.FrequentItemsSketch, key=KEY), readers(ds.FrequentItemsSketch, item="u64", key=KEY)
+NUMBERS, UNSIGNED = readers(ds.FrequentItemsSketch, item=int, key=KEY), readers(ds.FrequentItemsSketch, item="u64", key=KEY)
 STRINGS = readers(ds.FrequentItemsSketch, item=str, key=KEY)
 
 
@@ -136,14 +136,16 @@ class Prefixes(unittest.TestCase):
             self.assertEqual((read["a"], used), (5, len(image) - 4))
         self.assertEqual((call(str, sample_size=4)[0].sample_size, call(str)[0].sample_size), (4, 48))
         self.assertEqual(outcome(call, str, sample_size=3), ("InvalidArgument", "BadSampleSize"))
-        self.assertRaisesRegex(ValueError, "the key has 16 bytes, not 3", call, key=b"abc")
+        self.assertRaisesRegex(ValueError, "the key has 16 bytes, not 3", call, item=str, key=b"abc")
         self.assertRaisesRegex(ValueError, "item is int", call, item=bytes)
-        for kind in (ds.BloomFilter, ds.CountMinSketch, ds.FrequentItemsSketch):
+        for kind, more in ((ds.BloomFilter, {}), (ds.CountMinSketch, {}), (ds.FrequentItemsSketch, {"item": int})):
             self.assertRaisesRegex(TypeError, "deserialize_prefix", kind.deserialize_prefix)
-            self.assertRaises(TypeError, kind.deserialize_prefix, "text")
-            self.assertRaises(TypeError, kind.deserialize_prefix, b"", max_bytes="1")
-            self.assertRaises(ValueError, kind.deserialize_prefix, b"", max_bytes=-1)
-            self.assertEqual(outcome(kind.deserialize_prefix, b""), ("InvalidData", "InsufficientData"))
+            self.assertRaises(TypeError, kind.deserialize_prefix, "text", **more)
+            self.assertRaises(TypeError, kind.deserialize_prefix, b"", max_bytes="1", **more)
+            self.assertRaises(ValueError, kind.deserialize_prefix, b"", max_bytes=-1, **more)
+            self.assertEqual(outcome(functools.partial(kind.deserialize_prefix, **more), b""), ("InvalidData", "InsufficientData"))
+        # an image does not state the type of its items
+        self.assertRaisesRegex(TypeError, "item", ds.FrequentItemsSketch.deserialize, image)
 
     def test_keys(self):
         """Without a key each sketch gets its own. So 48 items are in another order, but with a probability far below 2^-64."""
