@@ -68,8 +68,44 @@ CREATE AGGREGATE frequent_strings_union(frequent_strings) (
     SFUNC = frequent_strings_add_sketch, STYPE = internal, SSPACE = 75776, FINALFUNC = frequent_strings_final,
     COMBINEFUNC = sketch_combine, SERIALFUNC = sketch_serial, DESERIALFUNC = sketch_deserial, PARALLEL = SAFE);
 CREATE FUNCTION sketch_union(frequent_strings, frequent_strings) RETURNS frequent_strings
-    LANGUAGE C IMMUTABLE STRICT PARALLEL SAFE COST 100 AS 'MODULE_PATHNAME', 'frequent_strings_union';
+    LANGUAGE C STABLE STRICT PARALLEL SAFE COST 100 AS 'MODULE_PATHNAME', 'frequent_strings_union';
 CREATE OPERATOR | (LEFTARG = frequent_strings, RIGHTARG = frequent_strings, FUNCTION = sketch_union, COMMUTATOR = |);
+
+-- Sketches compare their images. The order is that of the bytes, for DISTINCT, ORDER BY and indexes: it means nothing else.
+CREATE FUNCTION frequent_strings_eq(frequent_strings, frequent_strings) RETURNS boolean
+    LANGUAGE C IMMUTABLE STRICT PARALLEL SAFE COST 10 AS 'MODULE_PATHNAME', 'sketch_eq';
+CREATE FUNCTION frequent_strings_ne(frequent_strings, frequent_strings) RETURNS boolean
+    LANGUAGE C IMMUTABLE STRICT PARALLEL SAFE COST 10 AS 'MODULE_PATHNAME', 'sketch_ne';
+CREATE FUNCTION frequent_strings_lt(frequent_strings, frequent_strings) RETURNS boolean
+    LANGUAGE C IMMUTABLE STRICT PARALLEL SAFE COST 10 AS 'MODULE_PATHNAME', 'sketch_lt';
+CREATE FUNCTION frequent_strings_le(frequent_strings, frequent_strings) RETURNS boolean
+    LANGUAGE C IMMUTABLE STRICT PARALLEL SAFE COST 10 AS 'MODULE_PATHNAME', 'sketch_le';
+CREATE FUNCTION frequent_strings_gt(frequent_strings, frequent_strings) RETURNS boolean
+    LANGUAGE C IMMUTABLE STRICT PARALLEL SAFE COST 10 AS 'MODULE_PATHNAME', 'sketch_gt';
+CREATE FUNCTION frequent_strings_ge(frequent_strings, frequent_strings) RETURNS boolean
+    LANGUAGE C IMMUTABLE STRICT PARALLEL SAFE COST 10 AS 'MODULE_PATHNAME', 'sketch_ge';
+CREATE FUNCTION frequent_strings_cmp(frequent_strings, frequent_strings) RETURNS integer
+    LANGUAGE C IMMUTABLE STRICT PARALLEL SAFE COST 10 AS 'MODULE_PATHNAME', 'sketch_cmp';
+CREATE FUNCTION frequent_strings_hash(frequent_strings) RETURNS integer
+    LANGUAGE C IMMUTABLE STRICT PARALLEL SAFE COST 10 AS 'MODULE_PATHNAME', 'sketch_hash';
+CREATE FUNCTION frequent_strings_hash_extended(frequent_strings, bigint) RETURNS bigint
+    LANGUAGE C IMMUTABLE STRICT PARALLEL SAFE COST 10 AS 'MODULE_PATHNAME', 'sketch_hash_extended';
+CREATE OPERATOR = (LEFTARG = frequent_strings, RIGHTARG = frequent_strings, FUNCTION = frequent_strings_eq,
+    COMMUTATOR = =, NEGATOR = <>, RESTRICT = eqsel, JOIN = eqjoinsel, HASHES, MERGES);
+CREATE OPERATOR <> (LEFTARG = frequent_strings, RIGHTARG = frequent_strings, FUNCTION = frequent_strings_ne,
+    COMMUTATOR = <>, NEGATOR = =, RESTRICT = neqsel, JOIN = neqjoinsel);
+CREATE OPERATOR < (LEFTARG = frequent_strings, RIGHTARG = frequent_strings, FUNCTION = frequent_strings_lt,
+    COMMUTATOR = >, NEGATOR = >=, RESTRICT = scalarltsel, JOIN = scalarltjoinsel);
+CREATE OPERATOR <= (LEFTARG = frequent_strings, RIGHTARG = frequent_strings, FUNCTION = frequent_strings_le,
+    COMMUTATOR = >=, NEGATOR = >, RESTRICT = scalarlesel, JOIN = scalarlejoinsel);
+CREATE OPERATOR > (LEFTARG = frequent_strings, RIGHTARG = frequent_strings, FUNCTION = frequent_strings_gt,
+    COMMUTATOR = <, NEGATOR = <=, RESTRICT = scalargtsel, JOIN = scalargtjoinsel);
+CREATE OPERATOR >= (LEFTARG = frequent_strings, RIGHTARG = frequent_strings, FUNCTION = frequent_strings_ge,
+    COMMUTATOR = <=, NEGATOR = <, RESTRICT = scalargesel, JOIN = scalargejoinsel);
+CREATE OPERATOR CLASS frequent_strings_ops DEFAULT FOR TYPE frequent_strings USING hash AS
+    OPERATOR 1 =, FUNCTION 1 frequent_strings_hash(frequent_strings), FUNCTION 2 frequent_strings_hash_extended(frequent_strings, bigint);
+CREATE OPERATOR CLASS frequent_strings_ops DEFAULT FOR TYPE frequent_strings USING btree AS
+    OPERATOR 1 <, OPERATOR 2 <=, OPERATOR 3 =, OPERATOR 4 >=, OPERATOR 5 >, FUNCTION 1 frequent_strings_cmp(frequent_strings, frequent_strings);
 
 CREATE FUNCTION lower_bound(sketch frequent_strings, item text) RETURNS bigint
     LANGUAGE C IMMUTABLE STRICT PARALLEL SAFE AS 'MODULE_PATHNAME', 'frequent_strings_lower_bound';
@@ -81,7 +117,7 @@ CREATE FUNCTION bounds(sketch frequent_strings, item text, OUT lower_bound bigin
     LANGUAGE C IMMUTABLE STRICT PARALLEL SAFE AS 'MODULE_PATHNAME', 'frequent_strings_bounds';
 CREATE FUNCTION frequent_rows(sketch frequent_strings, mode text DEFAULT 'no_false_negatives', threshold bigint DEFAULT 0,
     OUT item text, OUT estimate bigint, OUT lower_bound bigint, OUT upper_bound bigint) RETURNS SETOF record
-    LANGUAGE C IMMUTABLE STRICT PARALLEL SAFE ROWS 100 AS 'MODULE_PATHNAME', 'frequent_strings_rows';
+    LANGUAGE C STABLE STRICT PARALLEL SAFE ROWS 100 AS 'MODULE_PATHNAME', 'frequent_strings_rows';
 CREATE FUNCTION status(sketch frequent_strings, OUT total_weight bigint, OUT maximum_error bigint, OUT num_active_items bigint,
     OUT maximum_map_capacity bigint, OUT current_map_capacity bigint, OUT max_map_size bigint)
     LANGUAGE C IMMUTABLE STRICT PARALLEL SAFE AS 'MODULE_PATHNAME', 'frequent_strings_status';
@@ -143,8 +179,44 @@ CREATE AGGREGATE frequent_bigints_union(frequent_bigints) (
     SFUNC = frequent_bigints_add_sketch, STYPE = internal, SSPACE = 40960, FINALFUNC = frequent_bigints_final,
     COMBINEFUNC = sketch_combine, SERIALFUNC = sketch_serial, DESERIALFUNC = sketch_deserial, PARALLEL = SAFE);
 CREATE FUNCTION sketch_union(frequent_bigints, frequent_bigints) RETURNS frequent_bigints
-    LANGUAGE C IMMUTABLE STRICT PARALLEL SAFE COST 100 AS 'MODULE_PATHNAME', 'frequent_bigints_union';
+    LANGUAGE C STABLE STRICT PARALLEL SAFE COST 100 AS 'MODULE_PATHNAME', 'frequent_bigints_union';
 CREATE OPERATOR | (LEFTARG = frequent_bigints, RIGHTARG = frequent_bigints, FUNCTION = sketch_union, COMMUTATOR = |);
+
+-- Sketches compare their images. The order is that of the bytes, for DISTINCT, ORDER BY and indexes: it means nothing else.
+CREATE FUNCTION frequent_bigints_eq(frequent_bigints, frequent_bigints) RETURNS boolean
+    LANGUAGE C IMMUTABLE STRICT PARALLEL SAFE COST 10 AS 'MODULE_PATHNAME', 'sketch_eq';
+CREATE FUNCTION frequent_bigints_ne(frequent_bigints, frequent_bigints) RETURNS boolean
+    LANGUAGE C IMMUTABLE STRICT PARALLEL SAFE COST 10 AS 'MODULE_PATHNAME', 'sketch_ne';
+CREATE FUNCTION frequent_bigints_lt(frequent_bigints, frequent_bigints) RETURNS boolean
+    LANGUAGE C IMMUTABLE STRICT PARALLEL SAFE COST 10 AS 'MODULE_PATHNAME', 'sketch_lt';
+CREATE FUNCTION frequent_bigints_le(frequent_bigints, frequent_bigints) RETURNS boolean
+    LANGUAGE C IMMUTABLE STRICT PARALLEL SAFE COST 10 AS 'MODULE_PATHNAME', 'sketch_le';
+CREATE FUNCTION frequent_bigints_gt(frequent_bigints, frequent_bigints) RETURNS boolean
+    LANGUAGE C IMMUTABLE STRICT PARALLEL SAFE COST 10 AS 'MODULE_PATHNAME', 'sketch_gt';
+CREATE FUNCTION frequent_bigints_ge(frequent_bigints, frequent_bigints) RETURNS boolean
+    LANGUAGE C IMMUTABLE STRICT PARALLEL SAFE COST 10 AS 'MODULE_PATHNAME', 'sketch_ge';
+CREATE FUNCTION frequent_bigints_cmp(frequent_bigints, frequent_bigints) RETURNS integer
+    LANGUAGE C IMMUTABLE STRICT PARALLEL SAFE COST 10 AS 'MODULE_PATHNAME', 'sketch_cmp';
+CREATE FUNCTION frequent_bigints_hash(frequent_bigints) RETURNS integer
+    LANGUAGE C IMMUTABLE STRICT PARALLEL SAFE COST 10 AS 'MODULE_PATHNAME', 'sketch_hash';
+CREATE FUNCTION frequent_bigints_hash_extended(frequent_bigints, bigint) RETURNS bigint
+    LANGUAGE C IMMUTABLE STRICT PARALLEL SAFE COST 10 AS 'MODULE_PATHNAME', 'sketch_hash_extended';
+CREATE OPERATOR = (LEFTARG = frequent_bigints, RIGHTARG = frequent_bigints, FUNCTION = frequent_bigints_eq,
+    COMMUTATOR = =, NEGATOR = <>, RESTRICT = eqsel, JOIN = eqjoinsel, HASHES, MERGES);
+CREATE OPERATOR <> (LEFTARG = frequent_bigints, RIGHTARG = frequent_bigints, FUNCTION = frequent_bigints_ne,
+    COMMUTATOR = <>, NEGATOR = =, RESTRICT = neqsel, JOIN = neqjoinsel);
+CREATE OPERATOR < (LEFTARG = frequent_bigints, RIGHTARG = frequent_bigints, FUNCTION = frequent_bigints_lt,
+    COMMUTATOR = >, NEGATOR = >=, RESTRICT = scalarltsel, JOIN = scalarltjoinsel);
+CREATE OPERATOR <= (LEFTARG = frequent_bigints, RIGHTARG = frequent_bigints, FUNCTION = frequent_bigints_le,
+    COMMUTATOR = >=, NEGATOR = >, RESTRICT = scalarlesel, JOIN = scalarlejoinsel);
+CREATE OPERATOR > (LEFTARG = frequent_bigints, RIGHTARG = frequent_bigints, FUNCTION = frequent_bigints_gt,
+    COMMUTATOR = <, NEGATOR = <=, RESTRICT = scalargtsel, JOIN = scalargtjoinsel);
+CREATE OPERATOR >= (LEFTARG = frequent_bigints, RIGHTARG = frequent_bigints, FUNCTION = frequent_bigints_ge,
+    COMMUTATOR = <=, NEGATOR = <, RESTRICT = scalargesel, JOIN = scalargejoinsel);
+CREATE OPERATOR CLASS frequent_bigints_ops DEFAULT FOR TYPE frequent_bigints USING hash AS
+    OPERATOR 1 =, FUNCTION 1 frequent_bigints_hash(frequent_bigints), FUNCTION 2 frequent_bigints_hash_extended(frequent_bigints, bigint);
+CREATE OPERATOR CLASS frequent_bigints_ops DEFAULT FOR TYPE frequent_bigints USING btree AS
+    OPERATOR 1 <, OPERATOR 2 <=, OPERATOR 3 =, OPERATOR 4 >=, OPERATOR 5 >, FUNCTION 1 frequent_bigints_cmp(frequent_bigints, frequent_bigints);
 
 CREATE FUNCTION lower_bound(sketch frequent_bigints, item bigint) RETURNS bigint
     LANGUAGE C IMMUTABLE STRICT PARALLEL SAFE AS 'MODULE_PATHNAME', 'frequent_bigints_lower_bound';
@@ -156,7 +228,7 @@ CREATE FUNCTION bounds(sketch frequent_bigints, item bigint, OUT lower_bound big
     LANGUAGE C IMMUTABLE STRICT PARALLEL SAFE AS 'MODULE_PATHNAME', 'frequent_bigints_bounds';
 CREATE FUNCTION frequent_rows(sketch frequent_bigints, mode text DEFAULT 'no_false_negatives', threshold bigint DEFAULT 0,
     OUT item bigint, OUT estimate bigint, OUT lower_bound bigint, OUT upper_bound bigint) RETURNS SETOF record
-    LANGUAGE C IMMUTABLE STRICT PARALLEL SAFE ROWS 100 AS 'MODULE_PATHNAME', 'frequent_bigints_rows';
+    LANGUAGE C STABLE STRICT PARALLEL SAFE ROWS 100 AS 'MODULE_PATHNAME', 'frequent_bigints_rows';
 CREATE FUNCTION status(sketch frequent_bigints, OUT total_weight bigint, OUT maximum_error bigint, OUT num_active_items bigint,
     OUT maximum_map_capacity bigint, OUT current_map_capacity bigint, OUT max_map_size bigint)
     LANGUAGE C IMMUTABLE STRICT PARALLEL SAFE AS 'MODULE_PATHNAME', 'frequent_bigints_status';
@@ -221,21 +293,41 @@ CREATE FUNCTION sketch_union(count_min, count_min) RETURNS count_min
     LANGUAGE C IMMUTABLE STRICT PARALLEL SAFE COST 100 AS 'MODULE_PATHNAME', 'count_min_union';
 CREATE OPERATOR | (LEFTARG = count_min, RIGHTARG = count_min, FUNCTION = sketch_union, COMMUTATOR = |);
 
+-- Sketches compare their images. The order is that of the bytes, for DISTINCT, ORDER BY and indexes: it means nothing else.
 CREATE FUNCTION count_min_eq(count_min, count_min) RETURNS boolean
-    LANGUAGE C IMMUTABLE STRICT PARALLEL SAFE COST 10 AS 'MODULE_PATHNAME', 'sketch_equal';
+    LANGUAGE C IMMUTABLE STRICT PARALLEL SAFE COST 10 AS 'MODULE_PATHNAME', 'sketch_eq';
 CREATE FUNCTION count_min_ne(count_min, count_min) RETURNS boolean
-    LANGUAGE C IMMUTABLE STRICT PARALLEL SAFE COST 10 AS 'MODULE_PATHNAME', 'sketch_not_equal';
+    LANGUAGE C IMMUTABLE STRICT PARALLEL SAFE COST 10 AS 'MODULE_PATHNAME', 'sketch_ne';
+CREATE FUNCTION count_min_lt(count_min, count_min) RETURNS boolean
+    LANGUAGE C IMMUTABLE STRICT PARALLEL SAFE COST 10 AS 'MODULE_PATHNAME', 'sketch_lt';
+CREATE FUNCTION count_min_le(count_min, count_min) RETURNS boolean
+    LANGUAGE C IMMUTABLE STRICT PARALLEL SAFE COST 10 AS 'MODULE_PATHNAME', 'sketch_le';
+CREATE FUNCTION count_min_gt(count_min, count_min) RETURNS boolean
+    LANGUAGE C IMMUTABLE STRICT PARALLEL SAFE COST 10 AS 'MODULE_PATHNAME', 'sketch_gt';
+CREATE FUNCTION count_min_ge(count_min, count_min) RETURNS boolean
+    LANGUAGE C IMMUTABLE STRICT PARALLEL SAFE COST 10 AS 'MODULE_PATHNAME', 'sketch_ge';
+CREATE FUNCTION count_min_cmp(count_min, count_min) RETURNS integer
+    LANGUAGE C IMMUTABLE STRICT PARALLEL SAFE COST 10 AS 'MODULE_PATHNAME', 'sketch_cmp';
 CREATE FUNCTION count_min_hash(count_min) RETURNS integer
     LANGUAGE C IMMUTABLE STRICT PARALLEL SAFE COST 10 AS 'MODULE_PATHNAME', 'sketch_hash';
 CREATE FUNCTION count_min_hash_extended(count_min, bigint) RETURNS bigint
     LANGUAGE C IMMUTABLE STRICT PARALLEL SAFE COST 10 AS 'MODULE_PATHNAME', 'sketch_hash_extended';
 CREATE OPERATOR = (LEFTARG = count_min, RIGHTARG = count_min, FUNCTION = count_min_eq,
-    COMMUTATOR = =, NEGATOR = <>, RESTRICT = eqsel, JOIN = eqjoinsel, HASHES);
+    COMMUTATOR = =, NEGATOR = <>, RESTRICT = eqsel, JOIN = eqjoinsel, HASHES, MERGES);
 CREATE OPERATOR <> (LEFTARG = count_min, RIGHTARG = count_min, FUNCTION = count_min_ne,
     COMMUTATOR = <>, NEGATOR = =, RESTRICT = neqsel, JOIN = neqjoinsel);
+CREATE OPERATOR < (LEFTARG = count_min, RIGHTARG = count_min, FUNCTION = count_min_lt,
+    COMMUTATOR = >, NEGATOR = >=, RESTRICT = scalarltsel, JOIN = scalarltjoinsel);
+CREATE OPERATOR <= (LEFTARG = count_min, RIGHTARG = count_min, FUNCTION = count_min_le,
+    COMMUTATOR = >=, NEGATOR = >, RESTRICT = scalarlesel, JOIN = scalarlejoinsel);
+CREATE OPERATOR > (LEFTARG = count_min, RIGHTARG = count_min, FUNCTION = count_min_gt,
+    COMMUTATOR = <, NEGATOR = <=, RESTRICT = scalargtsel, JOIN = scalargtjoinsel);
+CREATE OPERATOR >= (LEFTARG = count_min, RIGHTARG = count_min, FUNCTION = count_min_ge,
+    COMMUTATOR = <=, NEGATOR = <, RESTRICT = scalargesel, JOIN = scalargejoinsel);
 CREATE OPERATOR CLASS count_min_ops DEFAULT FOR TYPE count_min USING hash AS
-    OPERATOR 1 =, FUNCTION 1 count_min_hash(count_min),
-    FUNCTION 2 count_min_hash_extended(count_min, bigint);
+    OPERATOR 1 =, FUNCTION 1 count_min_hash(count_min), FUNCTION 2 count_min_hash_extended(count_min, bigint);
+CREATE OPERATOR CLASS count_min_ops DEFAULT FOR TYPE count_min USING btree AS
+    OPERATOR 1 <, OPERATOR 2 <=, OPERATOR 3 =, OPERATOR 4 >=, OPERATOR 5 >, FUNCTION 1 count_min_cmp(count_min, count_min);
 
 CREATE FUNCTION estimate(sketch count_min, item text) RETURNS bigint
     LANGUAGE C IMMUTABLE STRICT PARALLEL SAFE AS 'MODULE_PATHNAME', 'count_min_estimate_string';
@@ -309,21 +401,41 @@ CREATE FUNCTION sketch_union(signed_count_min, signed_count_min) RETURNS signed_
     LANGUAGE C IMMUTABLE STRICT PARALLEL SAFE COST 100 AS 'MODULE_PATHNAME', 'signed_count_min_union';
 CREATE OPERATOR | (LEFTARG = signed_count_min, RIGHTARG = signed_count_min, FUNCTION = sketch_union, COMMUTATOR = |);
 
+-- Sketches compare their images. The order is that of the bytes, for DISTINCT, ORDER BY and indexes: it means nothing else.
 CREATE FUNCTION signed_count_min_eq(signed_count_min, signed_count_min) RETURNS boolean
-    LANGUAGE C IMMUTABLE STRICT PARALLEL SAFE COST 10 AS 'MODULE_PATHNAME', 'sketch_equal';
+    LANGUAGE C IMMUTABLE STRICT PARALLEL SAFE COST 10 AS 'MODULE_PATHNAME', 'sketch_eq';
 CREATE FUNCTION signed_count_min_ne(signed_count_min, signed_count_min) RETURNS boolean
-    LANGUAGE C IMMUTABLE STRICT PARALLEL SAFE COST 10 AS 'MODULE_PATHNAME', 'sketch_not_equal';
+    LANGUAGE C IMMUTABLE STRICT PARALLEL SAFE COST 10 AS 'MODULE_PATHNAME', 'sketch_ne';
+CREATE FUNCTION signed_count_min_lt(signed_count_min, signed_count_min) RETURNS boolean
+    LANGUAGE C IMMUTABLE STRICT PARALLEL SAFE COST 10 AS 'MODULE_PATHNAME', 'sketch_lt';
+CREATE FUNCTION signed_count_min_le(signed_count_min, signed_count_min) RETURNS boolean
+    LANGUAGE C IMMUTABLE STRICT PARALLEL SAFE COST 10 AS 'MODULE_PATHNAME', 'sketch_le';
+CREATE FUNCTION signed_count_min_gt(signed_count_min, signed_count_min) RETURNS boolean
+    LANGUAGE C IMMUTABLE STRICT PARALLEL SAFE COST 10 AS 'MODULE_PATHNAME', 'sketch_gt';
+CREATE FUNCTION signed_count_min_ge(signed_count_min, signed_count_min) RETURNS boolean
+    LANGUAGE C IMMUTABLE STRICT PARALLEL SAFE COST 10 AS 'MODULE_PATHNAME', 'sketch_ge';
+CREATE FUNCTION signed_count_min_cmp(signed_count_min, signed_count_min) RETURNS integer
+    LANGUAGE C IMMUTABLE STRICT PARALLEL SAFE COST 10 AS 'MODULE_PATHNAME', 'sketch_cmp';
 CREATE FUNCTION signed_count_min_hash(signed_count_min) RETURNS integer
     LANGUAGE C IMMUTABLE STRICT PARALLEL SAFE COST 10 AS 'MODULE_PATHNAME', 'sketch_hash';
 CREATE FUNCTION signed_count_min_hash_extended(signed_count_min, bigint) RETURNS bigint
     LANGUAGE C IMMUTABLE STRICT PARALLEL SAFE COST 10 AS 'MODULE_PATHNAME', 'sketch_hash_extended';
 CREATE OPERATOR = (LEFTARG = signed_count_min, RIGHTARG = signed_count_min, FUNCTION = signed_count_min_eq,
-    COMMUTATOR = =, NEGATOR = <>, RESTRICT = eqsel, JOIN = eqjoinsel, HASHES);
+    COMMUTATOR = =, NEGATOR = <>, RESTRICT = eqsel, JOIN = eqjoinsel, HASHES, MERGES);
 CREATE OPERATOR <> (LEFTARG = signed_count_min, RIGHTARG = signed_count_min, FUNCTION = signed_count_min_ne,
     COMMUTATOR = <>, NEGATOR = =, RESTRICT = neqsel, JOIN = neqjoinsel);
+CREATE OPERATOR < (LEFTARG = signed_count_min, RIGHTARG = signed_count_min, FUNCTION = signed_count_min_lt,
+    COMMUTATOR = >, NEGATOR = >=, RESTRICT = scalarltsel, JOIN = scalarltjoinsel);
+CREATE OPERATOR <= (LEFTARG = signed_count_min, RIGHTARG = signed_count_min, FUNCTION = signed_count_min_le,
+    COMMUTATOR = >=, NEGATOR = >, RESTRICT = scalarlesel, JOIN = scalarlejoinsel);
+CREATE OPERATOR > (LEFTARG = signed_count_min, RIGHTARG = signed_count_min, FUNCTION = signed_count_min_gt,
+    COMMUTATOR = <, NEGATOR = <=, RESTRICT = scalargtsel, JOIN = scalargtjoinsel);
+CREATE OPERATOR >= (LEFTARG = signed_count_min, RIGHTARG = signed_count_min, FUNCTION = signed_count_min_ge,
+    COMMUTATOR = <=, NEGATOR = <, RESTRICT = scalargesel, JOIN = scalargejoinsel);
 CREATE OPERATOR CLASS signed_count_min_ops DEFAULT FOR TYPE signed_count_min USING hash AS
-    OPERATOR 1 =, FUNCTION 1 signed_count_min_hash(signed_count_min),
-    FUNCTION 2 signed_count_min_hash_extended(signed_count_min, bigint);
+    OPERATOR 1 =, FUNCTION 1 signed_count_min_hash(signed_count_min), FUNCTION 2 signed_count_min_hash_extended(signed_count_min, bigint);
+CREATE OPERATOR CLASS signed_count_min_ops DEFAULT FOR TYPE signed_count_min USING btree AS
+    OPERATOR 1 <, OPERATOR 2 <=, OPERATOR 3 =, OPERATOR 4 >=, OPERATOR 5 >, FUNCTION 1 signed_count_min_cmp(signed_count_min, signed_count_min);
 
 CREATE FUNCTION estimate(sketch signed_count_min, item text) RETURNS bigint
     LANGUAGE C IMMUTABLE STRICT PARALLEL SAFE AS 'MODULE_PATHNAME', 'signed_count_min_estimate_string';
@@ -400,21 +512,41 @@ CREATE FUNCTION sketch_intersection(bloom_filter, bloom_filter) RETURNS bloom_fi
     LANGUAGE C IMMUTABLE STRICT PARALLEL SAFE COST 100 AS 'MODULE_PATHNAME', 'bloom_filter_intersection';
 CREATE OPERATOR & (LEFTARG = bloom_filter, RIGHTARG = bloom_filter, FUNCTION = sketch_intersection, COMMUTATOR = &);
 
+-- Sketches compare their images. The order is that of the bytes, for DISTINCT, ORDER BY and indexes: it means nothing else.
 CREATE FUNCTION bloom_filter_eq(bloom_filter, bloom_filter) RETURNS boolean
-    LANGUAGE C IMMUTABLE STRICT PARALLEL SAFE COST 10 AS 'MODULE_PATHNAME', 'sketch_equal';
+    LANGUAGE C IMMUTABLE STRICT PARALLEL SAFE COST 10 AS 'MODULE_PATHNAME', 'sketch_eq';
 CREATE FUNCTION bloom_filter_ne(bloom_filter, bloom_filter) RETURNS boolean
-    LANGUAGE C IMMUTABLE STRICT PARALLEL SAFE COST 10 AS 'MODULE_PATHNAME', 'sketch_not_equal';
+    LANGUAGE C IMMUTABLE STRICT PARALLEL SAFE COST 10 AS 'MODULE_PATHNAME', 'sketch_ne';
+CREATE FUNCTION bloom_filter_lt(bloom_filter, bloom_filter) RETURNS boolean
+    LANGUAGE C IMMUTABLE STRICT PARALLEL SAFE COST 10 AS 'MODULE_PATHNAME', 'sketch_lt';
+CREATE FUNCTION bloom_filter_le(bloom_filter, bloom_filter) RETURNS boolean
+    LANGUAGE C IMMUTABLE STRICT PARALLEL SAFE COST 10 AS 'MODULE_PATHNAME', 'sketch_le';
+CREATE FUNCTION bloom_filter_gt(bloom_filter, bloom_filter) RETURNS boolean
+    LANGUAGE C IMMUTABLE STRICT PARALLEL SAFE COST 10 AS 'MODULE_PATHNAME', 'sketch_gt';
+CREATE FUNCTION bloom_filter_ge(bloom_filter, bloom_filter) RETURNS boolean
+    LANGUAGE C IMMUTABLE STRICT PARALLEL SAFE COST 10 AS 'MODULE_PATHNAME', 'sketch_ge';
+CREATE FUNCTION bloom_filter_cmp(bloom_filter, bloom_filter) RETURNS integer
+    LANGUAGE C IMMUTABLE STRICT PARALLEL SAFE COST 10 AS 'MODULE_PATHNAME', 'sketch_cmp';
 CREATE FUNCTION bloom_filter_hash(bloom_filter) RETURNS integer
     LANGUAGE C IMMUTABLE STRICT PARALLEL SAFE COST 10 AS 'MODULE_PATHNAME', 'sketch_hash';
 CREATE FUNCTION bloom_filter_hash_extended(bloom_filter, bigint) RETURNS bigint
     LANGUAGE C IMMUTABLE STRICT PARALLEL SAFE COST 10 AS 'MODULE_PATHNAME', 'sketch_hash_extended';
 CREATE OPERATOR = (LEFTARG = bloom_filter, RIGHTARG = bloom_filter, FUNCTION = bloom_filter_eq,
-    COMMUTATOR = =, NEGATOR = <>, RESTRICT = eqsel, JOIN = eqjoinsel, HASHES);
+    COMMUTATOR = =, NEGATOR = <>, RESTRICT = eqsel, JOIN = eqjoinsel, HASHES, MERGES);
 CREATE OPERATOR <> (LEFTARG = bloom_filter, RIGHTARG = bloom_filter, FUNCTION = bloom_filter_ne,
     COMMUTATOR = <>, NEGATOR = =, RESTRICT = neqsel, JOIN = neqjoinsel);
+CREATE OPERATOR < (LEFTARG = bloom_filter, RIGHTARG = bloom_filter, FUNCTION = bloom_filter_lt,
+    COMMUTATOR = >, NEGATOR = >=, RESTRICT = scalarltsel, JOIN = scalarltjoinsel);
+CREATE OPERATOR <= (LEFTARG = bloom_filter, RIGHTARG = bloom_filter, FUNCTION = bloom_filter_le,
+    COMMUTATOR = >=, NEGATOR = >, RESTRICT = scalarlesel, JOIN = scalarlejoinsel);
+CREATE OPERATOR > (LEFTARG = bloom_filter, RIGHTARG = bloom_filter, FUNCTION = bloom_filter_gt,
+    COMMUTATOR = <, NEGATOR = <=, RESTRICT = scalargtsel, JOIN = scalargtjoinsel);
+CREATE OPERATOR >= (LEFTARG = bloom_filter, RIGHTARG = bloom_filter, FUNCTION = bloom_filter_ge,
+    COMMUTATOR = <=, NEGATOR = <, RESTRICT = scalargesel, JOIN = scalargejoinsel);
 CREATE OPERATOR CLASS bloom_filter_ops DEFAULT FOR TYPE bloom_filter USING hash AS
-    OPERATOR 1 =, FUNCTION 1 bloom_filter_hash(bloom_filter),
-    FUNCTION 2 bloom_filter_hash_extended(bloom_filter, bigint);
+    OPERATOR 1 =, FUNCTION 1 bloom_filter_hash(bloom_filter), FUNCTION 2 bloom_filter_hash_extended(bloom_filter, bigint);
+CREATE OPERATOR CLASS bloom_filter_ops DEFAULT FOR TYPE bloom_filter USING btree AS
+    OPERATOR 1 <, OPERATOR 2 <=, OPERATOR 3 =, OPERATOR 4 >=, OPERATOR 5 >, FUNCTION 1 bloom_filter_cmp(bloom_filter, bloom_filter);
 
 CREATE FUNCTION contains_support(internal) RETURNS internal
     LANGUAGE C IMMUTABLE STRICT PARALLEL SAFE AS 'MODULE_PATHNAME', 'bloom_filter_contains_support';

@@ -8,7 +8,8 @@
 #include "utils/memutils.h"
 
 /* Stored sketches are merged in batches. A merge of frequent items copies the table, so one merge of many sketches costs less than
- * many merges of one. A batch ends with the sketch that fills one of these limits. */
+ * many merges of one. A batch ends with the sketch that fills one of these limits. The bytes are those of the sketches: a short image
+ * may be of a large one. */
 #define MAX_IN_BATCH 16
 #define BYTES_IN_BATCH (1024 * 1024)
 
@@ -199,7 +200,7 @@ static inline void check_size(FunctionCallInfo fcinfo, int number)
 static State *begin(FunctionCallInfo fcinfo, Kind kind, uint8 items, int number, Make make)
 {
     State *state = new_state(fcinfo, kind, items);
-    check_collation(fcinfo);
+    check_equality(fcinfo, 1);
     for (int i = number; i < PG_NARGS(); i++) {
         check_size(fcinfo, i);
         state->sizes[i - number] = PG_GETARG_DATUM(i);
@@ -359,8 +360,8 @@ static void add_image(State *state, const void *image, size_t bytes, size_t max_
         Batch *batch = state->batch;
         if (batch == NULL) batch = state->batch = palloc0(sizeof(Batch));
         read_image(state->kind, &batch->handles[batch->count], image, bytes, max_bytes);
+        batch->bytes += bytes_of(&batch->handles[batch->count]);
         batch->count++;
-        batch->bytes += bytes;
         if (batch->count == MAX_IN_BATCH || batch->bytes >= BYTES_IN_BATCH) flush(state);
     }
     MemoryContextSwitchTo(before);

@@ -14,10 +14,10 @@
  * | 22021 | a string is not UTF-8, or has a zero byte |
  * | 22023 | a size, a fraction, a threshold or a mode is out of range |
  * | 22P02, 22P03 | the text or the binary form is damaged |
- * | 0A000 | the collation of strings is nondeterministic |
+ * | 0A000 | the collation of strings is nondeterministic, or the equality of their type is not that of bytes |
  * | 22P05 | a string of a sketch has a character that is not in the database's encoding |
- * | 53200 | out of memory |
- * | 54000 | a sketch takes more than `sketches_rattle.max_image_bytes` or `sketches_rattle.max_frequent_bytes`, or more than 1 GB |
+ * | 53200 | out of memory, or all sketches of a statement take more than `sketches_rattle.max_statement_memory` |
+ * | 54000 | a sketch takes more than `sketches_rattle.max_image_bytes`, `max_frequent_bytes` or `max_user_bytes`, or than 1 GB |
  * | 58000 | the system has no random bytes for a key |
  * | XX000 | an error of the extension itself |
  * | XX001 | a stored sketch is damaged: its checksum is wrong |
@@ -56,13 +56,21 @@ static int state_of(int32_t result)
     return ERRCODE_INTERNAL_ERROR;
 }
 
-#define LIMITS "The limits are sketches_rattle.max_image_bytes and sketches_rattle.max_frequent_bytes."
+/* Raises the error of sketches that would take more memory together than they may. */
+static void raise_total(size_t bytes)
+{
+    ereport(ERROR, (errcode(ERRCODE_OUT_OF_MEMORY),
+                    errmsg("the sketches of a statement would take %zu bytes, more than sketches_rattle.max_statement_memory, "
+                           "which is %zu bytes",
+                           bytes, (size_t) max_statement_kilobytes * 1024)));
+}
 
 void raise_result(int32_t result)
 {
+    size_t refused = take_refused();
+    if (result == DS_NO_MEMORY && refused > 0) raise_total(refused);
     ereport(ERROR, (errcode(state_of(result)), errmsg("%s", ds_result_message(result)),
-                    errdetail("The library returned %s.", ds_result_name(result)),
-                    result == DS_TABLE_TOO_LARGE ? errhint(LIMITS) : 0));
+                    errdetail("The library returned %s.", ds_result_name(result))));
     pg_unreachable();
 }
 
@@ -97,11 +105,23 @@ void raise_sizes(void)
     pg_unreachable();
 }
 
-void raise_limit(uint64 bytes)
+void raise_limit(Kind kind, uint64 bytes)
+{
+    const char *setting = limit_of(kind) == (size_t) max_user_bytes    ? "sketches_rattle.max_user_bytes"
+                          : limit_of(kind) == (size_t) max_image_bytes ? "sketches_rattle.max_image_bytes"
+                                                                        : "sketches_rattle.max_frequent_bytes";
+    if (bytes == 0)
+        ereport(ERROR, (errcode(ERRCODE_PROGRAM_LIMIT_EXCEEDED),
+                        errmsg("a sketch takes more than %s, which is %zu bytes", setting, limit_of(kind))));
+    ereport(ERROR, (errcode(ERRCODE_PROGRAM_LIMIT_EXCEEDED),
+                    errmsg("a sketch takes " UINT64_FORMAT " bytes, more than %s, which is %zu", bytes, setting, limit_of(kind))));
+    pg_unreachable();
+}
+
+void raise_stored(uint64 bytes)
 {
     ereport(ERROR, (errcode(ERRCODE_PROGRAM_LIMIT_EXCEEDED),
-                    errmsg("a sketch of " UINT64_FORMAT " bytes exceeds the limit", bytes),
-                    errhint(LIMITS)));
+                    errmsg("a sketch of " UINT64_FORMAT " bytes is larger than a value of PostgreSQL, 1 GB", bytes)));
     pg_unreachable();
 }
 

@@ -25,8 +25,15 @@ StaticAssertDecl(SIZEOF_DATUM == 8, "a Datum has 64 bits");
 
 /* --- heap.c --- */
 
+/* The most memory that all sketches of a session or of a worker may take together. */
+extern int max_statement_kilobytes;
+
 /* Makes the library allocate from memory contexts: each call from the context that is current then. */
 void set_allocator(void);
+
+/* Returns the bytes that all sketches together would have taken when a request was refused for that, and forgets them. Returns 0 if
+ * none was refused. */
+size_t take_refused(void);
 
 /* --- errors.c --- */
 
@@ -48,8 +55,8 @@ void raise_version(int version, int read) pg_attribute_noreturn();
 /* Raises the error of sizes that differ between rows of a group. */
 void raise_sizes(void) pg_attribute_noreturn();
 
-/* Raises the error of a sketch that takes more than its limit, or more than PostgreSQL stores. */
-void raise_limit(uint64 bytes) pg_attribute_noreturn();
+/* Raises the error of a sketch of more bytes than PostgreSQL stores. */
+void raise_stored(uint64 bytes) pg_attribute_noreturn();
 
 static inline void check_result(int32_t result)
 {
@@ -92,21 +99,30 @@ typedef struct Sketch {
 extern int max_image_bytes;
 extern int max_frequent_bytes;
 
+/* The greatest value that users can give to both limits. */
+extern int max_user_bytes;
+
 /* Returns the limit of a kind. */
 static inline size_t limit_of(Kind kind)
 {
     bool is_frequent = kind == FREQUENT_STRINGS || kind == FREQUENT_BIGINTS;
-    return is_frequent ? Min(max_image_bytes, max_frequent_bytes) : max_image_bytes;
+    return Min(max_user_bytes, is_frequent ? Min(max_image_bytes, max_frequent_bytes) : max_image_bytes);
 }
+
+/* Raises the error of a sketch that exceeds the limit of its kind. `bytes` is 0 if they are not known. */
+void raise_limit(Kind kind, uint64 bytes) pg_attribute_noreturn();
 
 /* Raises an error if a sketch of these bytes exceeds the limit of its kind. */
 static inline void check_bytes(Kind kind, uint64 bytes)
 {
-    if (bytes > limit_of(kind)) raise_limit(bytes);
+    if (bytes > limit_of(kind)) raise_limit(kind, bytes);
 }
 
 /* Reads an image into a handle that has no sketch, in the current context. `max_bytes` limits what the sketch takes. */
 void read_image(Kind kind, ds_sketch *handle, const void *image, size_t length, size_t max_bytes);
+
+/* Returns the bytes that a handle's sketch takes. */
+size_t bytes_of(ds_sketch *handle);
 
 /* Writes the image of a handle's sketch after `header` bytes, which the caller fills. Returns the whole as a new varlena. */
 struct varlena *write_image(Kind kind, ds_sketch *handle, size_t header);
@@ -143,14 +159,24 @@ static inline ds_string string_argument(FunctionCallInfo fcinfo, int number)
     return likely(database_encoding == PG_UTF8) ? string : converted(string);
 }
 
-/* Raises an error if the call's collation takes different bytes for equal, since sketches compare strings by their bytes. */
-void check_collation(FunctionCallInfo fcinfo);
-
 /* Raises an error unless the sketch may have items of this type. */
 void check_items(const Sketch *sketch, uint8 items);
 
 /* Returns the types of a sketch's items as a text: 'strings', 'bigints' or 'strings or bigints'. */
 Datum items_name(const Sketch *sketch);
+
+/* --- image_items.c --- */
+
+/* Raises an error if a string of an image of frequent strings has a zero byte. */
+void check_zero_bytes(const void *image, size_t length);
+
+/* Raises an error if an image can be of frequent strings alone, and not of bigints. */
+void check_bigints(const void *image, size_t length);
+
+/* --- equality.c --- */
+
+/* Raises an error if the equality of an argument's collation or type is not that of the bytes of its text. */
+void check_equality(FunctionCallInfo fcinfo, int number);
 
 /* --- kept.c --- */
 

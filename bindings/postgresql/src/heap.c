@@ -1,43 +1,116 @@
 /* The allocator of the library: PostgreSQL's memory contexts.
  *
  * A call allocates from the context that is current when it is made. So what a sketch holds is seen by `work_mem`, and goes with
- * its context after an error. No function here raises an error, since that would jump through the library. */
+ * its context after an error. The bytes of all sketches together are counted, and limited. No function here raises an error, since
+ * that would jump through the library. */
 #include "extension.h"
 
 #include "utils/memutils.h"
 
-/* Returns a new block, or null if there is no memory. */
-static void *allocate(void *context, size_t size)
+/* The bytes that sketches hold in a context. It lies in the context, whose end takes them off. */
+typedef struct Account {
+    MemoryContext context;
+    size_t bytes;
+    struct Account *next;
+    MemoryContextCallback at_end;
+} Account;
+
+static Account *accounts;
+static size_t total;
+static size_t refused;
+
+/* Takes off what sketches held in a context that ends. */
+static void close_account(void *argument)
 {
-    (void) context;
-    if (!AllocHugeSizeIsValid(size)) return NULL;
-    return MemoryContextAllocExtended(CurrentMemoryContext, size, MCXT_ALLOC_HUGE | MCXT_ALLOC_NO_OOM);
+    Account *account = argument, **place = &accounts;
+    while (*place != account) place = &(*place)->next;
+    *place = account->next;
+    total -= account->bytes;
+}
+
+/* Returns the account of a context, or null if there is no memory for one. The one that was used last comes first. */
+static Account *account_of(MemoryContext context)
+{
+    Account **place = &accounts, *account;
+    while (*place != NULL && (*place)->context != context) place = &(*place)->next;
+    account = *place;
+    if (account != NULL) {
+        *place = account->next;
+    } else {
+        account = MemoryContextAllocExtended(context, sizeof *account, MCXT_ALLOC_NO_OOM);
+        if (account == NULL) return NULL;
+        account->context = context;
+        account->bytes = 0;
+        account->at_end.func = close_account;
+        account->at_end.arg = account;
+        MemoryContextRegisterResetCallback(context, &account->at_end);
+    }
+    account->next = accounts;
+    accounts = account;
+    return account;
+}
+
+/* Returns the account of a context if all sketches may take `more` bytes, or null. */
+static Account *account_with_room(MemoryContext context, size_t more)
+{
+    size_t limit = (size_t) max_statement_kilobytes * 1024;
+    if (!AllocHugeSizeIsValid(more)) return NULL;
+    if (total <= limit && more <= limit - total) return account_of(context);
+    refused = total + more;
+    return NULL;
+}
+
+/* Counts a block that a context has now, and not the `before` bytes that it had. */
+static void count_block(Account *account, const void *block, size_t before)
+{
+    size_t bytes = GetMemoryChunkSpace((void *) block);
+    account->bytes += bytes - before;
+    total += bytes - before;
+}
+
+/* Returns a new block, or null if there is no memory. */
+static void *allocate(void *unused, size_t size)
+{
+    Account *account = account_with_room(CurrentMemoryContext, size);
+    void *block;
+    (void) unused;
+    if (account == NULL) return NULL;
+    block = MemoryContextAllocExtended(account->context, size, MCXT_ALLOC_HUGE | MCXT_ALLOC_NO_OOM);
+    if (block != NULL) count_block(account, block, 0);
+    return block;
 }
 
 /* Returns a longer or shorter block with the first `kept` bytes of the old one, or null if there is no memory. */
-static void *reallocate(void *context, void *block, size_t kept, size_t size)
+static void *reallocate(void *unused, void *block, size_t kept, size_t size)
 {
+    size_t before = GetMemoryChunkSpace(block);
+    Account *account = account_with_room(GetMemoryChunkContext(block), size > before ? size - before : 0);
+    void *moved;
+    (void) unused;
+    if (account == NULL || !AllocHugeSizeIsValid(size)) return NULL;
 #if PG_VERSION_NUM >= 150000
-    (void) context;
     (void) kept;
-    if (!AllocHugeSizeIsValid(size)) return NULL;
-    return repalloc_extended(block, size, MCXT_ALLOC_HUGE | MCXT_ALLOC_NO_OOM);
+    moved = repalloc_extended(block, size, MCXT_ALLOC_HUGE | MCXT_ALLOC_NO_OOM);
 #else
-    void *copy = NULL;
-    (void) context;
-    if (AllocHugeSizeIsValid(size))
-        copy = MemoryContextAllocExtended(GetMemoryChunkContext(block), size, MCXT_ALLOC_HUGE | MCXT_ALLOC_NO_OOM);
-    if (copy == NULL) return NULL;
-    memcpy(copy, block, Min(kept, size));
-    pfree(block);
-    return copy;
+    moved = MemoryContextAllocExtended(account->context, size, MCXT_ALLOC_HUGE | MCXT_ALLOC_NO_OOM);
+    if (moved != NULL) {
+        memcpy(moved, block, Min(kept, size));
+        pfree(block);
+    }
 #endif
+    if (moved != NULL) count_block(account, moved, before);
+    return moved;
 }
 
 /* Frees a block. */
-static void deallocate(void *context, void *block)
+static void deallocate(void *unused, void *block)
 {
-    (void) context;
+    Account *account = account_of(GetMemoryChunkContext(block));
+    (void) unused;
+    if (account != NULL) {
+        account->bytes -= GetMemoryChunkSpace(block);
+        total -= GetMemoryChunkSpace(block);
+    }
     pfree(block);
 }
 
@@ -45,4 +118,11 @@ void set_allocator(void)
 {
     static const ds_allocator contexts = {allocate, reallocate, deallocate, NULL};
     check_result(ds_set_allocator(&contexts));
+}
+
+size_t take_refused(void)
+{
+    size_t bytes = refused;
+    refused = 0;
+    return bytes;
 }

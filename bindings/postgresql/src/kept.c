@@ -32,7 +32,7 @@ static Cache *cache_of(FunctionCallInfo fcinfo)
 {
     Cache *cache = fcinfo->flinfo->fn_extra;
     if (unlikely(cache == NULL)) {
-        check_collation(fcinfo);
+        check_equality(fcinfo, 1);
         cache = MemoryContextAllocZero(fcinfo->flinfo->fn_mcxt, sizeof(Cache));
         fcinfo->flinfo->fn_extra = cache;
     }

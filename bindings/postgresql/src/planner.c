@@ -62,19 +62,28 @@ static double estimated(ds_bloom_status status, VariableStatData *column, FmgrIn
     return of_common + others * Max(0, 1 - nulls - common);
 }
 
-/* Returns the share of rows for a filter that is known. */
+/* Reads the numbers of a filter. Returns whether it is within the limit. */
+static bool read_status(const Sketch *sketch, ds_bloom_status *status)
+{
+    ds_sketch handle = DS_NONE;
+    int32_t result = ds_bloom_deserialize(&handle, sketch->image, IMAGE_BYTES(sketch), limit_of(BLOOM_FILTER));
+    if (result == DS_TABLE_TOO_LARGE) return false;
+    check_result(result);
+    check_result(ds_bloom_get_status(&handle, status));
+    ds_free(&handle);
+    return true;
+}
+
+/* Returns the share of rows for a filter that is known. One that exceeds the limit is not read. */
 static double known_share(SupportRequestSelectivity *request, Const *filter)
 {
     Sketch *sketch = detoast_sketch(filter->constvalue, BLOOM_FILTER);
     Datum value = PointerGetDatum(sketch);
     ds_bloom_status status = {0};
-    ds_sketch handle = DS_NONE;
     VariableStatData column;
     FmgrInfo contains;
     double share;
-    read_image(BLOOM_FILTER, &handle, sketch->image, IMAGE_BYTES(sketch), SIZE_MAX);
-    check_result(ds_bloom_get_status(&handle, &status));
-    ds_free(&handle);
+    if (!read_status(sketch, &status)) return DEFAULT_SHARE;
     fmgr_info(request->funcid, &contains);
     examine_variable(request->root, without_cast(lsecond(request->args)), request->varRelid, &column);
     share = estimated(status, &column, &contains, request->inputcollid, value);

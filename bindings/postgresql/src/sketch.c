@@ -65,7 +65,11 @@ int32_t merge_all(Kind kind, ds_sketch *handle, ds_sketch *others, size_t count)
 
 void read_image(Kind kind, ds_sketch *handle, const void *image, size_t length, size_t max_bytes)
 {
-    check_result(deserialize(kind, handle, image, length, max_bytes));
+    int32_t result;
+    if (kind == FREQUENT_STRINGS) check_zero_bytes(image, length);
+    result = deserialize(kind, handle, image, length, max_bytes);
+    if (result == DS_TABLE_TOO_LARGE && max_bytes == limit_of(kind)) raise_limit(kind, 0);
+    check_result(result);
     CHECK_FOR_INTERRUPTS();
 }
 
@@ -74,7 +78,7 @@ struct varlena *write_image(Kind kind, ds_sketch *handle, size_t header)
     struct varlena *whole;
     size_t bytes = 0;
     check_result(serialized_bytes(kind, handle, &bytes));
-    if (bytes > MaxAllocSize - header) raise_limit(bytes);
+    if (bytes > MaxAllocSize - header) raise_stored(bytes);
     whole = palloc_extended(header + bytes, MCXT_ALLOC_HUGE);
     check_result(serialize(kind, handle, (uint8_t *) whole + header, bytes, &bytes));
     SET_VARSIZE(whole, header + bytes);
@@ -162,12 +166,18 @@ void load(Sketch *sketch, ds_sketch *handle)
     read_image(sketch->kind, handle, sketch->image, IMAGE_BYTES(sketch), limit_of(sketch->kind));
 }
 
+size_t bytes_of(ds_sketch *handle)
+{
+    size_t bytes = 0;
+    check_result(ds_memory_bytes(handle, &bytes));
+    return bytes;
+}
+
 /* The bytes are those that `deserialize` counts, which adds 4 for the length of each string. */
 void check_limit(Kind kind, ds_sketch *handle)
 {
     ds_frequent_items_status status = {0};
-    size_t bytes = 0;
-    check_result(ds_memory_bytes(handle, &bytes));
+    size_t bytes = bytes_of(handle);
     if (kind == FREQUENT_STRINGS) check_result(ds_frequent_items_string_get_status(handle, &status));
     check_bytes(kind, bytes + 4 * status.num_active_items);
 }
@@ -187,6 +197,7 @@ static Sketch *import_image(Kind kind, uint8 items, const void *image, size_t le
 {
     ds_sketch handle = DS_NONE;
     Sketch *sketch;
+    if (kind == FREQUENT_BIGINTS) check_bigints(image, length);
     read_image(kind, &handle, image, length, limit_of(kind));
     sketch = store(kind, items, &handle);
     ds_free(&handle);
@@ -200,7 +211,7 @@ static Sketch *import_image(Kind kind, uint8 items, const void *image, size_t le
 static Sketch *import(Kind kind, const void *bytes, size_t length, int damaged)
 {
     Sketch *sketch, *imported;
-    if (length > MaxAllocSize - VARHDRSZ) raise_limit(length);
+    if (length > MaxAllocSize - VARHDRSZ) raise_stored(length);
     sketch = palloc(VARHDRSZ + length);
     SET_VARSIZE(sketch, VARHDRSZ + length);
     memcpy(VARDATA(sketch), bytes, length);
@@ -254,7 +265,7 @@ Datum sketch_out(PG_FUNCTION_ARGS)
     const char *bytes = VARDATA(sketch);
     size_t length = VARSIZE(sketch) - VARHDRSZ, capacity = (length + 2) / 3 * 4, written = 0;
     char *text;
-    if (capacity >= MaxAllocSize) raise_limit(length);
+    if (capacity >= MaxAllocSize) raise_stored(length);
     text = palloc(capacity + 1);
     for (size_t start = 0; start < length; start += BYTES_IN_BLOCK) {
         int part = pg_b64_encode(bytes + start, (int) Min(length - start, BYTES_IN_BLOCK), text + written,
@@ -349,14 +360,6 @@ ds_string converted(ds_string string)
     return (ds_string) {(const uint8_t *) utf8, strlen(utf8)};
 }
 
-void check_collation(FunctionCallInfo fcinfo)
-{
-    Oid collation = PG_GET_COLLATION();
-    if (OidIsValid(collation) && !get_collation_isdeterministic(collation))
-        ereport(ERROR, (errcode(ERRCODE_FEATURE_NOT_SUPPORTED),
-                        errmsg("sketches do not support nondeterministic collations")));
-}
-
 void check_items(const Sketch *sketch, uint8 items)
 {
     if ((sketch->items & items) == 0)
@@ -414,36 +417,45 @@ Datum bloom_filter_intersection(PG_FUNCTION_ARGS)
     PG_RETURN_POINTER(sketch);
 }
 
-/* Returns whether two filters or counts have equal states. Their images are as the library writes them, so equal images mean
- * equal states. */
-static bool are_equal(FunctionCallInfo fcinfo)
+/* Compares the images of two sketches: below 0, 0 or above 0. Filters and counts have images as the library writes them, so equal
+ * images mean equal states. Equal frequent items may have unequal images. */
+static int compared(FunctionCallInfo fcinfo)
 {
     Sketch *left = any_sketch(fcinfo), *right = detoast_sketch(PG_GETARG_DATUM(1), left->kind);
-    bool equal = VARSIZE(left) == VARSIZE(right) && memcmp(left->image, right->image, IMAGE_BYTES(left)) == 0;
+    size_t first = IMAGE_BYTES(left), second = IMAGE_BYTES(right);
+    int order = memcmp(left->image, right->image, Min(first, second));
+    if (order == 0) order = (first > second) - (first < second);
     PG_FREE_IF_COPY(left, 0);
     PG_FREE_IF_COPY(right, 1);
-    return equal;
+    return order;
 }
 
-PG_FUNCTION_INFO_V1(sketch_equal);
+#define COMPARISON(name, test) \
+    PG_FUNCTION_INFO_V1(name); \
+    Datum name(PG_FUNCTION_ARGS) \
+    { \
+        PG_RETURN_BOOL(compared(fcinfo) test 0); \
+    }
 
-/* Returns whether two filters or counts are equal. */
-Datum sketch_equal(PG_FUNCTION_ARGS)
+COMPARISON(sketch_eq, ==)
+COMPARISON(sketch_ne, !=)
+COMPARISON(sketch_lt, <)
+COMPARISON(sketch_le, <=)
+COMPARISON(sketch_gt, >)
+COMPARISON(sketch_ge, >=)
+
+PG_FUNCTION_INFO_V1(sketch_cmp);
+
+/* Returns the order of two sketches, for B-trees. */
+Datum sketch_cmp(PG_FUNCTION_ARGS)
 {
-    PG_RETURN_BOOL(are_equal(fcinfo));
-}
-
-PG_FUNCTION_INFO_V1(sketch_not_equal);
-
-/* Returns whether two filters or counts differ. */
-Datum sketch_not_equal(PG_FUNCTION_ARGS)
-{
-    PG_RETURN_BOOL(!are_equal(fcinfo));
+    int order = compared(fcinfo);
+    PG_RETURN_INT32((order > 0) - (order < 0));
 }
 
 PG_FUNCTION_INFO_V1(sketch_hash);
 
-/* Returns a hash of a filter or of counts: of the image, since equality compares images. */
+/* Returns a hash of a sketch: of the image, since equality compares images. */
 Datum sketch_hash(PG_FUNCTION_ARGS)
 {
     Sketch *sketch = any_sketch(fcinfo);

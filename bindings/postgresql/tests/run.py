@@ -27,6 +27,8 @@ import damage  # noqa: E402
 import ends  # noqa: E402
 import errors  # noqa: E402
 import exchange  # noqa: E402
+import item_types  # noqa: E402
+import limits  # noqa: E402
 import page  # noqa: E402
 import server  # noqa: E402
 import stored  # noqa: E402
@@ -143,7 +145,8 @@ def valgrind(tests):
 
 GROUPS = [queries, isolation, bounds.every_key, ends.cancels, ends.many_cancels, ends.killed, ends.out_of_memory,
           stored.dump_and_restore, stored.copied, stored.encodings, stored.collations, stored.versions, stored.owned,
-          exchange.interfaces, page.page_queries, errors.page_errors, damage.damaged_bytes]
+          item_types.types, item_types.orders, item_types.images_of_other_items, limits.small_images, limits.planned, limits.administrators,
+          limits.settings, exchange.interfaces, page.page_queries, errors.page_errors, damage.damaged_bytes]
 
 
 def run_group(tests, group):

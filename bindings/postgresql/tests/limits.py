@@ -1,0 +1,113 @@
+"""Limits that users and administrators set: of one sketch, of all users, and of all sketches of a statement."""
+import psycopg2
+
+from ends import MB, code_of, held
+
+LARGE = "bloom_filter_agg(1::bigint, {bits}, 5)"
+
+
+def error_of(cursor, statement):
+    """Runs a statement. Returns None, or its error's SQLSTATE and message."""
+    try:
+        cursor.execute(statement)
+    except psycopg2.Error as error:
+        return error.pgcode, error.diag.message_primary
+    return None
+
+
+def small_images(tests):
+    """Short images of large empty sketches: a batch of them counts what they take."""
+    with tests.main.session() as session, session.cursor() as cursor:
+        # 24 bytes: an empty filter of 16 MB
+        image = (bytes([3, 1, 21, 4, 5, 0, 0, 0]) + (9001).to_bytes(8, "little") + (2 * MB).to_bytes(4, "little") + bytes(4)).hex()
+        cursor.execute("SET sketches_rattle.max_statement_memory = '80MB';"
+                       f"CREATE TEMP TABLE short AS SELECT bloom_filter_from_image('\\x{image}') AS filter FROM generate_series(1, 64)")
+        cursor.execute("SELECT max(length(filter::bytea)) FROM short")
+        tests.check("the rows are short", cursor.fetchone()[0] < 64)
+        error = error_of(cursor, "SELECT status(bloom_filter_union(filter)) FROM short")
+        tests.check("a union of short rows takes the memory of few of them", error is None, error)
+
+
+def planned(tests):
+    """The planner reads a filter within the limit. Beyond it, it takes the default estimate."""
+    with tests.main.session() as session, session.cursor() as cursor:
+        cursor.execute("CREATE TEMP TABLE one AS SELECT " + LARGE.format(bits=16 * 8 * MB) + " AS filter;"
+                       "CREATE TEMP TABLE keys AS SELECT i FROM generate_series(1::bigint, 1000) AS i; ANALYZE keys;"
+                       "CREATE FUNCTION pg_temp.made() RETURNS bloom_filter LANGUAGE plpgsql VOLATILE AS "
+                       "$$ BEGIN RETURN (SELECT filter FROM one); END $$;"
+                       "PREPARE asked (bloom_filter) AS SELECT FROM keys WHERE contains($1, i); SET plan_cache_mode = force_custom_plan")
+
+        def rows():
+            cursor.execute("EXPLAIN (COSTS ON) EXECUTE asked(pg_temp.made())")
+            return cursor.fetchall()[0][0]
+
+        known = rows()
+        cursor.execute("SET sketches_rattle.max_image_bytes = '1MB'")
+        before = held(cursor)
+        unknown = rows()
+        tests.check("a filter within the limit has an estimate of its own", "rows=1 " in known, known)
+        tests.check("a filter beyond the limit has the default estimate", "rows=50 " in unknown, unknown)
+        tests.check("the planner keeps nothing", held(cursor)[0] - before[0] < 17 * MB)
+
+
+def administrators(tests):
+    """A superuser's settings: users cannot raise them."""
+    with tests.main.session() as session, session.cursor() as cursor:
+        cursor.execute("CREATE ROLE user_of_sketches; SELECT bloom_filter_agg(1::bigint, 64, 3); "
+                       "SET sketches_rattle.max_user_bytes = '4MB'; SET ROLE user_of_sketches")
+        for setting in ("max_user_bytes", "max_statement_memory"):
+            code = code_of(cursor, f"SET sketches_rattle.{setting} = '1GB'")
+            tests.check(f"a user cannot set {setting}", code == "42501", code)
+        cursor.execute("SET sketches_rattle.max_image_bytes = '1GB'; SET sketches_rattle.max_frequent_bytes = '1GB'")
+        for statement in (LARGE.format(bits=5 * 8 * MB), "frequent_bigints_agg(1, 1, 262144)", "count_min_agg(1, 1, 5, 200000)"):
+            error = error_of(cursor, f"SELECT status({statement})")
+            tests.check(f"a user's sketch keeps to the superuser's limit: {statement}",
+                        error is not None and error[0] == "54000" and "sketches_rattle.max_user_bytes" in error[1]
+                        and str(4 * MB) in error[1], error)
+        cursor.execute("RESET ROLE; RESET ALL; SET sketches_rattle.max_statement_memory = '64MB'")
+        many = ", ".join(f"({LARGE.format(bits=8 * 8 * MB + 64 * i)})" for i in range(20))
+        error = error_of(cursor, f"SELECT {many}")
+        tests.check("all sketches of a statement keep to one limit", error is not None and error[0] == "53200"
+                    and "sketches_rattle.max_statement_memory" in error[1] and str(64 * MB) in error[1], error)
+        few = ", ".join(f"length(sketch_image({LARGE.format(bits=8 * 8 * MB + 64 * i)}))" for i in range(4))
+        for _ in range(20):
+            error = error_of(cursor, f"SELECT {few}")
+            if error is not None:
+                break
+        tests.check("each statement has the limit anew", error is None, error)
+        cursor.execute("ALTER SYSTEM SET sketches_rattle.max_user_bytes = '4MB'")
+        cursor.execute("SELECT pg_reload_conf(), pg_sleep(0.2)")
+    with tests.main.session() as session, session.cursor() as cursor:
+        cursor.execute("SET ROLE user_of_sketches; SET sketches_rattle.max_user_bytes = '1GB';"
+                       "SET sketches_rattle.max_image_bytes = '1GB'")
+        error = error_of(cursor, f"SELECT status({LARGE.format(bits=5 * 8 * MB)})")
+        tests.check("a user cannot set it before the library is loaded", error is not None and error[0] == "54000", error)
+        cursor.execute("RESET ROLE")
+        cursor.execute("ALTER SYSTEM RESET sketches_rattle.max_user_bytes")
+        cursor.execute("SELECT pg_reload_conf(), pg_sleep(0.2)")
+        cursor.execute("DROP ROLE user_of_sketches")
+
+
+def settings(tests):
+    """Values of settings, and the messages of limits."""
+    with tests.main.session() as session, session.cursor() as cursor:
+        for setting in ("max_image_bytes", "max_frequent_bytes", "max_user_bytes", "max_statement_memory"):
+            error = error_of(cursor, f"SET sketches_rattle.{setting} = '1GB'")
+            tests.check(f"{setting} is up to 1 GB", error is None, error)
+        cursor.execute("RESET ALL; SET sketches_rattle.max_image_bytes = '1MB'")
+        for statement in (LARGE.format(bits=16 * MB), "count_min_agg(1, 1, 5, 200000)", "frequent_bigints_agg(1, 1, 65536)"):
+            error = error_of(cursor, f"SELECT status({statement})")
+            tests.check(f"the message names the limit and its value: {statement}", error is not None and error[0] == "54000"
+                        and "sketches_rattle.max_image_bytes" in error[1] and str(MB) in error[1], error)
+        cursor.execute("RESET ALL")
+        error = error_of(cursor, "SELECT status(frequent_bigints_agg(1, 1, 1048576))")
+        tests.check("the message names the limit of frequent items", error is not None and error[0] == "54000"
+                    and "sketches_rattle.max_frequent_bytes" in error[1] and str(8 * MB) in error[1], error)
+    for value in ("lots", "3", "-1"):
+        with tests.main.session() as session, session.cursor() as cursor:
+            cursor.execute(f"SET sketches_rattle.max_image_bytes = '{value}'")
+            error = error_of(cursor, "SELECT status(bloom_filter_agg(1::bigint, 64, 3))")
+            tests.check(f"a bad value that was set before the library is loaded: {value}",
+                        error is not None and error[0] == "22023" and "max_image_bytes" in error[1], error)
+            cursor.execute("SET sketches_rattle.max_image_bytes = '2MB'")
+            tests.check("a good value after it", code_of(cursor, "SELECT status(bloom_filter_agg(1::bigint, 64, 3))") is None)
