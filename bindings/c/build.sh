@@ -21,8 +21,8 @@ fi
 work="$(mktemp -d)"
 trap 'rm -rf "$work"' EXIT
 for source in "$here"/src/*.c; do
-    "${CC:-cc}" -std=c11 -O2 -Wall -Wextra -Wpedantic -Werror -fPIC -I"$here/include" -c "$source" \
-        -o "$work/$(basename "$source" .c).o"
+    "${CC:-cc}" -std=c11 -O2 -U_FORTIFY_SOURCE -D_FORTIFY_SOURCE=2 -fstack-protector-strong -Wall -Wextra -Wpedantic -Werror \
+        -fPIC -I"$here/include" -c "$source" -o "$work/$(basename "$source" .c).o"
 done
 
 # One object, whose global symbols are the calls. So two static libraries that contain the same runtime can be in one program.

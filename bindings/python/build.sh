@@ -21,7 +21,8 @@ cp "$here"/datasketches_rattle/{*.py,*.pyi,py.typed} "$out/datasketches_rattle/"
 suffix="$("$python" -c 'import sysconfig; print(sysconfig.get_config_var("EXT_SUFFIX"))')"
 include="$("$python" -c 'import sysconfig; print(sysconfig.get_path("include"))')"
 # shellcheck disable=SC2086
-"${CC:-cc}" -std=c11 -O2 -DNDEBUG -Wall -Wextra -Werror -fPIC -fvisibility=hidden -shared \
+"${CC:-cc}" -std=c11 -O2 -U_FORTIFY_SOURCE -D_FORTIFY_SOURCE=2 -fstack-protector-strong -DNDEBUG -Wall -Wextra -Werror -fPIC \
+    -fvisibility=hidden -shared \
     -I"$here/../c/include" -isystem "$include" ${CFLAGS:-} "$here"/src/*.c "$here"/../c/src/*.c "$archive" \
     -Wl,--version-script="$here/sketches.map" -Wl,-z,relro,-z,now -o "$out/datasketches_rattle/_sketches$suffix"
 echo "built $out/datasketches_rattle: PYTHONPATH=$out finds it"

@@ -25,6 +25,8 @@ mv dev/usr/lib/"$multiarch"/libdatasketches.so.* "lib/usr/lib/$multiarch/"
 chmod 644 "lib/usr/lib/$multiarch/libdatasketches.so.$version"
 echo "libdatasketches 0 libdatasketches0 (>= $version)" >lib/DEBIAN/shlibs
 echo "activate-noawait ldconfig" >lib/DEBIAN/triggers
+dpkg-gensymbols -c4 -q -plibdatasketches0 -Plib -v"$version" -I"$here/symbols" \
+    -e"lib/usr/lib/$multiarch/libdatasketches.so.$version" -Olib/DEBIAN/symbols
 install -D -m 644 "$source/bindings/c/README.md" dev/usr/share/doc/libdatasketches-dev/README.md
 install -D -m 644 "$source/bindings/c/example.c" dev/usr/share/doc/libdatasketches-dev/examples/example.c
 

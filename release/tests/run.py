@@ -96,6 +96,23 @@ class Tests:
         self.check("lintian", lint.returncode == 0, lint.stdout + lint.stderr)
         return outs[0]
 
+    def compiled(self, built):
+        """The compiled C has the stack protector, and the package of the library lists the symbols that it exports."""
+        files = f"{self.work}/files"
+        for package in glob.glob(f"{built}/*.deb"):
+            subprocess.run(["dpkg-deb", "-x", package, files], check=True)
+        objects = [it for it in glob.glob(f"{files}/usr/lib/**/*.so*", recursive=True) if not os.path.islink(it)]
+        self.check("the library, the module and the extension", len(objects) == 3, objects)
+        for it in objects:
+            needs = subprocess.run(["nm", "-D", "-u", it], check=True, capture_output=True, text=True).stdout
+            self.check(f"{os.path.basename(it)} has the stack protector", "__stack_chk_fail" in needs, needs)
+        library = next(it for it in objects if "libdatasketches.so" in it)
+        exported = subprocess.run(["nm", "-D", "--defined-only", library], check=True, capture_output=True, text=True).stdout
+        listed = subprocess.run(["dpkg-deb", "-I", *glob.glob(f"{built}/libdatasketches0_*.deb"), "symbols"],
+                                capture_output=True, text=True)
+        self.check("the symbols of the library", set(re.findall(r" (ds_\w+)@DATASKETCHES_0 0\.2\.0\n", listed.stdout))
+                   == set(re.findall(r" (ds_\w+)@", exported)) != set(), listed)
+
     def removed(self, *names):
         """Removes Debian packages, and checks that nothing of them is left."""
         self.run(f"apt-get purge {' '.join(names)}")
@@ -204,6 +221,7 @@ def main():
         tests = Tests(work, passed, failed)
         making = tests.start_root()
         built = tests.build_twice(program, archive)
+        tests.compiled(built)
         made = making.wait(timeout=600)
         tests.check("debootstrap", made == 0, read(f"{work}/debootstrap.log")[-2000:])
         if made == 0:
