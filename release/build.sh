@@ -2,7 +2,7 @@
 # Builds the packages of the last commit into a folder: release/build.sh OUT [ARCHIVE PROGRAM]. OUT gets
 #
 #     datasketches-VERSION-linux-x86_64.tar.gz    C library and program, for any folder
-#     libdatasketches0, libdatasketches-dev, python3-datasketches-rattle, datasketches-tools    Debian packages
+#     libdatasketches0, libdatasketches-dev, python3-datasketches-rattle, datasketches-tools, datasketches-doc    Debian packages
 #     postgresql-15-sketches-rattle    Debian package, which needs postgresql-server-dev-15 to be built
 #     datasketches_rattle-VERSION-..whl           wheel for the Python of `PYTHON`, by default /usr/bin/python3
 #     SHA256SUMS
@@ -72,13 +72,16 @@ tree="$work/tree/$name"
 DESTDIR="$work/tree" bash "$source/bindings/c/install.sh" --prefix "/$name" --relocatable "$work/c"
 install -D -m 755 "$work/datasketches_cli" "$tree/bin/datasketches_cli"
 install -D -m 644 "$source/release/datasketches_cli.1" "$tree/share/man/man1/datasketches_cli.1"
-install -m 644 "$source"/{LICENSE,NOTICE,CHANGELOG.md,release/README.md,bindings/c/example.c} "$work/LICENSE.hex" "$tree/"
+install -m 644 "$source"/{LICENSE,NOTICE,bindings/c/example.c} "$work/LICENSE.hex" "$tree/"
+"$PYTHON" "$source/release/pages.py" tree "$source" "$tree/doc"
+"$PYTHON" "$source/release/pages.py" page "$source" release/README.md "$tree/README.md" doc
+"$PYTHON" "$source/release/pages.py" page "$source" CHANGELOG.md "$tree/CHANGELOG.md" doc
 tar --sort=name --owner=0 --group=0 --numeric-owner --mtime="@$SOURCE_DATE_EPOCH" --format=ustar -C "$work/tree" -c "$name" |
     gzip -9n >"$out/$name.tar.gz"
 
 bash "$source/release/debian/build.sh" "$out" "$source" "$work"
 "$PYTHON" "$source/release/wheel.py" "$out" "$source" "$work"
 cd "$out"
-sha256sum -- *"_${version}_amd64.deb" *"-$version-"* >SHA256SUMS
+sha256sum -- *"_${version}_"*.deb *"-$version-"* >SHA256SUMS
 echo "built $out:"
 sed 's/^[^ ]* */  /' SHA256SUMS

@@ -18,6 +18,12 @@ datasketches-rattle ($version) unstable; urgency=medium
  -- $(sed -n 's/^Maintainer: //p' debian/control)  $(date -u -R -d "@$SOURCE_DATE_EPOCH")
 CHANGES
 
+# Writes a page of the repository to a file. Its links lead to the package of the pages.
+page() {
+    mkdir -p "$(dirname "$2")"
+    "$PYTHON" "$source/release/pages.py" page "$source" "$1" "$2" ../datasketches-doc
+}
+
 # Files of each package.
 DESTDIR="$work/deb/dev" bash "$source/bindings/c/install.sh" --prefix /usr --libdir "lib/$multiarch" "$work/c"
 mkdir -p lib/DEBIAN dev/DEBIAN "lib/usr/lib/$multiarch"
@@ -27,7 +33,7 @@ echo "libdatasketches 0 libdatasketches0 (>= $version)" >lib/DEBIAN/shlibs
 echo "activate-noawait ldconfig" >lib/DEBIAN/triggers
 dpkg-gensymbols -c4 -q -plibdatasketches0 -Plib -v"$version" -I"$here/symbols" \
     -e"lib/usr/lib/$multiarch/libdatasketches.so.$version" -Olib/DEBIAN/symbols
-install -D -m 644 "$source/bindings/c/README.md" dev/usr/share/doc/libdatasketches-dev/README.md
+page bindings/c/README.md dev/usr/share/doc/libdatasketches-dev/README.md
 install -D -m 644 "$source/bindings/c/example.c" dev/usr/share/doc/libdatasketches-dev/examples/example.c
 
 install -D -m 755 "$work/datasketches_cli" tools/usr/bin/datasketches_cli
@@ -47,7 +53,13 @@ chmod 755 python/DEBIAN/{postinst,prerm}
 mkdir -p postgresql/DEBIAN
 cp -r "$work/postgresql/usr" postgresql/
 find postgresql/usr -type f -exec chmod 644 {} +
-install -D -m 644 "$source/bindings/postgresql/README.md" postgresql/usr/share/doc/postgresql-15-sketches-rattle/README.md
+page bindings/postgresql/README.md postgresql/usr/share/doc/postgresql-15-sketches-rattle/README.md
+
+# The pages with all files that they link to. The licence is in the file `copyright`, as in each package.
+pages=doc/usr/share/doc/datasketches-doc
+mkdir -p doc/DEBIAN "$pages"
+"$PYTHON" "$source/release/pages.py" tree "$source" "$pages"
+ln -sf copyright "$pages/LICENSE"
 
 pack() {
     local folder="$1" name="$2"
@@ -64,7 +76,10 @@ pack() {
         } >>"$doc/copyright"
     fi
     gzip -9n <debian/changelog >"$doc/changelog.gz"
-    gzip -9n <"$source/CHANGELOG.md" >"$doc/CHANGELOG.md.gz"
+    if [ "$folder" != doc ]; then
+        page CHANGELOG.md "$doc/CHANGELOG.md"
+        gzip -9n "$doc/CHANGELOG.md"
+    fi
     local objects=()
     mapfile -t objects < <(find "$folder/usr" -type f \( -name '*.so*' -o -path '*/bin/*' \) | sort)
     : >"$name.substvars"
@@ -73,8 +88,10 @@ pack() {
     fi
     if [ ${#objects[@]} -gt 0 ]; then dpkg-shlibdeps -T"$name.substvars" "${objects[@]/#/-e}"; fi
     dpkg-gencontrol -p"$name" -P"$folder" -T"$name.substvars" -v"$version" -ffiles
+    local arch
+    arch="$(sed -n 's/^Architecture: //p' "$folder/DEBIAN/control")"
     (cd "$folder" && find usr -type f -print0 | sort -z | xargs -0 md5sum >DEBIAN/md5sums)
-    dpkg-deb --root-owner-group --threads-max=1 -Zxz --build "$folder" "$out/${name}_${version}_amd64.deb" >/dev/null
+    dpkg-deb --root-owner-group --threads-max=1 -Zxz --build "$folder" "$out/${name}_${version}_$arch.deb" >/dev/null
 }
 
 pack lib libdatasketches0
@@ -82,3 +99,4 @@ pack dev libdatasketches-dev
 pack python python3-datasketches-rattle
 pack tools datasketches-tools
 pack postgresql postgresql-15-sketches-rattle
+pack doc datasketches-doc

@@ -18,8 +18,9 @@ import sys
 import tempfile
 
 TOP = os.path.dirname(os.path.dirname(os.path.dirname(os.path.abspath(__file__))))
-sys.path.insert(0, f"{TOP}/bindings/postgresql/tests")
+sys.path[:0] = [f"{TOP}/bindings/postgresql/tests", f"{TOP}/tests/docs"]
 
+import links  # noqa: E402
 import page  # noqa: E402
 
 MIRROR = os.environ.get("DEBIAN_MIRROR", "http://deb.debian.org/debian")
@@ -85,11 +86,11 @@ class Tests:
                            stdout=subprocess.DEVNULL if outs else None)
             outs.append(out)
         names = sorted(os.listdir(outs[0]))
-        self.check("the packages", len(names) == 8 and names == sorted(os.listdir(outs[1])), names)
+        self.check("the packages", len(names) == 9 and names == sorted(os.listdir(outs[1])), names)
         for name in names:
             self.check(f"two builds of {name}", filecmp.cmp(f"{outs[0]}/{name}", f"{outs[1]}/{name}", shallow=False))
         sums = subprocess.run(["sha256sum", "--strict", "-c", "SHA256SUMS"], cwd=outs[0], capture_output=True, text=True)
-        self.check("the checksums", sums.returncode == 0 and sums.stdout.count(": OK\n") == 7, sums)
+        self.check("the checksums", sums.returncode == 0 and sums.stdout.count(": OK\n") == 8, sums)
         packages = glob.glob(f"{outs[0]}/*.deb")
         lint = subprocess.run(["lintian", "--allow-root", "--fail-on", "error,warning", *packages], capture_output=True,
                               text=True)
@@ -112,6 +113,16 @@ class Tests:
                                 capture_output=True, text=True)
         self.check("the symbols of the library", set(re.findall(r" (ds_\w+)@DATASKETCHES_0 0\.2\.0\n", listed.stdout))
                    == set(re.findall(r" (ds_\w+)@", exported)) != set(), listed)
+
+    def pages(self, built):
+        """Each link of the shipped pages leads to a shipped file, in the packages and in the tarball."""
+        subprocess.run(["tar", "xf", *glob.glob(f"{built}/*.tar.gz"), "-C", f"{self.work}/files", "--transform", "s,^[^/]*,tarball,"],
+                       check=True)
+        for top in ["usr/share/doc", "tarball"]:
+            folder = f"{self.work}/files/{top}"
+            listed = [os.path.relpath(it, folder) for it in glob.glob(f"{folder}/**/*.md", recursive=True)]
+            self.check(f"pages below {top}", {"usr/share/doc": "libdatasketches-dev/README.md"}.get(top, "README.md") in listed)
+            links.check(self, folder, listed)
 
     def removed(self, *names):
         """Removes Debian packages, and checks that nothing of them is left."""
@@ -222,6 +233,7 @@ def main():
         making = tests.start_root()
         built = tests.build_twice(program, archive)
         tests.compiled(built)
+        tests.pages(built)
         made = making.wait(timeout=600)
         tests.check("debootstrap", made == 0, read(f"{work}/debootstrap.log")[-2000:])
         if made == 0:
