@@ -34,7 +34,9 @@ def metadata(source):
              f"License: {project['license']['text']}", f"Requires-Python: {project['requires-python']}",
              "Description-Content-Type: text/markdown", ""]
     stem = f"{project['name'].replace('-', '_')}-{version}"
-    return stem, "\n".join(lines).encode() + b"\n" + read(f"{folder}/{project['readme']}")
+    page = read(f"{folder}/{project['readme']}").decode()
+    page = re.sub(r"\[([^\]]*)\]\((?![a-z]+:)[^)]*\)", r"\1", page)  # a wheel has no files for these links to lead to
+    return stem, ("\n".join(lines) + "\n" + page).encode()
 
 
 def platform(extension):

@@ -16,6 +16,7 @@ import shutil
 import subprocess
 import sys
 import tempfile
+import zipfile
 
 TOP = os.path.dirname(os.path.dirname(os.path.dirname(os.path.abspath(__file__))))
 sys.path[:0] = [f"{TOP}/bindings/postgresql/tests", f"{TOP}/tests/docs"]
@@ -123,6 +124,9 @@ class Tests:
             listed = [os.path.relpath(it, folder) for it in glob.glob(f"{folder}/**/*.md", recursive=True)]
             self.check(f"pages below {top}", {"usr/share/doc": "libdatasketches-dev/README.md"}.get(top, "README.md") in listed)
             links.check(self, folder, listed)
+        with zipfile.ZipFile(*glob.glob(f"{built}/*.whl")) as wheel:
+            text = wheel.read(next(it for it in wheel.namelist() if it.endswith("/METADATA"))).decode()
+        self.check("the page in the wheel has no links to files", "## Install" in text and not re.search(r"\]\((?![a-z]+:)", text), text)
 
     def removed(self, *names):
         """Removes Debian packages, and checks that nothing of them is left."""
