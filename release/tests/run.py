@@ -117,12 +117,13 @@ class Tests:
 
     def pages(self, built):
         """Each link of the shipped pages leads to a shipped file, in the packages and in the tarball."""
-        subprocess.run(["tar", "xf", *glob.glob(f"{built}/*.tar.gz"), "-C", f"{self.work}/files", "--transform", "s,^[^/]*,tarball,"],
-                       check=True)
-        for top in ["usr/share/doc", "tarball"]:
-            folder = f"{self.work}/files/{top}"
+        files = f"{self.work}/files"
+        tarball = glob.glob(f"{built}/*.tar.gz")[0]
+        subprocess.run(["tar", "xf", tarball, "-C", files, "--transform", "s,^[^/]*,tarball,"], check=True)
+        for top, one in [("usr/share/doc", "libdatasketches-dev/README.md"), ("tarball", "README.md")]:
+            folder = f"{files}/{top}"
             listed = [os.path.relpath(it, folder) for it in glob.glob(f"{folder}/**/*.md", recursive=True)]
-            self.check(f"pages below {top}", {"usr/share/doc": "libdatasketches-dev/README.md"}.get(top, "README.md") in listed)
+            self.check(f"pages below {top}", one in listed)
             links.check(self, folder, listed)
         with zipfile.ZipFile(*glob.glob(f"{built}/*.whl")) as wheel:
             text = wheel.read(next(it for it in wheel.namelist() if it.endswith("/METADATA"))).decode()
