@@ -38,25 +38,25 @@ size_t take_refused(void);
 /* --- errors.c --- */
 
 /* Raises the error of a result below 0. */
-void raise_result(int32_t result) pg_attribute_noreturn();
+void raise_result(int32_t result) __attribute__((noreturn));
 
 /* Raises an error of an argument: 22023, with this message. */
-void raise_argument(const char *message) pg_attribute_noreturn();
+void raise_argument(const char *message) __attribute__((noreturn));
 
 /* Raises an error of items: a sketch of one type of items was used as one of another type. */
-void raise_items(const char *message) pg_attribute_noreturn();
+void raise_items(const char *message) __attribute__((noreturn));
 
 /* Raises an error of a value that is no sketch of this type. */
-void raise_kind(const char *message) pg_attribute_noreturn();
+void raise_kind(const char *message) __attribute__((noreturn));
 
 /* Raises the error of a value with another version of the stored form than the one that is read. */
-void raise_version(int version, int read) pg_attribute_noreturn();
+void raise_version(int version, int read) __attribute__((noreturn));
 
 /* Raises the error of sizes that differ between rows of a group. */
-void raise_sizes(void) pg_attribute_noreturn();
+void raise_sizes(void) __attribute__((noreturn));
 
 /* Raises the error of a sketch of more bytes than PostgreSQL stores. */
-void raise_stored(uint64 bytes) pg_attribute_noreturn();
+void raise_stored(uint64 bytes) __attribute__((noreturn));
 
 static inline void check_result(int32_t result)
 {
@@ -110,7 +110,7 @@ static inline size_t limit_of(Kind kind)
 }
 
 /* Raises the error of a sketch that exceeds the limit of its kind. `bytes` is 0 if they are not known. */
-void raise_limit(Kind kind, uint64 bytes) pg_attribute_noreturn();
+void raise_limit(Kind kind, uint64 bytes) __attribute__((noreturn));
 
 /* Raises an error if a sketch of these bytes exceeds the limit of its kind. */
 static inline void check_bytes(Kind kind, uint64 bytes)
@@ -153,7 +153,8 @@ static inline ds_string string_argument(FunctionCallInfo fcinfo, int number)
 {
     struct varlena *argument = PG_GETARG_RAW_VARLENA_P(number);
     ds_string string;
-    if (unlikely(VARATT_IS_COMPRESSED(argument) || VARATT_IS_EXTERNAL(argument))) argument = PG_DETOAST_DATUM_PACKED(argument);
+    if (unlikely(VARATT_IS_COMPRESSED(argument) || VARATT_IS_EXTERNAL(argument)))
+        argument = PG_DETOAST_DATUM_PACKED(PointerGetDatum(argument));
     string.bytes = (const uint8_t *) VARDATA_ANY(argument);
     string.length = VARSIZE_ANY_EXHDR(argument);
     return likely(database_encoding == PG_UTF8) ? string : converted(string);

@@ -2,28 +2,40 @@
  *
  * A sketch is known again by the bytes of its datum: those of a pointer to a toasted value, or of the value itself. So the last
  * sketches of a function are detoasted and verified once. There are many, since a nested loop may bring all sketches of a table in
- * turn. */
+ * turn. If a sketch comes again that was forgotten for lack of room, the function gets room for it too: otherwise a loop over
+ * slightly more sketches than there is room for would read each of them at each row. */
 #include "extension.h"
 
 #include "access/detoast.h"
 #include "access/htup_details.h"
+#include "common/hashfn.h"
 #include "funcapi.h"
 #include "miscadmin.h"
 #include "utils/memutils.h"
 
-/* All but the last sketch take at most this many bytes, or `work_mem` if it is more. */
+/* All but the last sketch take at most this many bytes, or `work_mem` if it is more. With those that came again after they were
+ * forgotten they take at most `MOST_KEPT_BYTES`, and an eighth of what a statement may take. */
 #define MAX_KEPT 32
 #define KEPT_BYTES ((size_t) 16 * 1024 * 1024)
+#define MOST_KEPT_BYTES ((size_t) 256 * 1024 * 1024)
 
 /* A longer key is compared in full only if it lies at another address than before. */
 #define SHORT_KEY 1024
 #define ENDS 64
 
+/* A sketch that was forgotten: a hash of its key, and what it took. */
+typedef struct Forgotten {
+    uint64 hash;
+    size_t bytes;
+} Forgotten;
+
 /* A function's sketches, in a ring: the next sketch replaces the one after the last. */
 typedef struct Cache {
     Kept kept[MAX_KEPT];
+    Forgotten forgotten[MAX_KEPT]; /* the last one of each place */
     int last; /* the one that was used last */
     size_t bytes;
+    size_t more_room; /* for sketches that came again */
     TupleDesc row;
 } Cache;
 
@@ -50,9 +62,18 @@ static inline bool is_key(const Kept *kept, const void *datum, size_t bytes)
            memcmp((const char *) kept->key + bytes - ENDS, (const char *) datum + bytes - ENDS, ENDS) == 0;
 }
 
+/* Returns a hash of a key's ends. */
+static uint64 hash_of(const void *key, size_t bytes)
+{
+    size_t end = Min(bytes, ENDS);
+    return hash_bytes_extended(key, (int) end, bytes) ^ hash_bytes_extended((const unsigned char *) key + bytes - end, (int) end, 1);
+}
+
 /* Forgets a kept sketch, if there is one. */
 static void forget(Cache *cache, Kept *kept)
 {
+    if (kept->key_bytes != 0)
+        cache->forgotten[kept - cache->kept] = (Forgotten) {hash_of(kept->key, kept->key_bytes), kept->bytes};
     if (kept->context != NULL) MemoryContextReset(kept->context);
     cache->bytes -= kept->bytes;
     kept->bytes = kept->key_bytes = 0;
@@ -60,10 +81,24 @@ static void forget(Cache *cache, Kept *kept)
     kept->handle = (ds_sketch) DS_NONE;
 }
 
+/* Gets more room if a sketch comes again that was forgotten. */
+static void remember(Cache *cache, const void *key, size_t bytes)
+{
+    uint64 hash = hash_of(key, bytes);
+    for (int i = 0; i < MAX_KEPT; i++) {
+        Forgotten *one = &cache->forgotten[i];
+        if (one->bytes == 0 || one->hash != hash) continue;
+        cache->more_room = Min(cache->more_room + one->bytes, MOST_KEPT_BYTES);
+        one->bytes = 0;
+    }
+}
+
 /* Forgets sketches from a place on until another one of `bytes` bytes fits. */
 static void make_room(Cache *cache, int place, size_t bytes)
 {
-    size_t limit = Max(KEPT_BYTES, (size_t) work_mem * 1024);
+    size_t usual = Max(KEPT_BYTES, (size_t) work_mem * 1024);
+    size_t most = Min(MOST_KEPT_BYTES, (size_t) max_statement_kilobytes * (1024 / 8));
+    size_t limit = Max(usual, Min(usual + cache->more_room, most));
     forget(cache, &cache->kept[place]);
     for (int i = 1; i < MAX_KEPT && cache->bytes + bytes > limit; i++) forget(cache, &cache->kept[(place + i) % MAX_KEPT]);
 }
@@ -81,6 +116,7 @@ static Kept *keep(FunctionCallInfo fcinfo, Cache *cache, int place, struct varle
 {
     Kept *kept = &cache->kept[place];
     MemoryContext before;
+    remember(cache, datum, bytes);
     make_room(cache, place, toast_raw_datum_size(PointerGetDatum(datum)));
     if (kept->context == NULL)
         kept->context = AllocSetContextCreate(fcinfo->flinfo->fn_mcxt, "kept sketch", ALLOCSET_SMALL_SIZES);

@@ -236,7 +236,7 @@ static Datum type_in(FunctionCallInfo fcinfo, Kind kind)
     Sketch *sketch;
     if (text[length] != '\0') ereport(ERROR, (errcode(ERRCODE_INVALID_TEXT_REPRESENTATION), errmsg("the sketch is not base64")));
     for (size_t start = 0; start < length; start += LETTERS_IN_BLOCK) {
-        int part = pg_b64_decode(text + start, (int) Min(length - start, LETTERS_IN_BLOCK), bytes + written,
+        int part = pg_b64_decode(text + start, (int) Min(length - start, LETTERS_IN_BLOCK), (void *) (bytes + written),
                                  (int) (length / 4 * 3 + 3 - written));
         if (part < 0) ereport(ERROR, (errcode(ERRCODE_INVALID_TEXT_REPRESENTATION), errmsg("the sketch is not base64")));
         written += part;
@@ -268,7 +268,7 @@ Datum sketch_out(PG_FUNCTION_ARGS)
     if (capacity >= MaxAllocSize) raise_stored(length);
     text = palloc(capacity + 1);
     for (size_t start = 0; start < length; start += BYTES_IN_BLOCK) {
-        int part = pg_b64_encode(bytes + start, (int) Min(length - start, BYTES_IN_BLOCK), text + written,
+        int part = pg_b64_encode((const void *) (bytes + start), (int) Min(length - start, BYTES_IN_BLOCK), text + written,
                                  (int) (capacity - written));
         if (part < 0) elog(ERROR, "base64 has no room");
         written += part;

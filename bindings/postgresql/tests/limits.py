@@ -1,4 +1,6 @@
 """Limits that users and administrators set: of one sketch, of all users, and of all sketches of a statement."""
+import time
+
 import psycopg2
 
 from ends import MB, code_of, held
@@ -26,6 +28,22 @@ def small_images(tests):
         tests.check("the rows are short", cursor.fetchone()[0] < 64)
         error = error_of(cursor, "SELECT status(bloom_filter_union(filter)) FROM short")
         tests.check("a union of short rows takes the memory of few of them", error is None, error)
+
+
+def kept_by_use(tests):
+    """Six sketches that slightly exceed the usual room of a function are not read again at each row."""
+    with tests.main.session() as session, session.cursor() as cursor:
+        cursor.execute("CREATE TEMP TABLE large AS SELECT j, frequent_bigints_agg(i * 6 + j, 1, 131072) AS sketch "
+                       "FROM generate_series(0::bigint, 5) AS j, generate_series(1::bigint, 90000) AS i GROUP BY j")
+        asked = ("SELECT sum((SELECT sum(estimate(sketch, k)) FROM large)) FROM generate_series(1::bigint, 300) AS k")
+        seconds = {}
+        for memory in ("4MB", "64MB"):
+            cursor.execute(f"SET work_mem = '{memory}'")
+            began = time.monotonic()
+            cursor.execute(asked)
+            seconds[memory] = time.monotonic() - began
+            tests.check(f"each key is in one of the sketches: {memory}", cursor.fetchone()[0] == 295)
+        tests.check("the usual room is enough", seconds["4MB"] < 5 * seconds["64MB"] + 1, seconds)
 
 
 def planned(tests):

@@ -32,6 +32,7 @@ import limits  # noqa: E402
 import page  # noqa: E402
 import server  # noqa: E402
 import stored  # noqa: E402
+import versions  # noqa: E402
 
 PYTHON = "/usr/bin/python3"
 VALGRIND = ["valgrind", "-q", "--trace-children=yes", "--leak-check=no", "--error-limit=no", "--fullpath-after="]
@@ -145,8 +146,9 @@ def valgrind(tests):
 
 GROUPS = [queries, isolation, bounds.every_key, ends.cancels, ends.many_cancels, ends.killed, ends.out_of_memory,
           stored.dump_and_restore, stored.copied, stored.encodings, stored.collations, stored.versions, stored.owned,
-          item_types.types, item_types.orders, item_types.images_of_other_items, limits.small_images, limits.planned, limits.administrators,
-          limits.settings, exchange.interfaces, page.page_queries, errors.page_errors, damage.damaged_bytes]
+          item_types.types, item_types.orders, item_types.images_of_other_items, limits.small_images, limits.planned,
+          limits.administrators, limits.settings, limits.kept_by_use, exchange.interfaces, page.page_queries, errors.page_errors,
+          damage.damaged_bytes, versions.compiles]
 
 
 def run_group(tests, group):
