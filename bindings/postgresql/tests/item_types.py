@@ -104,3 +104,14 @@ def images_of_other_items(tests):
         for strings in ([b"a"], [b"abcd", b"efghijkl"], [b"123456789"] * 2):
             code = code_of(cursor, f"SELECT frequent_bigints_from_image('\\x{image_of(*strings)}')")
             tests.check(f"an image of strings is not read as bigints: {strings}", code == "SK002", code)
+
+
+def comments(tests):
+    """Each object of the extension has a comment."""
+    with tests.main.session() as session, session.cursor() as cursor:
+        cursor.execute("SELECT pg_describe_object(classid, objid, 0), obj_description(objid, classid::regclass::name) FROM pg_depend "
+                       "JOIN pg_extension ON refobjid = pg_extension.oid AND refclassid = 'pg_extension'::regclass "
+                       "WHERE deptype = 'e' AND extname = 'sketches_rattle'")
+        rows = cursor.fetchall()
+        bare = [name for name, text in rows if not text]
+        tests.check("each object has a comment", len(rows) > 200 and not bare, (len(rows), bare))
