@@ -61,10 +61,10 @@ def worked(shown):
         ("status n", "frequent active 0 error 0 total 0 size 8 max 64 capacity 6"),
         # eight slots of 44 bytes
         (f"load o frequent 351 {EMPTY}", "refused TableTooLarge"),
-        # plus the six bytes of the item, and any bytes after the image
+        # plus the six bytes of the item, and none after the image
         (f"load o frequent 357 {AB}", "refused TableTooLarge"),
-        (f"load o frequent 358 {AB}00", "refused TableTooLarge"),
-        (f"load o frequent 358 {AB}", "ok"),
+        (f"load o frequent 357 {AB}00", "refused TableTooLarge"),
+        (f"load o frequent 358 {AB}00", "ok"),
         (f"load o2 frequent 352 {EMPTY}00", "ok"),
         ("merge n h", "ok"),
         ("ask n ab", "estimate 5 lower 5 upper 5"),

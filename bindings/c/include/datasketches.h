@@ -489,8 +489,8 @@ int32_t ds_count_min_i64_image_estimate_string(const uint8_t *image, size_t leng
 /* --- Frequent items: the items of the largest weights, in at most three quarters of `max_map_size` counters.
  *
  * A sketch's table hashes items by SipHash-1-3 under a key of two words. With a secret key, no way is known to choose items that
- * slow the sketch down, for a caller who sees no images, rows, walks or times of calls of sketches under the key. A clone has the
- * key of its original. A merge keeps the handle's own key. An image has no key.
+ * slow the sketch down. This holds for callers who see no images, rows, walks or times of calls of sketches under the key. A clone
+ * has the key of its original. A merge keeps the handle's own key. An image has no key.
  *
  * `new`, `deserialize` and `deserialize_prefix` draw a key. The first call of a process asks the system for two random words. Each
  * call counts the first word up, so no two sketches of a process get the same key. After a `fork`, the child draws words of its own.
@@ -633,9 +633,9 @@ int32_t ds_frequent_items_string_serialize(ds_sketch *handle, uint8_t *out, size
 
 /* Reads a sketch from its image and puts it into the handle, under a drawn key. It takes the largest sample size, since an image
  * has none. Returns DS_NO_RANDOM. Returns the error of the image's first failed check. Returns DS_TABLE_TOO_LARGE if the table
- * takes more than `max_bytes` by the formula of `ds_memory_bytes`. With strings, all bytes of `image` after the weights are added
- * to the table's. Returns DS_NO_MEMORY. Before both come the checks of the image's length and fields. The checks of the weights
- * and the items come after them. */
+ * takes more than `max_bytes` by the formula of `ds_memory_bytes`. The bytes that strings take in the image are added to the
+ * table's. Returns DS_NO_MEMORY. Before both come the checks of the image's length and fields. The checks of the weights and the
+ * items come after them. */
 int32_t ds_frequent_items_u64_deserialize(ds_sketch *handle, const uint8_t *image, size_t length, size_t max_bytes);
 int32_t ds_frequent_items_i64_deserialize(ds_sketch *handle, const uint8_t *image, size_t length, size_t max_bytes);
 int32_t ds_frequent_items_string_deserialize(ds_sketch *handle, const uint8_t *image, size_t length, size_t max_bytes);
@@ -650,7 +650,7 @@ int32_t ds_frequent_items_string_deserialize_with_key(ds_sketch *handle, const u
 
 /* Reads a sketch from the image at the front of `image` and puts it into the handle, under a drawn key, as the calls without
  * `prefix` do. Writes the number of bytes that the image takes to `used`. The bytes after it are ignored, so images can stand one
- * after another. But with strings, all bytes of `image` after the weights count for `max_bytes`. */
+ * after another. */
 int32_t ds_frequent_items_u64_deserialize_prefix(ds_sketch *handle, const uint8_t *image, size_t length, size_t max_bytes,
                                                  size_t *used);
 int32_t ds_frequent_items_i64_deserialize_prefix(ds_sketch *handle, const uint8_t *image, size_t length, size_t max_bytes,

@@ -705,13 +705,13 @@ static void bytes_taken(void)
     CHECK(ds_frequent_items_string_new(&a, 64, 48) == DS_OK && ds_memory_bytes(&a, &bytes) == DS_OK && bytes == 8 * 44);
     CHECK(ds_frequent_items_string_update(&a, apple, 5, 2) == DS_OK && ds_frequent_items_string_update(&a, apple, 5, 1) == DS_OK);
     CHECK(ds_frequent_items_string_update(&a, NULL, 0, 1) == DS_OK && ds_memory_bytes(&a, &bytes) == DS_OK && bytes == 8 * 44 + 5);
-    /* in the image the two strings take 4 and 9 bytes; bytes after the image count too */
+    /* in the image the two strings take 4 and 9 bytes; bytes after the image do not count */
     CHECK(ds_frequent_items_string_serialize(&a, image, sizeof image, &length) == DS_OK && length == 32 + 2 * 8 + 13);
     CHECK(ds_frequent_items_string_deserialize(&a, image, length, 8 * 44 + 12) == DS_TABLE_TOO_LARGE);
     CHECK(ds_frequent_items_string_deserialize(&a, image, length, 8 * 44 + 13) == DS_OK);
-    CHECK(ds_frequent_items_string_deserialize(&a, image, length + 1, 8 * 44 + 13) == DS_TABLE_TOO_LARGE);
-    CHECK(ds_frequent_items_string_deserialize_prefix(&a, image, length + 1, 8 * 44 + 13, &bytes) == DS_TABLE_TOO_LARGE);
-    CHECK(ds_frequent_items_string_deserialize_prefix(&a, image, length + 1, 8 * 44 + 14, &bytes) == DS_OK && bytes == length);
+    CHECK(ds_frequent_items_string_deserialize(&a, image, length + 1, 8 * 44 + 13) == DS_OK);
+    CHECK(ds_frequent_items_string_deserialize_prefix(&a, image, length + 1, 8 * 44 + 12, &bytes) == DS_TABLE_TOO_LARGE);
+    CHECK(ds_frequent_items_string_deserialize_prefix(&a, image, length + 1, 8 * 44 + 13, &bytes) == DS_OK && bytes == length);
     CHECK(ds_memory_bytes(&a, &bytes) == DS_OK && bytes == 8 * 44 + 5);
     CHECK(ds_frequent_items_string_reset(&a) == DS_OK && ds_memory_bytes(&a, &bytes) == DS_OK && bytes == 8 * 44);
     CHECK(ds_frequent_items_u64_deserialize(&a, OF_SEVEN, 48, 8 * 28 - 1) == DS_TABLE_TOO_LARGE);

@@ -30,7 +30,6 @@ static uint64_t next_random(void)
 
 /* The calls for a kind of sketch: the length of its image, what writes it, and what reads an image alone or at the front. */
 struct kind {
-    bool is_of_strings;
     int32_t (*serialized_bytes)(ds_sketch *, size_t *);
     int32_t (*serialize)(ds_sketch *, uint8_t *, size_t, size_t *);
     int32_t (*alone)(ds_sketch *, const uint8_t *, size_t, size_t);
@@ -64,12 +63,12 @@ FREQUENT(i64)
 FREQUENT(string)
 
 #define CALLS(prefix) prefix##_serialized_bytes, prefix##_serialize
-static const struct kind FILTERS = {false, CALLS(ds_bloom), ds_bloom_deserialize, ds_bloom_deserialize_prefix};
-static const struct kind COUNTS_U64 = {false, CALLS(ds_count_min_u64), u64_alone, u64_front};
-static const struct kind COUNTS_I64 = {false, CALLS(ds_count_min_i64), i64_alone, i64_front};
-static const struct kind OF_U64 = {false, CALLS(ds_frequent_items_u64), frequent_u64_alone, frequent_u64_front};
-static const struct kind OF_I64 = {false, CALLS(ds_frequent_items_i64), frequent_i64_alone, frequent_i64_front};
-static const struct kind OF_STRINGS = {true, CALLS(ds_frequent_items_string), frequent_string_alone, frequent_string_front};
+static const struct kind FILTERS = {CALLS(ds_bloom), ds_bloom_deserialize, ds_bloom_deserialize_prefix};
+static const struct kind COUNTS_U64 = {CALLS(ds_count_min_u64), u64_alone, u64_front};
+static const struct kind COUNTS_I64 = {CALLS(ds_count_min_i64), i64_alone, i64_front};
+static const struct kind OF_U64 = {CALLS(ds_frequent_items_u64), frequent_u64_alone, frequent_u64_front};
+static const struct kind OF_I64 = {CALLS(ds_frequent_items_i64), frequent_i64_alone, frequent_i64_front};
+static const struct kind OF_STRINGS = {CALLS(ds_frequent_items_string), frequent_string_alone, frequent_string_front};
 
 /* The sketches whose images stand one after another, each with its kind and the formula's length of its image. */
 enum { SKETCHES = 18 };
@@ -264,7 +263,7 @@ static void altered(void)
     CHECK(accepted > SKETCHES * TRIALS / 3 && rejected > SKETCHES * TRIALS / 9);
 }
 
-/* The limit counts what follows an image only with strings: there all bytes after the weights. */
+/* The limit does not count what follows an image. */
 static void limits(void)
 {
     static uint8_t image[ROOM];
@@ -280,11 +279,11 @@ static void limits(void)
             else
                 least = middle + 1;
         }
-        bool counts = kinds[i]->is_of_strings && length > 8;
-        CHECK(both(kinds[i], image, length, least) == DS_OK && both(kinds[i], image, length, least - 1) == DS_TABLE_TOO_LARGE);
-        CHECK(both(kinds[i], image, length + 9, least) == (counts ? DS_TABLE_TOO_LARGE : DS_OK));
-        CHECK(both(kinds[i], image, length + 9, least + 9) == DS_OK);
-        CHECK(kinds[i]->front(&read, image, length + 9, least + 9, &used) == DS_OK && used == length);
+        for (size_t after = 0; after <= 9; after += 9) {
+            CHECK(both(kinds[i], image, length + after, least) == DS_OK);
+            CHECK(both(kinds[i], image, length + after, least - 1) == DS_TABLE_TOO_LARGE);
+        }
+        CHECK(kinds[i]->front(&read, image, length + 9, least, &used) == DS_OK && used == length);
         ds_free(&read);
     }
 }

@@ -112,16 +112,28 @@ class Prefixes(unittest.TestCase):
         self.assertGreater(accepted, 1000)
 
     def test_limits(self):
-        """With strings the limit counts all bytes after the weights."""
-        for sketch, _, read_prefix, length in wholes():
-            image, strings = bytes(sketch), read_prefix is STRINGS[1]
+        """The limit does not count what follows an image."""
+        for sketch, read, read_prefix, length in wholes():
+            image = bytes(sketch)
             least = next(limit for limit in range(5000) if outcome(read_prefix, image, max_bytes=limit)[1] != "TableTooLarge")
-            self.assertEqual(outcome(read_prefix, image, max_bytes=least)[1], length)
-            counts = strings and length > 8
-            more = outcome(read_prefix, image + bytes(9), max_bytes=least)[1]
-            self.assertEqual(more, "TableTooLarge" if counts else length)
-            self.assertEqual(read_prefix(image + bytes(9), max_bytes=least + 9)[1], length)
+            for after in (b"", bytes(9), 50 * image):
+                self.assertEqual(read_prefix(image + after, max_bytes=least)[1], length)
+                self.assertEqual(outcome(read, image + after, max_bytes=least - 1)[1], "TableTooLarge")
+                self.assertEqual(outcome(read_prefix, image + after, max_bytes=least - 1)[1], "TableTooLarge")
             self.assertEqual(read_prefix(image, max_bytes=None)[1], length)
+
+    def test_limit_of_strings(self):
+        """A limit counts the strings up to the first that cannot be read."""
+        image = bytes(frequent(["ab", "cde"], item=str))
+        for place, fault in ((len(image) - 1, "InvalidUtf8"), (len(image) - 8, "InsufficientData")):
+            for after in (b"", 50 * image):
+                damaged = bytearray(image + after)
+                damaged[place] = 255
+                if fault == "InsufficientData":
+                    damaged[place:place + 4] = b"\xff\xff\xff\xff"
+                for read in STRINGS[:2]:
+                    self.assertEqual(outcome(read, bytes(damaged), max_bytes=8 * 44 + 7), ("InvalidData", fault))
+                    self.assertEqual(outcome(read, bytes(damaged), max_bytes=8 * 44 + 5)[1], "TableTooLarge")
 
     def test_arguments(self):
         load = ds.CountMinSketch(3, 7, seed=5)

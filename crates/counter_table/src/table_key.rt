@@ -5,9 +5,9 @@ use std::fmt;
 /// How a table hashes its items: by the fixed hash that anyone can compute, or under a secret key.
 ///
 /// A caller who chooses the items can make a plain table slow: all of its items can have the same home. With a secret key, no
-/// way is known to choose items that slow a table down, for a caller who sees no images, rows, walks or times of calls of tables
-/// under the key. The order of items and the time of calls show which items are near one another in a table. Errors show
-/// little of it: each purge of a table begins its sample at another slot.
+/// way is known to choose items that slow a table down. This holds for callers who see no images, rows, walks or times of calls
+/// of tables under the key. The order of items and the time of calls show which items are near one another in a table. Errors
+/// show little of it: each purge of a table begins its sample at another slot.
 ///
 /// A key changes the time of calls, the order of a walk and the entries that a purge samples. It changes no result that a
 /// contract pins.

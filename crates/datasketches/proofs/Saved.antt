@@ -176,5 +176,5 @@ pub no_limit : {C : Type 0} (item : RattleType) (codec : Codec C) (image : List 
     → IsImageRefusal (frequent.early_fault_within item 18446744073709551615 codec image) (or_else (frequent.early_fault_within item 18446744073709551615 codec image) late) e
     → IsImageRefusal (frequent.early_fault image) (or_else (frequent.early_fault image) late) e
 no_limit item codec image late e refused =
-    let within : over_limit 18446744073709551615 (memory_bytes (table_bytes item (frequent.restored_size image)) (max_owned codec (frequent.bytes_for_items image))) ≡ None = not_over _ _ (omega arith) in
+    let within : over_limit 18446744073709551615 (memory_bytes (table_bytes item (frequent.restored_size image)) (max_owned codec (frequent.bytes_of_items codec image))) ≡ None = not_over _ _ (omega arith) in
     subst (λ (early : Option Fault). IsImageRefusal early (or_else early late) e) (ap (or_else (frequent.early_fault image)) within ∙ or_else-none (frequent.early_fault image)) refused

@@ -88,7 +88,7 @@ abbrev pub load_fault : (slot : ℕ) → {C : Type 0} → Codec C → (max_bytes
 load_fault slot codec max_bytes kind.Frequent bytes =
     over_limit max_bytes
     (memory_bytes (slots_bytes slot (frequent.restored_size bytes))
-    (max_owned codec (frequent.bytes_for_items bytes)))
+    (max_owned codec (frequent.bytes_of_items codec bytes)))
 load_fault slot codec max_bytes (kind.CountI64 seed) bytes = count.limit_fault 8 max_bytes bytes
 load_fault slot codec max_bytes (kind.CountU64 seed) bytes = count.limit_fault 8 max_bytes bytes
 load_fault slot codec max_bytes kind.Bloom bytes = bloom.limit_fault max_bytes bytes

@@ -96,8 +96,8 @@ impl<T: FrequentItemValue + Clone + Drop> Session<T> {
     /// Creates a session as [`new`](Self::new) does, whose sketches of frequent items hash under `key`.
     ///
     /// The key applies to the sketches that commands create, restore and load. With a secret key, no way is known to
-    /// choose items or images that slow them down, for a caller who sees no images, rows, walks or times of calls of sketches
-    /// under the key ([`TableKey`]). Names hash as in a session of `new`. If callers choose the names, use
+    /// choose items or images that slow them down. This holds for callers who see no images, rows, walks or times of calls of
+    /// sketches under the key ([`TableKey`]). Names hash as in a session of `new`. If callers choose the names, use
     /// [`with_key_and_hasher`](Self::with_key_and_hasher).
     ///
     /// # Examples

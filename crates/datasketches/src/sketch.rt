@@ -292,7 +292,7 @@ impl<T: FrequentItemValue + Drop> Sketch<T> {
     ///
     /// For frequent items the limit counts what
     /// [`deserialize_with_limit`](sketch_frequencies::FrequentItemsSketch::deserialize_with_limit) counts: the table,
-    /// and for items that own memory also the bytes after the weights.
+    /// and for items that own memory also the bytes that they take in the image.
     ///
     /// # Errors
     ///

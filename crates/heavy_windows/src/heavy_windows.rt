@@ -91,9 +91,9 @@ impl<T: Eq + Hash + Drop> HeavyWindows<T> {
     /// Creates an empty store as [`new`](Self::new) does, whose sketches hash under `key`.
     ///
     /// All windows and the merged sketches of reports have tables under the key. With a secret key, no way is known to
-    /// choose items that slow them down, for a caller who sees no images, rows, walks or times of calls of sketches under the key
-    /// ([`TableKey`]). A report has rows. The map of tenants hashes as that of `new`. If callers choose the tenants' numbers, use
-    /// [`with_key_and_hasher`](Self::with_key_and_hasher).
+    /// choose items that slow them down. This holds for callers who see no images, rows, walks or times of calls of sketches
+    /// under the key ([`TableKey`]). A report has rows. The map of tenants hashes as that of `new`. If callers choose the tenants'
+    /// numbers, use [`with_key_and_hasher`](Self::with_key_and_hasher).
     ///
     /// # Errors
     ///

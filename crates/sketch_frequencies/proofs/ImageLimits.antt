@@ -7,14 +7,14 @@ use Rattle.sketch_base.specs.Checks.{IsImageRefusal, or_else}
 use Rattle.sketch_base.specs.Errors.{ErrorValue}
 use Rattle.sketch_base.specs.declared.fault.Fault.{Fault}
 use Rattle.counter_table.specs.Bytes.{table_bytes}
-use Rattle.sketch_frequencies.specs.Image.{early_fault, early_fault_within, limit_fault, restored_size, bytes_for_items}
+use Rattle.sketch_frequencies.specs.Image.{early_fault, early_fault_within, limit_fault, restored_size, bytes_of_items}
 use Rattle.sketch_frequencies.specs.Items.{Codec, max_owned}
 use Rattle.sketch_frequencies.specs.Memory.{memory_bytes}
 
 none_above : {C : Type 0} (item : RattleType) (codec : Codec C) (image : List ℕ) → limit_fault item 18446744073709551615 codec image ≡ None
 none_above item codec image =
     let table = table_bytes item (restored_size image) in
-    let owned = max_owned codec (bytes_for_items image) in
+    let owned = max_owned codec (bytes_of_items codec image) in
     let within : ltb 18446744073709551615 (memory_bytes table owned) ≡ false = le-ltb _ _ (omega arith) in
     rw within refl
 

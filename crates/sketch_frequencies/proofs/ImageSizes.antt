@@ -10,8 +10,8 @@ use Rattle.sketch_base.specs.declared.fault.Fault.{Fault}
 use Rattle.counter_table.specs.Slots.{entries_of, slot_entry}
 use Rattle.counter_table.specs.declared.slot.Slot.{Slot}
 use Rattle.counter_table.specs.declared.slot.Slot.TheVariants.{Taken}
-use Rattle.sketch_frequencies.specs.Image.{AreEncoded, contents_of, items_bytes}
-use Rattle.sketch_frequencies.specs.Items.{Codec, IsWithin}
+use Rattle.sketch_frequencies.specs.Image.{AreEncoded, contents_of, items_bytes, used_by}
+use Rattle.sketch_frequencies.specs.Items.{Codec, IsLawful, IsWithin}
 use Rattle.sketch_frequencies.specs.Writing.{TakeBytes}
 use Rattle.sketch_frequencies.proofs.SlotEntries.{entries_taken}
 use Rattle.sketch_frequencies.proofs.Spellings.{encoded_push}
@@ -111,46 +111,72 @@ module _ {T C : Type 0} (codec : Codec C) (content : T → C) where
 pub size_is : {C : Type 0} (codec : Codec C) (v : C) (n : ℕ) (first : List ℕ) → codec.encoding v ≡ Ok first → IfOk (codec.encoding v) (λ bytes. n ≡ length bytes) → n ≡ length first
 size_is codec v n first enc h = subst (λ r. IfOk r (λ bytes. n ≡ length bytes)) enc h
 
--- ---- how many bytes are read
+-- ---- how many bytes are read or measured
 
-bytes_next : {C : Type 0} (codec : Codec C) (n used : ℕ) (bytes : List ℕ) (v : C) → codec.reading bytes ≡ Ok (v, used) → items_bytes codec (suc n) bytes ≡ used + items_bytes codec n (drop used bytes)
+no_items : {C : Type 0} (codec : Codec C) (n : ℕ) (bytes : List ℕ) → n ≡ 0 → items_bytes codec n bytes ≡ 0
 unfolding items_bytes
-bytes_next codec n used bytes v read = rw read refl
+no_items codec zero bytes h = refl
+no_items codec (suc n) bytes h = absurd (omega (arith, h))
 
--- one item was read, and the others remain
-bytes_step : {C : Type 0} (codec : Codec C) (n used : ℕ) (bytes : List ℕ) (v : C) → 0 < n → codec.reading bytes ≡ Ok (v, used) → (m : ℕ) → m + 1 ≡ n → items_bytes codec n bytes ≡ used + items_bytes codec m (drop used bytes)
-bytes_step codec zero used bytes v lt read m less = absurd (omega (arith, lt))
-bytes_step codec (suc n) used bytes v lt read m less =
-    let next : items_bytes codec (suc n) bytes ≡ used + items_bytes codec n (drop used bytes) = bytes_next codec n used bytes v read in
-    next ∙ ap (λ (k : ℕ). used + items_bytes codec k (drop used bytes)) (omega (arith, less))
+-- of no items
+pub items_of_none : {C : Type 0} (codec : Codec C) (bytes : List ℕ) → items_bytes codec 0 bytes ≡ 0
+items_of_none codec bytes = no_items codec 0 bytes refl
 
-module _ {C : Type 0} (codec : Codec C) (image : List ℕ) (active : ℕ) where
-  -- i items were read, and the rest of the image is unread
+-- one item, and the others
+bytes_next : {C : Type 0} (codec : Codec C) (n m used : ℕ) (bytes : List ℕ) → n ≡ suc m → used_by (codec.reading bytes) ≡ used → items_bytes codec n bytes ≡ used + items_bytes codec m (drop used bytes)
+unfolding items_bytes
+bytes_next codec n m used bytes less is = rw (less, sym is) refl
+
+-- after an item that cannot be read, none is counted
+no_more : {C : Type 0} (codec : Codec C) (n : ℕ) (bytes : List ℕ) → used_by (codec.reading bytes) ≡ 0 → items_bytes codec n bytes ≡ 0
+no_more codec zero bytes h = items_of_none codec bytes
+no_more codec (suc n) bytes h = omega (arith, bytes_next codec (suc n) n 0 bytes refl h, no_more codec n bytes h)
+
+module _ {C : Type 0} (codec : Codec C) (items : List ℕ) (active : ℕ) where
+  -- i items were read, and the rest is unread
   pub record AreReadSoFar (i : ℕ) (rest : List ℕ) : Type 0 where
-    pub room : length rest ≤ length image - (32 + 8 * active)
-    pub bytes : items_bytes codec active (drop (32 + 8 * active) image) ≡ length image - (32 + 8 * active) - length rest + items_bytes codec (active - i) rest
+    pub room : length rest ≤ length items
+    pub bytes : items_bytes codec active items ≡ length items - length rest + items_bytes codec (active - i) rest
 
-  pub none_read : (rest : List ℕ) → rest ≡ drop (32 + 8 * active) image → AreReadSoFar 0 rest
+  pub none_read : (rest : List ℕ) → rest ≡ items → AreReadSoFar 0 rest
   none_read rest is =
-      let long : length rest ≡ length image - (32 + 8 * active) = ap length is ∙ length-drop (32 + 8 * active) image in
       let whole : items_bytes codec (active - 0) rest ≡ items_bytes codec active rest = ap (λ (n : ℕ). items_bytes codec n rest) (omega arith) in
       record {
-        room = omega (arith, long);
-        bytes = omega (arith, long, ap (items_bytes codec active) is, whole);
+        room = omega (arith, ap length is);
+        bytes = omega (arith, ap length is, ap (items_bytes codec active) is, whole);
       }
 
-  pub one_read : (i used : ℕ) (rest : List ℕ) (v : C) → i < active → used ≤ length rest → codec.reading rest ≡ Ok (v, used) → AreReadSoFar i rest → AreReadSoFar (i + 1) (drop used rest)
-  one_read i used rest v lt within read h =
-      let step = bytes_step codec (active - i) used rest v (omega (arith, lt)) read (active - (i + 1)) (omega (arith, lt)) in
+  pub one_read : (i used : ℕ) (rest : List ℕ) → i < active → used ≤ length rest → used_by (codec.reading rest) ≡ used → AreReadSoFar i rest → AreReadSoFar (i + 1) (drop used rest)
+  one_read i used rest lt within read h =
+      let step = bytes_next codec (active - i) (active - (i + 1)) used rest (omega (arith, lt)) read in
       record {
         room = omega (arith, h.room, length-drop used rest);
         bytes = omega (arith, h.room, h.bytes, step, within, length-drop used rest);
       }
 
-  none_left : (n : ℕ) (rest : List ℕ) → n ≡ 0 → items_bytes codec n rest ≡ 0
-  unfolding items_bytes
-  none_left zero rest h = refl
-  none_left (suc n) rest h = absurd (omega (arith, h))
+  pub all_read : (i : ℕ) (rest : List ℕ) → active ≤ i → AreReadSoFar i rest → length items - length rest ≡ items_bytes codec active items
+  all_read i rest le h = omega (arith, h.room, h.bytes, no_items codec (active - i) rest (omega (arith, le)))
 
-  pub all_read : (i : ℕ) (rest : List ℕ) → active ≤ i → 32 + 8 * active ≤ length image → AreReadSoFar i rest → length image - length rest ≡ 32 + 8 * active + items_bytes codec active (drop (32 + 8 * active) image)
-  all_read i rest le there h = omega (arith, h.room, h.bytes, there, none_left (active - i) rest (omega (arith, le)))
+  -- the next item cannot be read
+  pub read_to_fault : (i : ℕ) (rest : List ℕ) → used_by (codec.reading rest) ≡ 0 → AreReadSoFar i rest → length items - length rest ≡ items_bytes codec active items
+  read_to_fault i rest none h = omega (arith, h.room, h.bytes, no_more codec (active - i) rest none)
+
+-- all bytes after the weights: those of the items, and the rest
+pub items_and_rest : {C : Type 0} (codec : Codec C) (image : List ℕ) (active i : ℕ) (rest : List ℕ) → active ≤ i → AreReadSoFar codec (drop (32 + 8 * active) image) active i rest → length image - (32 + 8 * active) ≡ length rest + items_bytes codec active (drop (32 + 8 * active) image)
+items_and_rest codec image active i rest le h = omega (arith, all_read codec (drop (32 + 8 * active) image) active i rest le h, h.room, length-drop (32 + 8 * active) image)
+
+-- ---- items lie within the bytes
+
+used_of : {C : Type 0} (n : ℕ) (r : Result (C × ℕ) Fault) → ((v : C) (used : ℕ) → r ≡ Ok (v, used) → used ≤ n) → used_by r ≤ n
+used_of n (Ok first) h = h first.0 first.1 refl
+used_of n (Err fault) h = omega arith
+
+module _ {C : Type 0} (codec : Codec C) (lawful : IsLawful codec) where
+  pub used_within : (bytes : List ℕ) → used_by (codec.reading bytes) ≤ length bytes
+  used_within bytes = used_of (length bytes) (codec.reading bytes) (λ v used e. lawful.within v used bytes e)
+
+  pub items_within : (n : ℕ) (bytes : List ℕ) → items_bytes codec n bytes ≤ length bytes
+  items_within zero bytes = omega (arith, items_of_none codec bytes)
+  items_within (suc n) bytes =
+      let used = used_by (codec.reading bytes) in
+      omega (arith, bytes_next codec (suc n) n used bytes refl refl, used_within bytes, items_within n (drop used bytes), length-drop used bytes)

@@ -15,6 +15,15 @@ use Rattle.sketch_frequencies.proofs.SlotEntries.{entries_taken, entries_passed}
 pub memory_le : (table owned more most : ℕ) → owned ≤ more → memory_bytes table more ≤ most → memory_bytes table owned ≤ most
 memory_le table owned more most le within = omega (arith, le, within)
 
+-- items that own memory own no more than their bytes, and others nothing
+pub owned_within : (owns : Bool) (n most : ℕ) → n ≤ most → cond owns n 0 ≤ most
+owned_within true n most le = le
+owned_within false n most le = omega arith
+
+pub nothing_owned : (owns : Bool) (n most : ℕ) → owns ≡ false → cond owns n 0 ≤ most
+nothing_owned true n most none = absurd cc
+nothing_owned false n most none = omega arith
+
 module _ {T C : Type 0} (codec : Codec C) (content : T → C) where
   -- an item more
   owned_put : (eq : T → T → Bool) (es : List (T × ℕ)) (x : T) (w : ℕ) → owned_by codec content (put eq es x w) ≤ owned_by codec content es + codec.owned (content x)
@@ -44,6 +53,14 @@ module _ {T C : Type 0} (codec : Codec C) (content : T → C) where
   pub owns_more : (eq : T → T → Bool) (n used w : ℕ) (rest : List ℕ) (x : T) (es fs : List (T × ℕ)) → used ≤ length rest → codec.owned (content x) ≤ max_owned codec used → IsPermutation (put eq es x w) fs → OwnsSoFar n rest es → OwnsSoFar n (drop used rest) fs
   owns_more eq n used w rest x es fs within bound perm h =
       moved codec.owns (owned_by codec content es) (owned_by codec content fs) (codec.owned (content x)) used 0 n rest within (owned_permuted eq es fs x w perm) bound h
+
+  at_the_end : (b : Bool) (owned left room items : ℕ) → room ≡ left + items → owned + cond b left 0 ≤ cond b room 0 → owned ≤ cond b items 0
+  at_the_end true owned left room items is h = omega (arith, is, h)
+  at_the_end false owned left room items is h = omega (arith, h)
+
+  -- when all items are read, they own at most the bytes that they take
+  pub owns_at_end : (n items : ℕ) (rest : List ℕ) (es : List (T × ℕ)) → n ≡ length rest + items → OwnsSoFar n rest es → owned_by codec content es ≤ max_owned codec items
+  owns_at_end n items rest es is h = at_the_end codec.owns (owned_by codec content es) (length rest) n items is h
 
   pub owns_dropped : (n used : ℕ) (rest : List ℕ) (es : List (T × ℕ)) → used ≤ length rest → OwnsSoFar n rest es → OwnsSoFar n (drop used rest) es
   owns_dropped n used rest es within h =

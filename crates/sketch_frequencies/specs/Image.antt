@@ -1,6 +1,6 @@
 -- The image of a frequent-items sketch: its fields by their offsets, its checks in their order, the sketch that it states,
 -- and how it is written.
-use Rattle.std.specs.Prelude.{◌≡◌, ◌⊎◌, ℕ, zero, suc, ◌+◌, ◌-◌, ◌*◌, ◌%◌, ◌<◌, ◌^◌, nat_le, nat_lt, ◌==◌, Bool, not, ◌||◌, List, [], ◌∷◌, ◌++◌, length, drop, map, sum, sum_by, Any, IsPermutation, Option, Some, None, Result, Ok, Err, bit_and, if◌then◌else◌}
+use Rattle.std.specs.Prelude.{◌≡◌, ◌⊎◌, ℕ, zero, suc, ◌+◌, ◌*◌, ◌%◌, ◌<◌, ◌^◌, nat_le, nat_lt, ◌==◌, Bool, not, ◌||◌, List, [], ◌∷◌, ◌++◌, length, drop, map, sum, sum_by, Any, IsPermutation, Option, Some, None, Result, Ok, Err, bit_and, if◌then◌else◌}
 use Rattle.std.specs.Int.{w32, w64, to_le_bytes}
 use Rattle.std.specs.List.{zip, flat_map}
 use denote.RattleType.{RattleType}
@@ -72,21 +72,22 @@ abbrev pub used_by : {C : Type 0} → Result (C × ℕ) Fault → ℕ
 used_by (Ok first) = first.1
 used_by (Err fault) = 0
 
--- how many bytes the first n items take
+-- how many bytes the first n items take, or those before the first that cannot be read
 unfoldable pub items_bytes : {C : Type 0} → Codec C → ℕ → List ℕ → ℕ
 items_bytes codec zero bytes = 0
 items_bytes codec (suc n) bytes =
     used_by (codec.reading bytes) + items_bytes codec n (drop (used_by (codec.reading bytes)) bytes)
+
+-- how many bytes the items of an image take: none if it states an empty sketch
+abbrev pub bytes_of_items : {C : Type 0} → Codec C → List ℕ → ℕ
+bytes_of_items codec image =
+    if says_empty image then 0 else items_bytes codec (active_at image) (drop (32 + 8 * active_at image) image)
 
 -- how many bytes the image at the front takes: what follows is not part of it
 abbrev pub prefix_bytes : {C : Type 0} → Codec C → List ℕ → ℕ
 prefix_bytes codec image =
     if says_empty image then 8
     else 32 + 8 * active_at image + items_bytes codec (active_at image) (drop (32 + 8 * active_at image) image)
-
--- the number of bytes after the weights, including those after the items
-abbrev pub bytes_for_items : List ℕ → ℕ
-bytes_for_items image = if says_empty image then 0 else length image - (32 + 8 * active_at image)
 
 -- the size of the table that the sketch has when it is read: an empty sketch has the minimum
 abbrev pub restored_size : List ℕ → ℕ
@@ -145,7 +146,7 @@ first_fault codec image = or_else (early_fault image) (late_fault codec image)
 -- a reader's own limit, checked after the early checks: the maximum bytes of the table and of what its items can own
 abbrev pub limit_fault : {C : Type 0} → RattleType → ℕ → Codec C → List ℕ → Option Fault
 limit_fault item max_bytes codec image =
-    let bytes = memory_bytes (table_bytes item (restored_size image)) (max_owned codec (bytes_for_items image)) in
+    let bytes = memory_bytes (table_bytes item (restored_size image)) (max_owned codec (bytes_of_items codec image)) in
     if nat_lt max_bytes bytes then Some TableTooLarge else None
 
 abbrev pub early_fault_within : {C : Type 0} → RattleType → ℕ → Codec C → List ℕ → Option Fault

@@ -1,12 +1,12 @@
 -- The encodings of numbers and strings are lawful.
-use Rattle.std.proofs.Common.{◌≡◌, ℕ, ◌+◌, ◌<◌, ◌≤◌, ◌^◌, Bool, true, false, cond, List, ◌++◌, length, take, drop, Result, Ok, Err, refl, sym, ap, subst, ◌∙◌, arith, ltb, length-append, length-take}
+use Rattle.std.proofs.Common.{◌≡◌, ℕ, ◌+◌, ◌<◌, ◌≤◌, ◌^◌, Bool, true, false, cond, List, ◌++◌, length, take, drop, Result, Ok, Err, refl, sym, ap, subst, ◌∙◌, arith, ltb, length-append, length-drop, length-take}
 use Rattle.std.specs.Prelude.{ℤ, pos, negsuc}
 use Rattle.std.specs.Cmp.{nat_eq_equiv, int_eq_equiv}
 use Rattle.std.specs.Cmp.Lexicographic.{nat_list_eq_equiv}
 use Rattle.std.specs.Str.{is_utf8}
 use Rattle.std.specs.Int.{w32, w64, to_le_bytes, cast_signed, cast_unsigned}
 use mir.Val.{SFits}
-use Rattle.std.proofs.lemmas.Bool.{ltb-true, le-ltb}
+use Rattle.std.proofs.lemmas.Bool.{ltb-true, ltb-false, le-ltb}
 use Rattle.std.proofs.lemmas.Int.{to_z-of_z}
 use Rattle.std.proofs.lemmas.List.{take_at}
 use Rattle.std.proofs.lemmas.Nat.{from_le_bytes-to_le_bytes_4, from_le_bytes-to_le_bytes_8}
@@ -49,10 +49,22 @@ u64_back v bytes rest e =
     subst (λ b. u64_reading (b ++ rest) ≡ Ok (v, length b)) (ok_is _ _ g.1)
     (u64_again v rest (ltb-true v (2 ^ 64) g.0))
 
+-- eight bytes that were read are there
+abbrev eight : {A : Type 0} → A → A × ℕ
+eight x = (x, 8)
+
+eight_within : {A : Type 0} (v x : A) (used : ℕ) (bytes : List ℕ)
+    → cond (ltb (length bytes) 8) (Err InsufficientData) (done (eight x)) ≡ done (v, used) → used ≤ length bytes
+eight_within v x used bytes e =
+    let g = guarded_not (ltb (length bytes) 8) InsufficientData (done (eight x)) (v, used) e in
+    let takes : 8 ≡ used = ap (λ q. q.1) (ok_is (eight x) (v, used) g.1) in
+    omega (arith, takes, ltb-false (length bytes) 8 g.0)
+
 pub u64_lawful : IsLawful u64_codec
 u64_lawful = record {
   equivalence = nat_eq_equiv;
   read_back = λ v bytes rest e. (v, u64_back v bytes rest e, nat_eq_equiv.refl v);
+  within = λ v used bytes e. eight_within v (le_at w64 bytes 0) used bytes e;
   owned_bound = λ v used bytes e. omega arith;
 }
 
@@ -83,6 +95,7 @@ pub i64_lawful : IsLawful i64_codec
 i64_lawful = record {
   equivalence = int_eq_equiv;
   read_back = λ v bytes rest e. (v, i64_back v bytes rest e, int_eq_equiv.refl v);
+  within = λ v used bytes e. eight_within v (signed_le_at w64 bytes 0) used bytes e;
   owned_bound = λ v used bytes e. omega arith;
 }
 
@@ -132,9 +145,18 @@ text_owned text used bytes e =
     let h = without_length (4 + n) (text_taken n (drop 4 bytes)) text used g.1 in
     omega (arith, taken_short n (drop 4 bytes) text h.0, h.1)
 
+text_within : (text : List ℕ) (used : ℕ) (bytes : List ℕ) → text_reading bytes ≡ Ok (text, used) → used ≤ length bytes
+text_within text used bytes e =
+    let n = le_at w32 bytes 0 in
+    let g = guarded_not (ltb (length bytes) 4) InsufficientData _ (text, used) e in
+    let h = without_length (4 + n) (text_taken n (drop 4 bytes)) text used g.1 in
+    let there = guarded_not (ltb (length (drop 4 bytes)) n) InsufficientData _ text h.0 in
+    omega (arith, h.1, ltb-false (length bytes) 4 g.0, ltb-false (length (drop 4 bytes)) n there.0, length-drop 4 bytes)
+
 pub text_lawful : IsLawful text_codec
 text_lawful = record {
   equivalence = nat_list_eq_equiv;
   read_back = λ v bytes rest e. (v, text_back v bytes rest e, nat_list_eq_equiv.refl v);
+  within = text_within;
   owned_bound = text_owned;
 }

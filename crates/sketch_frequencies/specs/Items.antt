@@ -31,13 +31,14 @@ max_owned codec n = if codec.owns then n else 0
 abbrev pub IsWithin : {C : Type 0} → Codec C → ℕ → Type 0
 IsWithin {C} codec n = (v : C) (bytes : List ℕ) → codec.encoding v ≡ Ok bytes → length bytes ≤ n
 
--- Equality is an equivalence. What was written is read as an equal item, whatever follows it. An item that was read owns at
--- most the number of bytes that it takes.
+-- Equality is an equivalence. What was written is read as an equal item, whatever follows it. An item that was read lies within
+-- the bytes, and owns at most the number of bytes that it takes.
 pub record IsLawful {C : Type 0} (codec : Codec C) : Type 0 where
   pub equivalence : IsEquivalence codec.same
   pub read_back :
       (v : C) (bytes rest : List ℕ) → codec.encoding v ≡ Ok bytes →
       (w : C) × (codec.reading (bytes ++ rest) ≡ Ok (w, length bytes)) × (codec.same w v ≡ true)
+  pub within : (v : C) (used : ℕ) (bytes : List ℕ) → codec.reading bytes ≡ Ok (v, used) → used ≤ length bytes
   pub owned_bound :
       (v : C) (used : ℕ) (bytes : List ℕ) → codec.reading bytes ≡ Ok (v, used) → codec.owned v ≤ max_owned codec used
 

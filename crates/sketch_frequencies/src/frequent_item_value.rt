@@ -3,9 +3,10 @@ ghost use Rattle.std.specs.Prelude.{◌≡◌, ◌+◌, ◌^◌, ◌≤◌, leng
 ghost use Rattle.std.specs.Result.{IsOkAnd};
 ghost use Rattle.std.specs.String.{string_bytes};
 ghost use Rattle.sketch_base.specs.Errors.{no_memory, invalid_argument, invalid_data};
+ghost use Rattle.sketch_frequencies.specs.Image.{used_by};
 ghost use Rattle.sketch_frequencies.specs.Items.{Codec, IsLawful, Writes, Reads, IsWritingRefusal, IsReadingRefusal, AddsBytes, TakesBytes, text_codec, text_encoding, text_reading, text_taken, IsTextRefusal};
 
-use sketch_base::image::check_length;
+use sketch_base::image::{check_length, u32_at};
 use sketch_base::{Error, Fault, SketchBytes, SketchSlice, from_utf8};
 use std::alloc::Global;
 use std::hash::Hash;
@@ -84,6 +85,11 @@ pub trait FrequentItemValue: Sized + Eq + Hash {
         ensures err { IfErr result (IsReadingRefusal codec slice.old) }
         ensures within { OnErr result (TakesBytes slice.old slice.new) };
 
+    /// Returns the number of bytes that [`deserialize_value`](Self::deserialize_value) reads at the front of `bytes`, or 0 if
+    /// there is no item. Does not allocate.
+    fn deserialize_size(bytes: &[u8]) -> usize
+        ensures { result ≡ used_by (codec.reading bytes.now) };
+
     /// Returns whether items own memory outside of themselves, as strings do.
     ///
     /// A limit for reading an image counts the bytes of such items: see
@@ -148,6 +154,11 @@ impl FrequentItemValue for u64 {
     }
 
     #[inline]
+    fn deserialize_size(bytes: &[u8]) -> usize {
+        if bytes.len() < 8 { 0 } else { 8 }
+    }
+
+    #[inline]
     fn owns_memory() -> bool {
         false
     }
@@ -200,6 +211,11 @@ impl FrequentItemValue for i64 {
     #[inline]
     fn deserialize_value(_alloc: Global, slice: &mut SketchSlice) -> Result<i64, Error> {
         slice.read_i64_le()
+    }
+
+    #[inline]
+    fn deserialize_size(bytes: &[u8]) -> usize {
+        if bytes.len() < 8 { 0 } else { 8 }
     }
 
     #[inline]
@@ -288,6 +304,17 @@ impl FrequentItemValue for String {
         Ok(text)
     }
 
+    fn deserialize_size(bytes: &[u8]) -> usize {
+        if bytes.len() < 4 {
+            return 0;
+        }
+        let len = u32_at(bytes, 0) as usize;
+        match str_of(&bytes[4..], len) {
+            Ok(_) => 4 + len,
+            Err(_) => 0,
+        }
+    }
+
     #[inline]
     fn owns_memory() -> bool {
         true
@@ -304,9 +331,18 @@ fn text_of(alloc: Global, unread: &[u8], len: usize) -> Result<String, Error>
     ensures ok { IfOk result (λ text. text_taken len unread.now ≡ Ok (string_bytes text)) }
     ensures err { IfErr result (IsTextRefusal len unread.now) }
 {
+    let text = str_of(unread, len)?;
+    Ok(String::from_str(alloc, text)?)
+}
+
+/// Returns the string of the first `len` bytes, in place.
+fn str_of(unread: &[u8], len: usize) -> Result<&str, Error>
+    ensures ok { IfOk result (λ text. text_taken len unread.now ≡ Ok text.now) }
+    ensures err { IfErr result (λ e. (e ≡ invalid_data e.fault) × (text_taken len unread.now ≡ Err e.fault)) }
+{
     check_length(unread, len)?;
     let Ok(text) = from_utf8(&unread[..len]) else {
         return Err(Error::invalid_data(Fault::InvalidUtf8));
     };
-    Ok(String::from_str(alloc, text)?)
+    Ok(text)
 }

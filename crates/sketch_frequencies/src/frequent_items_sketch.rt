@@ -121,8 +121,9 @@ impl<T: Eq + Hash + Drop> FrequentItemsSketch<T> {
 
     /// Creates an empty sketch as [`new`](Self::new) does, whose table hashes under `key`.
     ///
-    /// With a secret key, no way is known to choose items that slow the sketch down, for a caller who sees no images, rows, walks
-    /// or times of calls of sketches under the key ([`TableKey`]). The sketch and its clones keep the key. No image contains it.
+    /// With a secret key, no way is known to choose items that slow the sketch down. This holds for callers who see no images,
+    /// rows, walks or times of calls of sketches under the key ([`TableKey`]). The sketch and its clones keep the key. No image
+    /// contains it.
     ///
     /// # Errors
     ///

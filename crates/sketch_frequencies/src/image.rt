@@ -149,23 +149,50 @@ fn numbers_fault(image: &[u8], lg_cur: u8) -> Option<Fault>
     None
 }
 
-/// Checks that a table of `size` slots and the bytes that its items can own take at most `max_bytes`.
+/// Checks that a table of `size` slots and what the items at the front of `items` can own take at most `max_bytes`.
 ///
-/// The table's bytes are those of `estimated_size`. The items can own `item_bytes`, their bytes in the image, or nothing.
+/// The table's bytes are those of `estimated_size`. `active` items can own the bytes that they take in the image, or nothing.
 pub(crate) fn check_limit<T: FrequentItemValue + Drop>(
     size: usize,
-    item_bytes: usize,
+    items: &[u8],
+    active: u32,
     max_bytes: usize,
 ) -> Result<(), Error>
-    ensures within { OnOk result (memory_bytes (table_bytes T.row size) (max_owned T.codec item_bytes) ≤ max_bytes) }
+    ensures within { OnOk result (memory_bytes (table_bytes T.row size)
+        (max_owned T.codec (items_bytes T.codec active items.now)) ≤ max_bytes) }
     ensures err { IfErr result (λ e. (e ≡ invalid_data Fault.TableTooLarge)
-        × (max_bytes < memory_bytes (table_bytes T.row size) (max_owned T.codec item_bytes))) }
+        × (max_bytes < memory_bytes (table_bytes T.row size) (max_owned T.codec (items_bytes T.codec active items.now)))) }
 {
-    let owned = if T::owns_memory() { item_bytes } else { 0 };
-    if bytes_of_table::<T>(size).saturating_add(owned) > max_bytes {
+    let table = bytes_of_table::<T>(size);
+    // The items take no more than all bytes after the weights. They are measured only if these do not fit.
+    let most = if T::owns_memory() { items.len() } else { 0 };
+    if table.saturating_add(most) <= max_bytes {
+        return Ok(());
+    }
+    let owned = if T::owns_memory() {
+        bytes_of_items::<T>(items, active)
+    } else {
+        0
+    };
+    if table.saturating_add(owned) > max_bytes {
         return Err(Error::invalid_data(Fault::TableTooLarge));
     }
     Ok(())
+}
+
+/// Returns the number of bytes that `active` items at the front of `items` take, or those before the first that cannot be read.
+fn bytes_of_items<T: FrequentItemValue>(items: &[u8], active: u32) -> usize
+    ensures { result ≡ items_bytes T.codec active items.now }
+{
+    let mut rest = items;
+    for i in 0..active as usize {
+        let size = T::deserialize_size(rest);
+        if size == 0 {
+            return items.len() - rest.len();
+        }
+        rest = &rest[size..];
+    }
+    items.len() - rest.len()
 }
 
 /// Checks that the sum of the weights, and that sum plus the error, are at most the total.
@@ -225,7 +252,7 @@ pub(crate) fn read_counters<T: FrequentItemValue + Drop>(
     ensures size { IfOk result (λ r. r.0.size ≡ size) }
     ensures key { IfOk result (λ r. r.0.key ≡ key) }
     ensures owned { IfOk result (λ r. owned_by T.codec T.content r.0.entries
-        ≤ max_owned T.codec (length image.now - (32 + 8 * active))) }
+        ≤ max_owned T.codec (items_bytes T.codec active (drop (32 + 8 * active) image.now))) }
     ensures used { IfOk result (λ r. r.1 ≡ 32 + 8 * active + items_bytes T.codec active (drop (32 + 8 * active) image.now)) }
     ensures within { IfOk result (λ r. r.1 ≤ length image.now) }
     ensures err { IfErr result (IsItemsRefusal T.codec image.now) }

@@ -70,5 +70,6 @@ lawful_of kind = record {
   read_back = λ v bytes rest e.
       let again = u64_lawful.read_back v bytes rest (chosen (nat_eq kind unwritable) (nat_eq v 13) (u64_encoding v) bytes e) in
       (again.0, again.1, same_of_equal kind again.0 v again.2);
+  within = u64_lawful.within;
   owned_bound = u64_lawful.owned_bound;
 }

@@ -137,6 +137,10 @@ impl<const KIND: u8> FrequentItemValue for Item<KIND> {
         Ok(Item(number))
     }
 
+    fn deserialize_size(bytes: &[u8]) -> usize {
+        if bytes.len() < 8 { 0 } else { 8 }
+    }
+
     fn owns_memory() -> bool {
         false
     }

@@ -177,9 +177,9 @@ impl<T: FrequentItemValue + Drop> FrequentItemsSketch<T> {
     /// Returns the sketch of an image whose table and items take at most `max_bytes`, as [`deserialize`](Self::deserialize)
     /// does.
     ///
-    /// The limit is compared with the table's [`estimated_size`](Self::estimated_size). If items own memory, as strings do,
-    /// the number of bytes after the weights is added to it, which includes bytes after the image. So
-    /// [`memory_bytes`](Self::memory_bytes) of the sketch is within the limit.
+    /// The limit is compared with the table's [`estimated_size`](Self::estimated_size). If items own memory, as strings do, the
+    /// number of bytes that they take in the image is added to it. So [`memory_bytes`](Self::memory_bytes) of the sketch is within
+    /// the limit. If an item cannot be read, those before it are counted.
     ///
     /// The formula is not the layout. For an item of 1 to 8 bytes a slot takes 24 bytes and a byte of fingerprint, while the
     /// formula counts 13 to 28. The allocated bytes are at most twice the limit, which is tested and not proved.
@@ -226,8 +226,8 @@ impl<T: FrequentItemValue + Drop> FrequentItemsSketch<T> {
     /// Returns the sketch of an image as [`deserialize_with_limit`](Self::deserialize_with_limit) does. Its table hashes under
     /// `key`, as that of [`with_key`](Self::with_key).
     ///
-    /// With a secret key, no way is known to write an image that takes long to read, for a caller who sees no images, rows, walks
-    /// or times of calls of sketches under the key ([`TableKey`]).
+    /// With a secret key, no way is known to write an image that takes long to read. This holds for callers who see no images,
+    /// rows, walks or times of calls of sketches under the key ([`TableKey`]).
     ///
     /// # Errors
     ///
@@ -273,7 +273,7 @@ impl<T: FrequentItemValue + Drop> FrequentItemsSketch<T> {
     /// [`deserialize_with_limit_and_key`](Self::deserialize_with_limit_and_key) does, and the number of bytes that the image takes.
     ///
     /// So images can be read that stand one after another: the bytes that a sketch wrote are read as its image, whatever follows
-    /// them. The limit counts all bytes after the weights if items own memory.
+    /// them. The limit does not count what follows.
     ///
     /// # Errors
     ///
@@ -303,7 +303,7 @@ impl<T: FrequentItemValue + Drop> FrequentItemsSketch<T> {
         let max_size = table_size(header.lg_max);
         let sample_size = max_sample_of(max_size);
         if header.is_empty {
-            check_limit::<T>(MIN_MAP_SIZE, 0, max_bytes)?;
+            check_limit::<T>(MIN_MAP_SIZE, &[], 0, max_bytes)?;
             let map = ReversePurgeItemHashMap::with_key(alloc, MIN_MAP_SIZE, key)?;
             let sketch = FrequentItemsSketch {
                 map,
@@ -316,8 +316,8 @@ impl<T: FrequentItemValue + Drop> FrequentItemsSketch<T> {
         }
         let size = table_size(header.lg_cur);
         let numbers = read_numbers(image, header.lg_cur)?;
-        let item_bytes = image.len() - (32 + 8 * numbers.active as usize);
-        check_limit::<T>(size, item_bytes, max_bytes)?;
+        let items = &image[32 + 8 * numbers.active as usize..];
+        check_limit::<T>(size, items, numbers.active, max_bytes)?;
         check_weights(image, &numbers)?;
         let (map, used) = read_counters(alloc, image, numbers.active, size, key)?;
         let sketch = FrequentItemsSketch {

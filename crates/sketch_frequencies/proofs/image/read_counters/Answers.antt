@@ -1,11 +1,11 @@
 use Rattle.std.proofs.Common.{arith, ◌≤◌, ◌<◌, ◌+◌, ◌-◌, ◌*◌, ℕ, length, drop, refl, inl, inr, ap, ◌∙◌}
 use Rattle.std.proofs.lemmas.Result.{err_from_is_err_and}
-use Rattle.sketch_frequencies.specs.Image.{active_at, items_at}
+use Rattle.sketch_frequencies.specs.Image.{active_at, items_at, used_by}
 use Rattle.sketch_frequencies.proofs.Cases.{by_cases}
 use Rattle.sketch_frequencies.proofs.Puts.{count_le_sum}
 use Rattle.sketch_frequencies.proofs.ImageCounting.{at_start, one_more, one_dropped, at_end, fails, so_far_within}
-use Rattle.sketch_frequencies.proofs.ImageSizes.{none_read, one_read, all_read}
-use Rattle.sketch_frequencies.proofs.OwnedBytes.{owns_at_start, owns_more, owns_dropped}
+use Rattle.sketch_frequencies.proofs.ImageSizes.{none_read, one_read, items_and_rest}
+use Rattle.sketch_frequencies.proofs.OwnedBytes.{owns_at_start, owns_more, owns_dropped, owns_at_end}
 use Rattle.sketch_frequencies.proofs.image.read_counters.Goals as goal
 use Rattle.sketch_frequencies.proofs.image.read_counters.Goals.{then-weight-ne0, else-weight-ne0}
 
@@ -16,7 +16,7 @@ loop-i-init g c =
       so_far = rw c.in_ok-map.ensures.ok (at_start g.T.FrequentItemValue.codec g.T.FrequentItemValue.content g.T.PartialEq.eq g.met.T.Eq.laws g.met.T.FrequentItemValue.lawful.equivalence g.met.T.FrequentItemValue.alike c.args.image.now c.advance.new.self rest);
       size = rw c.in_ok-map.ensures.ok refl;
       key = rw c.in_ok-map.ensures.ok refl;
-      read = none_read g.T.FrequentItemValue.codec c.args.image.now c.args.active c.advance.new.self (c.advance.ensures ∙ ap (drop (32 + 8 * c.args.active)) c.new-slice.ensures);
+      read = none_read g.T.FrequentItemValue.codec (drop (32 + 8 * c.args.active) c.args.image.now) c.args.active c.advance.new.self (c.advance.ensures ∙ ap (drop (32 + 8 * c.args.active)) c.new-slice.ensures);
       owned = rw c.in_ok-map.ensures.ok (owns_at_start g.T.FrequentItemValue.codec g.T.FrequentItemValue.content (32 + 8 * c.args.active) c.args.image.now _ (c.advance.ensures ∙ ap (drop (32 + 8 * c.args.active)) c.new-slice.ensures));
     }
 
@@ -55,14 +55,14 @@ loop-i-preserved g c =
         so_far = rw (w.map-is, r.left) (one_more g.T.FrequentItemValue.codec g.T.FrequentItemValue.content g.T.PartialEq.eq g.met.T.Eq.laws g.met.T.FrequentItemValue.lawful.equivalence g.met.T.FrequentItemValue.alike image c.loop-i.slice k r.used weight c.in_ok-item.item c.loop-i.map.entries w.adjust_or_put_value.new.self.entries lt r.read c.weight_at-weight.ensures (omega (arith, w.if-weight-ne0.true)) c.loop-i.invariant.so_far w.adjust_or_put_value.ensures.entries w.adjust_or_put_value.ensures.distinct);
         size = ap (λ t. t.size) w.map-is ∙ w.adjust_or_put_value.ensures.size ∙ c.loop-i.invariant.size;
         key = ap (λ t. t.key) w.map-is ∙ w.adjust_or_put_value.ensures.key ∙ c.loop-i.invariant.key;
-        read = rw r.left (one_read g.T.FrequentItemValue.codec image c.args.active k r.used c.loop-i.slice (g.T.FrequentItemValue.content c.in_ok-item.item) c.loop-i-test.true r.within r.read c.loop-i.invariant.read);
+        read = rw r.left (one_read g.T.FrequentItemValue.codec (drop (32 + 8 * c.args.active) image) c.args.active k r.used c.loop-i.slice c.loop-i-test.true r.within (ap used_by r.read) c.loop-i.invariant.read);
         owned = rw (w.map-is, r.left) (owns_more g.T.FrequentItemValue.codec g.T.FrequentItemValue.content g.T.PartialEq.eq room r.used weight c.loop-i.slice c.in_ok-item.item c.loop-i.map.entries w.adjust_or_put_value.new.self.entries r.within bound w.adjust_or_put_value.ensures.entries c.loop-i.invariant.owned);
       }
       | else-weight-ne0 w ↦ record {
         so_far = rw (w.map-is, r.left) (one_dropped g.T.FrequentItemValue.codec g.T.FrequentItemValue.content g.T.PartialEq.eq g.met.T.Eq.laws g.met.T.FrequentItemValue.lawful.equivalence g.met.T.FrequentItemValue.alike image c.loop-i.slice k r.used weight c.in_ok-item.item c.loop-i.map.entries lt r.read c.weight_at-weight.ensures w.if-weight-ne0.false c.loop-i.invariant.so_far);
         size = ap (λ t. t.size) w.map-is ∙ c.loop-i.invariant.size;
         key = ap (λ t. t.key) w.map-is ∙ c.loop-i.invariant.key;
-        read = rw r.left (one_read g.T.FrequentItemValue.codec image c.args.active k r.used c.loop-i.slice (g.T.FrequentItemValue.content c.in_ok-item.item) c.loop-i-test.true r.within r.read c.loop-i.invariant.read);
+        read = rw r.left (one_read g.T.FrequentItemValue.codec (drop (32 + 8 * c.args.active) image) c.args.active k r.used c.loop-i.slice c.loop-i-test.true r.within (ap used_by r.read) c.loop-i.invariant.read);
         owned = rw (w.map-is, r.left) (owns_dropped g.T.FrequentItemValue.codec g.T.FrequentItemValue.content room r.used c.loop-i.slice c.loop-i.map.entries r.within c.loop-i.invariant.owned);
       }
     ]
@@ -74,9 +74,11 @@ returns-clause-counters g c =
     at_end g.T.FrequentItemValue.codec g.T.FrequentItemValue.content g.T.PartialEq.eq g.met.T.Eq.laws g.met.T.FrequentItemValue.lawful.equivalence g.met.T.FrequentItemValue.alike image c.loop-i.slice c.loop-i.i c.loop-i.map.entries le c.loop-i.invariant.so_far
 
 pub returns-clause-owned : goal.returns-clause-owned
-returns-clause-owned g c = omega (arith, c.loop-i.invariant.owned)
+returns-clause-owned g c =
+    let taken = items_and_rest g.T.FrequentItemValue.codec c.args.image.now c.args.active c.loop-i.i c.loop-i.slice c.loop-i-test.false c.loop-i.invariant.read in
+    owns_at_end g.T.FrequentItemValue.codec g.T.FrequentItemValue.content _ _ c.loop-i.slice c.loop-i.map.entries taken c.loop-i.invariant.owned
 
 pub returns-clause-used : goal.returns-clause-used
 returns-clause-used g c =
-    let rest = ap length c.remaining.ensures in
-    omega (arith, rest, all_read g.T.FrequentItemValue.codec c.args.image.now c.args.active c.loop-i.i c.loop-i.slice c.loop-i-test.false c.requires.weights c.loop-i.invariant.read)
+    let taken = items_and_rest g.T.FrequentItemValue.codec c.args.image.now c.args.active c.loop-i.i c.loop-i.slice c.loop-i-test.false c.loop-i.invariant.read in
+    omega (arith, ap length c.remaining.ensures, taken, c.requires.weights)

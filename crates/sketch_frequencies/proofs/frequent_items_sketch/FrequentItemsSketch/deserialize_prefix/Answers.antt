@@ -1,7 +1,10 @@
-use Rattle.std.proofs.Common.{arith, rules, ◌≤◌, ◌^◌, ℕ, refl, ap, sym, ◌∙◌, subst}
+use Rattle.std.proofs.Common.{arith, rules, ◌≤◌, ◌+◌, ◌*◌, ◌^◌, ℕ, ap, sym, ◌∙◌, subst}
+use Rattle.std.proofs.lemmas.List.{take_rest}
 use Rattle.std.proofs.lemmas.Result.{err_from_is_err_and}
 use Rattle.std.proofs.Math.Pow.{pow_mono}
+use Rattle.sketch_frequencies.specs.Image.{items_bytes}
 use Rattle.sketch_frequencies.specs.Items.{max_owned}
+use Rattle.sketch_frequencies.specs.Memory.{owned_by}
 use Rattle.sketch_frequencies.specs.State.{FrequentState, IsSampleSize, state_of}
 use Rattle.sketch_frequencies.proofs.EmptySketches.{restored_empty}
 use Rattle.sketch_frequencies.proofs.Images.{image_of_none, state_of_counters, image_of_counters, restores, restores_budget}
@@ -92,13 +95,13 @@ pub returns-in_err-check_limit : goal.returns-in_err-check_limit
 returns-in_err-check_limit g c =
     let p = err_from_is_err_and c.from_residual-in_err-check_limit.result c.from_residual-in_err-check_limit.ensures.1 in
     let empty = sym c.in_ok-header.ensures.fields.is_empty ∙ c.if-header.true in
-    rw (p.1, p.2) (record { image = tt; state = tt; sample = tt; key = tt; stands = tt; budget = tt; used = tt; front = tt; there = tt; within = tt; accepted = λ ok. absurd cc; err = limit_refused _ c.args.max_bytes g.T.FrequentItemValue.codec c.args.image.now _ (none_of_empty c.args.image.now c.in_ok-header.ensures.checks empty) (size_of_empty c.args.image.now empty) (room_of_empty c.args.image.now empty) c.in_err-check_limit.ensures.err })
+    rw (p.1, p.2) (record { image = tt; state = tt; sample = tt; key = tt; stands = tt; budget = tt; used = tt; front = tt; there = tt; within = tt; accepted = λ ok. absurd cc; err = limit_refused _ c.args.max_bytes g.T.FrequentItemValue.codec c.args.image.now _ (none_of_empty c.args.image.now c.in_ok-header.ensures.checks empty) (size_of_empty c.args.image.now empty) (room_of_empty g.T.FrequentItemValue.codec c.args.image.now _ empty) c.in_err-check_limit.ensures.err })
 
 pub returns-in_err-map : goal.returns-in_err-map
 returns-in_err-map g c =
     let p = err_from_is_err_and c.from_residual-in_err-map.result c.from_residual-in_err-map.ensures.1 in
     let empty = sym c.in_ok-header.ensures.fields.is_empty ∙ c.if-header.true in
-    rw (p.1, p.2) (record { image = tt; state = tt; sample = tt; key = tt; stands = tt; budget = tt; used = tt; front = tt; there = tt; within = tt; accepted = λ ok. absurd cc; err = memory_refused _ c.args.max_bytes g.T.FrequentItemValue.codec c.args.image.now _ (none_of_empty c.args.image.now c.in_ok-header.ensures.checks empty) (is_within _ c.args.max_bytes g.T.FrequentItemValue.codec c.args.image.now (size_of_empty c.args.image.now empty) (room_of_empty c.args.image.now empty) c.in_ok-check_limit.ensures.within) c.in_err-map.ensures.err })
+    rw (p.1, p.2) (record { image = tt; state = tt; sample = tt; key = tt; stands = tt; budget = tt; used = tt; front = tt; there = tt; within = tt; accepted = λ ok. absurd cc; err = memory_refused _ c.args.max_bytes g.T.FrequentItemValue.codec c.args.image.now _ (none_of_empty c.args.image.now c.in_ok-header.ensures.checks empty) (is_within _ c.args.max_bytes g.T.FrequentItemValue.codec c.args.image.now (size_of_empty c.args.image.now empty) (room_of_empty g.T.FrequentItemValue.codec c.args.image.now _ empty) c.in_ok-check_limit.ensures.within) c.in_err-map.ensures.err })
 
 pub returns-in_err-numbers : goal.returns-in_err-numbers
 returns-in_err-numbers g c =
@@ -110,19 +113,19 @@ pub returns-in_err-check_limit-2 : goal.returns-in_err-check_limit-2
 returns-in_err-check_limit-2 g c =
     let p = err_from_is_err_and c.from_residual-in_err-check_limit-2.result c.from_residual-in_err-check_limit-2.ensures.1 in
     let full = sym c.in_ok-header.ensures.fields.is_empty ∙ c.if-header.false in
-    rw (p.1, p.2) (record { image = tt; state = tt; sample = tt; key = tt; stands = tt; budget = tt; used = tt; front = tt; there = tt; within = tt; accepted = λ ok. absurd cc; err = limit_refused _ c.args.max_bytes g.T.FrequentItemValue.codec c.args.image.now _ (counts_of_full c.args.image.now c.in_ok-header.ensures.checks full c.in_ok-numbers.ensures.checks) (size_of_full c.args.image.now full (c.table_size-size.ensures.value ∙ ap (λ (k : ℕ). 2 ^ k) c.in_ok-header.ensures.fields.lg_cur)) (room_of_full c.args.image.now full c.in_ok-numbers.ensures.fields.active refl) c.in_err-check_limit-2.ensures.err })
+    rw (p.1, p.2) (record { image = tt; state = tt; sample = tt; key = tt; stands = tt; budget = tt; used = tt; front = tt; there = tt; within = tt; accepted = λ ok. absurd cc; err = limit_refused _ c.args.max_bytes g.T.FrequentItemValue.codec c.args.image.now _ (counts_of_full c.args.image.now c.in_ok-header.ensures.checks full c.in_ok-numbers.ensures.checks) (size_of_full c.args.image.now full (c.table_size-size.ensures.value ∙ ap (λ (k : ℕ). 2 ^ k) c.in_ok-header.ensures.fields.lg_cur)) (room_of_full g.T.FrequentItemValue.codec c.args.image.now _ full c.in_ok-numbers.ensures.fields.active (take_rest c.args.image.now _)) c.in_err-check_limit-2.ensures.err })
 
 pub returns-in_err-check_weights : goal.returns-in_err-check_weights
 returns-in_err-check_weights g c =
     let p = err_from_is_err_and c.from_residual-in_err-check_weights.result c.from_residual-in_err-check_weights.ensures.1 in
     let full = sym c.in_ok-header.ensures.fields.is_empty ∙ c.if-header.false in
-    rw (p.1, p.2) (record { image = tt; state = tt; sample = tt; key = tt; stands = tt; budget = tt; used = tt; front = tt; there = tt; within = tt; accepted = λ ok. absurd cc; err = weights_refused _ c.args.max_bytes g.T.FrequentItemValue.codec c.args.image.now _ (counts_of_full c.args.image.now c.in_ok-header.ensures.checks full c.in_ok-numbers.ensures.checks) (is_within _ c.args.max_bytes g.T.FrequentItemValue.codec c.args.image.now (size_of_full c.args.image.now full (c.table_size-size.ensures.value ∙ ap (λ (k : ℕ). 2 ^ k) c.in_ok-header.ensures.fields.lg_cur)) (room_of_full c.args.image.now full c.in_ok-numbers.ensures.fields.active refl) c.in_ok-check_limit-2.ensures.within) full c.in_err-check_weights.ensures.err })
+    rw (p.1, p.2) (record { image = tt; state = tt; sample = tt; key = tt; stands = tt; budget = tt; used = tt; front = tt; there = tt; within = tt; accepted = λ ok. absurd cc; err = weights_refused _ c.args.max_bytes g.T.FrequentItemValue.codec c.args.image.now _ (counts_of_full c.args.image.now c.in_ok-header.ensures.checks full c.in_ok-numbers.ensures.checks) (is_within _ c.args.max_bytes g.T.FrequentItemValue.codec c.args.image.now (size_of_full c.args.image.now full (c.table_size-size.ensures.value ∙ ap (λ (k : ℕ). 2 ^ k) c.in_ok-header.ensures.fields.lg_cur)) (room_of_full g.T.FrequentItemValue.codec c.args.image.now _ full c.in_ok-numbers.ensures.fields.active (take_rest c.args.image.now _)) c.in_ok-check_limit-2.ensures.within) full c.in_err-check_weights.ensures.err })
 
 pub returns-in_err-map-2 : goal.returns-in_err-map-2
 returns-in_err-map-2 g c =
     let p = err_from_is_err_and c.from_residual-in_err-map-2.result c.from_residual-in_err-map-2.ensures.1 in
     let full = sym c.in_ok-header.ensures.fields.is_empty ∙ c.if-header.false in
-    rw (p.1, p.2) (record { image = tt; state = tt; sample = tt; key = tt; stands = tt; budget = tt; used = tt; front = tt; there = tt; within = tt; accepted = λ ok. absurd cc; err = items_refused _ c.args.max_bytes g.T.FrequentItemValue.codec c.args.image.now _ (counts_of_full c.args.image.now c.in_ok-header.ensures.checks full c.in_ok-numbers.ensures.checks) (is_within _ c.args.max_bytes g.T.FrequentItemValue.codec c.args.image.now (size_of_full c.args.image.now full (c.table_size-size.ensures.value ∙ ap (λ (k : ℕ). 2 ^ k) c.in_ok-header.ensures.fields.lg_cur)) (room_of_full c.args.image.now full c.in_ok-numbers.ensures.fields.active refl) c.in_ok-check_limit-2.ensures.within) full c.in_ok-check_weights.ensures.checks c.in_err-map-2.ensures.err })
+    rw (p.1, p.2) (record { image = tt; state = tt; sample = tt; key = tt; stands = tt; budget = tt; used = tt; front = tt; there = tt; within = tt; accepted = λ ok. absurd cc; err = items_refused _ c.args.max_bytes g.T.FrequentItemValue.codec c.args.image.now _ (counts_of_full c.args.image.now c.in_ok-header.ensures.checks full c.in_ok-numbers.ensures.checks) (is_within _ c.args.max_bytes g.T.FrequentItemValue.codec c.args.image.now (size_of_full c.args.image.now full (c.table_size-size.ensures.value ∙ ap (λ (k : ℕ). 2 ^ k) c.in_ok-header.ensures.fields.lg_cur)) (room_of_full g.T.FrequentItemValue.codec c.args.image.now _ full c.in_ok-numbers.ensures.fields.active (take_rest c.args.image.now _)) c.in_ok-check_limit-2.ensures.within) full c.in_ok-check_weights.ensures.checks c.in_err-map-2.ensures.err })
 
 pub returns-then-header-clause-sample : goal.returns-then-header-clause-sample
 returns-then-header-clause-sample g c = c.max_sample_of-sample_size.ensures
@@ -140,18 +143,22 @@ returns-clause-key g c = c.in_ok-map-2.ensures.key
 pub returns-then-header-clause-accepted : goal.returns-then-header-clause-accepted
 returns-then-header-clause-accepted g c = λ _.
     let empty = sym c.in_ok-header.ensures.fields.is_empty ∙ c.if-header.true in
-    is_within _ c.args.max_bytes g.T.FrequentItemValue.codec c.args.image.now (size_of_empty c.args.image.now empty) (room_of_empty c.args.image.now empty) c.in_ok-check_limit.ensures.within
+    is_within _ c.args.max_bytes g.T.FrequentItemValue.codec c.args.image.now (size_of_empty c.args.image.now empty) (room_of_empty g.T.FrequentItemValue.codec c.args.image.now _ empty) c.in_ok-check_limit.ensures.within
 
 pub returns-clause-accepted : goal.returns-clause-accepted
 returns-clause-accepted g c = λ _.
     let full = sym c.in_ok-header.ensures.fields.is_empty ∙ c.if-header.false in
-    is_within _ c.args.max_bytes g.T.FrequentItemValue.codec c.args.image.now (size_of_full c.args.image.now full (c.table_size-size.ensures.value ∙ ap (λ (k : ℕ). 2 ^ k) c.in_ok-header.ensures.fields.lg_cur)) (room_of_full c.args.image.now full c.in_ok-numbers.ensures.fields.active refl) c.in_ok-check_limit-2.ensures.within
+    is_within _ c.args.max_bytes g.T.FrequentItemValue.codec c.args.image.now (size_of_full c.args.image.now full (c.table_size-size.ensures.value ∙ ap (λ (k : ℕ). 2 ^ k) c.in_ok-header.ensures.fields.lg_cur)) (room_of_full g.T.FrequentItemValue.codec c.args.image.now _ full c.in_ok-numbers.ensures.fields.active (take_rest c.args.image.now _)) c.in_ok-check_limit-2.ensures.within
 
 pub returns-then-header-clause-within : goal.returns-then-header-clause-within
-returns-then-header-clause-within g c = rw c.in_ok-map.ensures.ok (memory_le _ 0 (max_owned g.T.FrequentItemValue.codec 0) c.args.max_bytes (omega arith) c.in_ok-check_limit.ensures.within)
+returns-then-header-clause-within g c = rw c.in_ok-map.ensures.ok (memory_le _ 0 _ c.args.max_bytes (omega arith) c.in_ok-check_limit.ensures.within)
 
 pub returns-clause-within : goal.returns-clause-within
-returns-clause-within g c = rw c.in_ok-map-2.ensures.size (memory_le _ _ _ c.args.max_bytes c.in_ok-map-2.ensures.owned c.in_ok-check_limit-2.ensures.within)
+returns-clause-within g c =
+    let codec = g.T.FrequentItemValue.codec in
+    let n = c.in_ok-numbers.numbers.active in
+    let owned = subst (λ l. owned_by codec g.T.FrequentItemValue.content c.in_ok-map-2.map.entries ≤ max_owned codec (items_bytes codec n l)) (sym (take_rest c.args.image.now (32 + 8 * n))) c.in_ok-map-2.ensures.owned in
+    rw c.in_ok-map-2.ensures.size (memory_le _ _ _ c.args.max_bytes owned c.in_ok-check_limit-2.ensures.within)
 
 pub returns-then-header-clause-used : goal.returns-then-header-clause-used
 returns-then-header-clause-used g c = search rules
