@@ -6,16 +6,7 @@
 #include <stdlib.h>
 #include <string.h>
 
-static int checks, failures;
-
-#define CHECK(holds) \
-    do { \
-        checks++; \
-        if (!(holds)) { \
-            failures++; \
-            printf("%s:%d: %s\n", __FILE__, __LINE__, #holds); \
-        } \
-    } while (0)
+#include "check.h"
 
 /* What an allocator counts: blocks that are not given back, and requests until one fails, or -1. */
 typedef struct {
@@ -117,8 +108,5 @@ int main(void)
     ds_free(&other);
     CHECK(counted.blocks == 0 && counted.bytes == 0 && counted.requests > 100);
 
-    if (failures == 0) {
-        printf("all %d checks hold\n", checks);
-    }
-    return failures != 0;
+    return report();
 }

@@ -1,19 +1,9 @@
 /* Calls each function of the C library, and prints the checks that failed. Exits with 1 if there is any. */
 #include <datasketches.h>
 #include <pthread.h>
-#include <stdio.h>
 #include <string.h>
 
-static int checks, failures;
-
-#define CHECK(holds) \
-    do { \
-        checks++; \
-        if (!(holds)) { \
-            failures++; \
-            printf("%s:%d: %s\n", __FILE__, __LINE__, #holds); \
-        } \
-    } while (0)
+#include "check.h"
 
 /* The image of a filter of one word and one hash under the seed 9001 with the bits 0 and 1. */
 static const uint8_t TWO_BITS[40] = {4, 1, 21, 0, 1, 0, 0, 0, 0x29, 0x23, 0, 0, 0, 0, 0, 0, 1, 0, 0, 0,
@@ -814,6 +804,5 @@ int main(void)
     equal_sketches();
     threads();
     names();
-    printf("%d of %d checks hold\n", checks - failures, checks);
-    return failures != 0;
+    return report();
 }

@@ -3,19 +3,9 @@
  *
  * With DS_NO_CHECKS it is compiled without the checks, and makes calls that need none. */
 #include <datasketches.h>
-#include <stdio.h>
 #include <string.h>
 
-static int checks, failures;
-
-#define CHECK(holds) \
-    do { \
-        checks++; \
-        if (!(holds)) { \
-            failures++; \
-            printf("%s:%d: %s\n", __FILE__, __LINE__, #holds); \
-        } \
-    } while (0)
+#include "check.h"
 
 _Static_assert(sizeof(ds_sketch) == sizeof(void *), "a handle is one word");
 _Static_assert(sizeof(ds_string) == 16 && offsetof(ds_string, length) == 8, "ds_string");
@@ -391,6 +381,5 @@ int main(void)
     text();
     once();
 #endif
-    printf("%d of %d checks hold\n", checks - failures, checks);
-    return failures != 0;
+    return report();
 }

@@ -4,7 +4,6 @@
 
 #include <algorithm>
 #include <csignal>
-#include <cstdio>
 #include <cstring>
 #include <deque>
 #include <forward_list>
@@ -20,18 +19,9 @@
 #include <unistd.h>
 #include <vector>
 
+#include "check.h"
+
 namespace ds = datasketches;
-
-static int checks, failures;
-
-#define CHECK(...) \
-    do { \
-        checks++; \
-        if (!(__VA_ARGS__)) { \
-            failures++; \
-            std::printf("%s:%d: %s\n", __FILE__, __LINE__, #__VA_ARGS__); \
-        } \
-    } while (0)
 
 /* The error of a call, or DS_OK, and the value of a call that has one, in both forms. */
 #ifdef DATASKETCHES_NO_EXCEPTIONS
@@ -1078,6 +1068,5 @@ int main()
     frequent_strings();
     text();
     errors();
-    std::printf("%d of %d checks hold\n", checks - failures, checks);
-    return failures != 0;
+    return report();
 }

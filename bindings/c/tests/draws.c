@@ -9,23 +9,13 @@
 #include <errno.h>
 #include <pthread.h>
 #include <stdatomic.h>
-#include <stdio.h>
 #include <stdlib.h>
 #include <string.h>
 #include <sys/types.h>
 #include <sys/wait.h>
 #include <unistd.h>
 
-static int checks, failures;
-
-#define CHECK(holds) \
-    do { \
-        checks++; \
-        if (!(holds)) { \
-            failures++; \
-            printf("%s:%d: %s\n", __FILE__, __LINE__, #holds); \
-        } \
-    } while (0)
+#include "check.h"
 
 enum { THREADS = 8, CREATED = 400, MOST = 1 << 14 };
 
@@ -277,6 +267,5 @@ int main(void)
     CHECK(of_child.k1 != before.k1 && of_child.k0 - before.k0 + MOST > 2 * MOST);
     draw_one();
     CHECK(keys[0].k0 == before.k0 + 1 && keys[0].k1 == before.k1);
-    printf("%d of %d checks hold\n", checks - failures, checks);
-    return failures != 0;
+    return report();
 }

@@ -1,22 +1,12 @@
 /* Queries of images in place, compared with the sketches that are read from them, and inserts that return whether the item was
  * there, compared with a query and an insert. Prints the checks that failed, and exits with 1 if there is any. */
 #include <datasketches.h>
-#include <stdio.h>
 #include <stdlib.h>
 #include <string.h>
 
+#include "check.h"
+
 enum { ITEMS = 96 };
-
-static int checks, failures;
-
-#define CHECK(holds) \
-    do { \
-        checks++; \
-        if (!(holds)) { \
-            failures++; \
-            printf("%s:%d: %s\n", __FILE__, __LINE__, #holds); \
-        } \
-    } while (0)
 
 static uint64_t numbers[ITEMS];
 static int64_t with_sign[ITEMS];
@@ -406,6 +396,5 @@ int main(void)
         inserted_pairs(num_bits);
     }
     errors_of_inserts();
-    printf("%d of %d checks hold\n", checks - failures, checks);
-    return failures != 0;
+    return report();
 }

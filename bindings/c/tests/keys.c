@@ -1,19 +1,9 @@
 /* Compares keyed hashes with known ones, of bytes at the end of a block of memory. Prints the checks that failed. Exits with 1 if
  * there is any. */
 #include <datasketches.h>
-#include <stdio.h>
 #include <stdlib.h>
 
-static int checks, failures;
-
-#define CHECK(holds) \
-    do { \
-        checks++; \
-        if (!(holds)) { \
-            failures++; \
-            printf("%s:%d: %s\n", __FILE__, __LINE__, #holds); \
-        } \
-    } while (0)
+#include "check.h"
 
 /* The words of the key whose bytes are 0 to 15. */
 static const uint64_t K0 = 0x0706050403020100, K1 = 0x0f0e0d0c0b0a0908;
@@ -68,6 +58,5 @@ int main(void)
     known_hashes();
     no_bytes();
     in_place_of_an_item();
-    printf("%d of %d checks hold\n", checks - failures, checks);
-    return failures != 0;
+    return report();
 }

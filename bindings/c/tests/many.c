@@ -1,21 +1,11 @@
 /* Merges and unions of many sketches in one call, compared with one call for each sketch and with exact counts. Prints the checks
  * that failed, and exits with 1 if there is any. */
 #include <datasketches.h>
-#include <stdio.h>
 #include <string.h>
 
+#include "check.h"
+
 enum { MOST = 24, ITEMS = 40, ROUNDS = 60 };
-
-static int checks, failures;
-
-#define CHECK(holds) \
-    do { \
-        checks++; \
-        if (!(holds)) { \
-            failures++; \
-            printf("%s:%d: %s\n", __FILE__, __LINE__, #holds); \
-        } \
-    } while (0)
 
 static uint64_t chance_state = 27;
 
@@ -280,6 +270,5 @@ int main(void)
     errors_of_frequent_u64();
     errors_of_frequent_i64();
     errors_of_frequent_string();
-    printf("%d of %d checks hold\n", checks - failures, checks);
-    return failures > 0;
+    return report();
 }

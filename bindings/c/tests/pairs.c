@@ -1,19 +1,9 @@
 /* Calls each function of the C library that takes strings as pairs, and the header's functions for columns. Prints the checks
  * that failed. Exits with 1 if there is any. */
 #include <datasketches.h>
-#include <stdio.h>
 #include <string.h>
 
-static int checks, failures;
-
-#define CHECK(holds) \
-    do { \
-        checks++; \
-        if (!(holds)) { \
-            failures++; \
-            printf("%s:%d: %s\n", __FILE__, __LINE__, #holds); \
-        } \
-    } while (0)
+#include "check.h"
 
 #define COUNT(array) (sizeof(array) / sizeof *(array))
 
@@ -398,6 +388,5 @@ int main(void)
     hostile_offsets();
     columns();
     from_end_to_end();
-    printf("%d of %d checks hold\n", checks - failures, checks);
-    return failures != 0;
+    return report();
 }

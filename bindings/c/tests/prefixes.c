@@ -1,20 +1,10 @@
 /* Images at the front of bytes, compared with images alone, and the lengths of images of frequent items. Prints the checks that
  * failed. Exits with 1 if there is any. */
 #include <datasketches.h>
-#include <stdio.h>
 #include <stdlib.h>
 #include <string.h>
 
-static int checks, failures;
-
-#define CHECK(holds) \
-    do { \
-        checks++; \
-        if (!(holds)) { \
-            failures++; \
-            printf("%s:%d: %s\n", __FILE__, __LINE__, #holds); \
-        } \
-    } while (0)
+#include "check.h"
 
 enum { SEED = 9001, LIMIT = 1 << 20, ROOM = 1 << 14, NOT_WRITTEN = 77 };
 static const uint64_t K0 = 0x0706050403020100, K1 = 0x0f0e0d0c0b0a0908;
@@ -319,6 +309,5 @@ int main(void)
     limits();
     replaced();
     for (size_t i = 0; i < num_sketches; i++) ds_free(&sketches[i]);
-    printf("%d of %d checks hold\n", checks - failures, checks);
-    return failures != 0;
+    return report();
 }

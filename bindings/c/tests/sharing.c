@@ -5,22 +5,12 @@
 
 #include <datasketches.h>
 #include <pthread.h>
-#include <stdio.h>
 #include <string.h>
 #include <time.h>
 
+#include "check.h"
+
 enum { THREADS = 8, ITEMS = 600, KINDS = 6 };
-
-static int checks, failures;
-
-#define CHECK(holds) \
-    do { \
-        checks++; \
-        if (!(holds)) { \
-            failures++; \
-            printf("%s:%d: %s\n", __FILE__, __LINE__, #holds); \
-        } \
-    } while (0)
 
 static uint64_t numbers[ITEMS];
 static int64_t with_sign[ITEMS];
@@ -431,6 +421,5 @@ int main(int count, char **words)
     merges_of_shares();
     first_errors();
     threads(!joined);
-    printf("%d of %d checks hold\n", checks - failures, checks);
-    return failures != 0;
+    return report();
 }

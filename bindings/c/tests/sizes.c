@@ -1,18 +1,8 @@
 /* Calls each function that returns a size, and compares the results with values that were computed separately. Prints those that
  * differ, and exits with 1 if there is any. */
 #include <datasketches.h>
-#include <stdio.h>
 
-static int checks, failures;
-
-#define CHECK(holds) \
-    do { \
-        checks++; \
-        if (!(holds)) { \
-            failures++; \
-            printf("%s:%d: %s\n", __FILE__, __LINE__, #holds); \
-        } \
-    } while (0)
+#include "check.h"
 
 static void frequent(void)
 {
@@ -66,6 +56,5 @@ int main(void)
     frequent();
     count();
     filter();
-    printf("%d of %d checks hold\n", checks - failures, checks);
-    return failures != 0;
+    return report();
 }

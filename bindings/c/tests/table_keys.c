@@ -4,16 +4,7 @@
 #include <stdio.h>
 #include <string.h>
 
-static int checks, failures;
-
-#define CHECK(holds) \
-    do { \
-        checks++; \
-        if (!(holds)) { \
-            failures++; \
-            printf("%s:%d: %s\n", __FILE__, __LINE__, #holds); \
-        } \
-    } while (0)
+#include "check.h"
 
 enum { ITEMS = 300, SMALL = 32, LARGE = 1024, ROUNDS = 24, THREADS = 4, CREATED = 100 };
 
@@ -262,6 +253,5 @@ int main(void)
     errors_u64();
     errors_i64();
     errors_string();
-    printf("%d of %d checks hold\n", checks - failures, checks);
-    return failures != 0;
+    return report();
 }

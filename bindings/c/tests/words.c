@@ -1,19 +1,9 @@
 /* Calls each function of the C library that splits a string into words or lines, beside a call for each word and line. Prints the
  * checks that failed. Exits with 1 if there is any. */
 #include <datasketches.h>
-#include <stdio.h>
 #include <string.h>
 
-static int checks, failures;
-
-#define CHECK(holds) \
-    do { \
-        checks++; \
-        if (!(holds)) { \
-            failures++; \
-            printf("%s:%d: %s\n", __FILE__, __LINE__, #holds); \
-        } \
-    } while (0)
+#include "check.h"
 
 enum { LONGEST = 64 };
 
@@ -220,6 +210,5 @@ int main(void)
     invalid_utf8();
     overflow();
     errors();
-    printf("%d of %d checks hold\n", checks - failures, checks);
-    return failures != 0;
+    return report();
 }
