@@ -58,8 +58,11 @@ int main(void)
     TIME("filter_insert_one", ds_bloom_reset(&filter), for (size_t i = 0; i < ITEMS; i++) ds_bloom_insert_u64(&filter, items[i]));
     TIME("filter_contains_one", , for (size_t i = 0; i < ITEMS; i++) sum += (uint64_t)ds_bloom_contains_u64(&filter, items[i]));
     TIME("count_update_one", , for (size_t i = 0; i < ITEMS; i++) ds_count_min_u64_update_u64(&count, items[i], 1));
-    TIME("count_estimate_one", ,
-         for (size_t i = 0; i < ITEMS; i++) { ds_count_min_u64_estimate_u64(&count, items[i], &estimate); sum += estimate; });
+    TIME(
+        "count_estimate_one", , for (size_t i = 0; i < ITEMS; i++) {
+            ds_count_min_u64_estimate_u64(&count, items[i], &estimate);
+            sum += estimate;
+        });
     ds_free(&filter);
     ds_free(&count);
     ds_free(&frequent);

@@ -69,8 +69,8 @@ static struct library opened(const char *path, const char *program)
     for (int strings = 0; strings < 2; strings++) {
         char name[80];
 #define LOAD_NAMED(field, call) \
-        snprintf(name, sizeof name, "ds_frequent_items_%s_%s", strings ? "string" : "i64", call), \
-            library.field[strings] = function(object, name);
+    snprintf(name, sizeof name, "ds_frequent_items_%s_%s", strings ? "string" : "i64", call), \
+        library.field[strings] = function(object, name);
         if (library.is_keyed) {
             LOAD_NAMED(create_with_key, "new_with_key")
             LOAD_NAMED(read_with_key, "deserialize_with_key")
@@ -212,7 +212,8 @@ static void create(const struct library *library, ds_sketch *sketch, bool number
 {
     size_t sample = slots / 4 * 3 < SAMPLE ? slots / 4 * 3 : SAMPLE;
     check(!(library->is_keyed ? library->create_with_key[!numbers](sketch, slots, sample, key_word(), key_word())
-                              : library->create[!numbers](sketch, slots, sample)), "new");
+                              : library->create[!numbers](sketch, slots, sample)),
+          "new");
 }
 
 static int32_t read_image(const struct library *library, ds_sketch *sketch, bool numbers, const uint8_t *image, size_t length)
@@ -224,7 +225,8 @@ static int32_t read_image(const struct library *library, ds_sketch *sketch, bool
 static void update_all(const struct library *library, ds_sketch *sketch, const struct items *items)
 {
     int32_t result = items->numbers ? library->i64_update_all(sketch, items->numbers, items->count)
-        : library->string_update_all(sketch, items->bytes, items->offsets[items->count], items->offsets, items->count + 1);
+                                    : library->string_update_all(sketch, items->bytes, items->offsets[items->count], items->offsets,
+                                                                 items->count + 1);
     check(!result, "update_all");
 }
 
@@ -234,8 +236,8 @@ static void update_each(const struct library *library, ds_sketch *sketch, const 
     for (size_t i = 0; i < items->count; i++) {
         if (items->numbers) result |= library->i64_update(sketch, items->numbers[i], 1);
         else
-            result |= library->string_update(sketch, items->bytes + items->offsets[i],
-                                             items->offsets[i + 1] - items->offsets[i], 1);
+            result |=
+                library->string_update(sketch, items->bytes + items->offsets[i], items->offsets[i + 1] - items->offsets[i], 1);
     }
     check(!result, "update");
 }
@@ -244,14 +246,14 @@ static void bounds_all(const struct library *library, ds_sketch *sketch, const s
                        ds_frequent_items_bounds *bounds)
 {
     int32_t result = items->numbers ? library->i64_bounds_all(sketch, items->numbers, items->count, bounds, items->count)
-        : library->string_bounds_all(sketch, items->bytes, items->offsets[items->count], items->offsets, items->count + 1, bounds,
-                                     items->count);
+                                    : library->string_bounds_all(sketch, items->bytes, items->offsets[items->count], items->offsets,
+                                                                 items->count + 1, bounds, items->count);
     check(!result, "bounds_all");
 }
 
 enum operation { INSERT, AGAIN, EACH, PRESENT, ABSENT, WRITE, READ, MERGE, WEIGHTED };
 static const char *const OPERATIONS[] = {"update_all", "update_all again", "update", "bounds_all, present", "bounds_all, absent",
-                                         "serialize", "deserialize", "merge", "update_all_weighted"};
+                                         "serialize",  "deserialize",      "merge",  "update_all_weighted"};
 
 /* What an operation works on: a table's maximum size, items, absent ones, and weights. */
 struct work {
@@ -306,17 +308,16 @@ static double run(const struct library *library, enum operation operation, struc
     case AGAIN: update_all(library, held, &work->order); break;
     case EACH: update_each(library, &sketch, &work->items); break;
     case PRESENT: bounds_all(library, held, &work->order, bounds); break;
-    case ABSENT: bounds_all(library, held, &work->absent, bounds); count = work->absent.count; break;
+    case ABSENT:
+        bounds_all(library, held, &work->absent, bounds);
+        count = work->absent.count;
+        break;
     case WRITE:
         result = (numbers ? library->i64_serialize : library->string_serialize)(held, buffer, sizeof buffer, &written);
         break;
-    case READ:
-        result = read_image(library, &sketch, numbers, work->image, work->image_length);
-        break;
+    case READ: result = read_image(library, &sketch, numbers, work->image, work->image_length); break;
     case MERGE: result = (numbers ? library->i64_merge : library->string_merge)(&sketch, held); break;
-    case WEIGHTED:
-        result = library->i64_update_all_weighted(&sketch, work->items.numbers, count, work->weights, count);
-        break;
+    case WEIGHTED: result = library->i64_update_all_weighted(&sketch, work->items.numbers, count, work->weights, count); break;
     }
     double took = now() - began;
     check(!result, OPERATIONS[operation]);
@@ -345,8 +346,8 @@ static void row(const struct library *libraries, int number, enum operation oper
     }
     for (int l = 0; l < number; l++) {
         double ratio = least[l][1] / least[l][0];
-        printf("| %s, %s | %s | %.1f | %.1f | %.2f |\n", OPERATIONS[operation], name, libraries[l].label, least[l][0],
-               least[l][1], ratio);
+        printf("| %s, %s | %s | %.1f | %.1f | %.2f |\n", OPERATIONS[operation], name, libraries[l].label, least[l][0], least[l][1],
+               ratio);
         exceeded |= libraries[l].is_keyed && ratio > 2;
         for (int side = 0; side < 2; side++) libraries[l].free(&held[l][side]);
     }
@@ -587,8 +588,10 @@ static struct items zipf(uint64_t seed, size_t count)
 static void comparisons(const struct library *libraries)
 {
     enum { COUNT = 1 << 19 };
-    static const struct { const char *name; size_t min, max; } KINDS[] = {
-        {"numbers", 0, 0}, {"strings of 10 to 14 bytes", 10, 14}, {"strings of 20 to 31 bytes", 20, 31}};
+    static const struct {
+        const char *name;
+        size_t min, max;
+    } KINDS[] = {{"numbers", 0, 0}, {"strings of 10 to 14 bytes", 10, 14}, {"strings of 20 to 31 bytes", 20, 31}};
     static const size_t SIZES[] = {1024, 4096, SLOTS};
     struct items stream = zipf(1ull << 40, COUNT), others = random_numbers(1ull << 41, SLOTS);
     for (size_t k = 0; k < 3; k++) {

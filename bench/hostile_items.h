@@ -22,7 +22,10 @@ static inline uint64_t random_of(uint64_t x)
     return x ^ (x >> 31);
 }
 
-static inline uint64_t rotated(uint64_t x, int by) { return x << by | x >> (64 - by); }
+static inline uint64_t rotated(uint64_t x, int by)
+{
+    return x << by | x >> (64 - by);
+}
 
 /* The number whose product with the odd number `x` is 1, modulo 2^64. */
 static inline uint64_t inverse_of(uint64_t x)
@@ -48,7 +51,10 @@ static inline uint64_t final_mix(uint64_t k)
 static const uint64_t NUMBER_STATE = TABLE_SEED ^ 8;
 
 /* The table's hash of a number whose first half before the final mix, plus the second half, is `sum`. */
-static inline uint64_t hash_of_sum(uint64_t sum) { return final_mix(sum) + final_mix(sum + NUMBER_STATE); }
+static inline uint64_t hash_of_sum(uint64_t sum)
+{
+    return final_mix(sum) + final_mix(sum + NUMBER_STATE);
+}
 
 /* That number. */
 static inline uint64_t number_of_sum(uint64_t sum)
@@ -209,7 +215,7 @@ static inline bool is_in_first_group(uint64_t word, bool is_name)
 static inline uint64_t name_word(uint64_t i)
 {
     uint64_t word = 0;
-    for (int b = 0; b < 8; b++) word |= (uint64_t)"abcdefghijklmnopqrstuvwxyz012345"[i >> 5 * b & 31] << 8 * b;
+    for (int b = 0; b < 8; b++) word |= (uint64_t) "abcdefghijklmnopqrstuvwxyz012345"[i >> 5 * b & 31] << 8 * b;
     return word;
 }
 

@@ -35,8 +35,7 @@ int main(void)
     }
     ds_bloom_get_status(&seen, &status);
     printf("%lu words, %lu of them for the first time\n", words, first);
-    printf("the filter has %llu of %llu bits set\n", (unsigned long long)status.bits_used,
-           (unsigned long long)status.capacity);
+    printf("the filter has %llu of %llu bits set\n", (unsigned long long)status.bits_used, (unsigned long long)status.capacity);
     ds_free(&seen);
     return 0;
 }

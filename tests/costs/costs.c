@@ -53,14 +53,32 @@ static void label(const char *name, size_t n)
 
 static ds_sketch sketch = DS_NONE, other = DS_NONE;
 
-static void new_filter(ds_sketch *handle, size_t bits) { check(!ds_bloom_new(handle, bits, 7, 9001), "filter"); }
-static void new_count(ds_sketch *handle, size_t buckets) { check(!ds_count_min_u64_new(handle, 4, buckets, 9001), "count"); }
-static void new_signed(size_t buckets) { check(!ds_count_min_i64_new(&sketch, 4, buckets, 9001), "count"); }
-static void new_numbers(ds_sketch *handle) { check(!ds_frequent_items_u64_new(handle, SLOTS, SAMPLE), "numbers"); }
+static void new_filter(ds_sketch *handle, size_t bits)
+{
+    check(!ds_bloom_new(handle, bits, 7, 9001), "filter");
+}
+static void new_count(ds_sketch *handle, size_t buckets)
+{
+    check(!ds_count_min_u64_new(handle, 4, buckets, 9001), "count");
+}
+static void new_signed(size_t buckets)
+{
+    check(!ds_count_min_i64_new(&sketch, 4, buckets, 9001), "count");
+}
+static void new_numbers(ds_sketch *handle)
+{
+    check(!ds_frequent_items_u64_new(handle, SLOTS, SAMPLE), "numbers");
+}
 #ifdef HAS_KEYS
-static void new_keyed(ds_sketch *handle) { check(!ds_frequent_items_u64_new_with_key(handle, SLOTS, SAMPLE, 1, 2), "key"); }
+static void new_keyed(ds_sketch *handle)
+{
+    check(!ds_frequent_items_u64_new_with_key(handle, SLOTS, SAMPLE, 1, 2), "key");
+}
 #endif
-static void new_strings(ds_sketch *handle) { check(!ds_frequent_items_string_new(handle, SLOTS, SAMPLE), "strings"); }
+static void new_strings(ds_sketch *handle)
+{
+    check(!ds_frequent_items_string_new(handle, SLOTS, SAMPLE), "strings");
+}
 
 typedef int32_t (*writer)(ds_sketch *, uint8_t *, size_t, size_t *);
 typedef int32_t (*prefix_reader)(ds_sketch *, const uint8_t *, size_t, size_t, size_t *);
@@ -69,8 +87,7 @@ typedef int32_t (*prefix_reader)(ds_sketch *, const uint8_t *, size_t, size_t, s
 static size_t images_of(writer serialize, size_t n)
 {
     size_t at = 0, written;
-    for (size_t i = 0; i < n; i++, at += written)
-        check(!serialize(&other, image + at, sizeof image - at, &written), "images");
+    for (size_t i = 0; i < n; i++, at += written) check(!serialize(&other, image + at, sizeof image - at, &written), "images");
     return at;
 }
 
@@ -78,8 +95,7 @@ static size_t images_of(writer serialize, size_t n)
 static size_t read_images(prefix_reader read, size_t length)
 {
     size_t count = 0, used;
-    for (size_t at = 0; at < length; at += used, count++)
-        check(!read(&sketch, image + at, length - at, SIZE_MAX, &used), "images");
+    for (size_t at = 0; at < length; at += used, count++) check(!read(&sketch, image + at, length - at, SIZE_MAX, &used), "images");
     return count;
 }
 
@@ -119,13 +135,13 @@ static void filters(void)
          check(!ds_bloom_serialize(&other, image, sizeof image, &length), "image"),
          ds_bloom_deserialize(&sketch, image, length, SIZE_MAX))
     COST_OF("bloom_deserialize, rejected at the end", new_filter(&other, 64 * n); ds_bloom_insert_u64(&other, 1);
-            check(!ds_bloom_serialize(&other, image, sizeof image, &length), "image"); image[24]++,
-            ds_bloom_deserialize(&sketch, image, length, SIZE_MAX), DS_BAD_BIT_COUNT)
+            check(!ds_bloom_serialize(&other, image, sizeof image, &length), "image");
+            image[24]++, ds_bloom_deserialize(&sketch, image, length, SIZE_MAX), DS_BAD_BIT_COUNT)
     COST_OF("bloom_deserialize_prefix of each image", new_filter(&other, 64); ds_bloom_insert_u64(&other, 1);
             length = images_of(ds_bloom_serialize, n), read_images(ds_bloom_deserialize_prefix, length), n)
     COST("bloom_union", new_filter(&sketch, 64 * n); new_filter(&other, 64 * n), ds_bloom_union(&sketch, &other))
-    COST("bloom_union_all", new_filter(&sketch, 64); for (size_t i = 0; i < n; i++) new_filter(&others[i], 64),
-         ds_bloom_union_all(&sketch, others, n))
+    COST("bloom_union_all", new_filter(&sketch, 64);
+         for (size_t i = 0; i < n; i++) new_filter(&others[i], 64), ds_bloom_union_all(&sketch, others, n))
 }
 
 static void counts(void)
@@ -154,14 +170,14 @@ static void counts(void)
          check(!ds_count_min_u64_serialize(&other, image, sizeof image, &length), "image"),
          ds_count_min_u64_deserialize(&sketch, image, length, 9001, SIZE_MAX))
     COST_OF("count_min_deserialize, rejected at the end", new_count(&other, n); ds_count_min_u64_update_u64(&other, 1, 1);
-            check(!ds_count_min_u64_serialize(&other, image, sizeof image, &length), "image"); image[length - 8] = 9,
-            ds_count_min_u64_deserialize(&sketch, image, length, 9001, SIZE_MAX), DS_CELL_ABOVE_TOTAL)
+            check(!ds_count_min_u64_serialize(&other, image, sizeof image, &length), "image");
+            image[length - 8] = 9, ds_count_min_u64_deserialize(&sketch, image, length, 9001, SIZE_MAX), DS_CELL_ABOVE_TOTAL)
     COST_OF("count_min_deserialize_prefix of each image", new_count(&other, 3); ds_count_min_u64_update_u64(&other, 1, 1);
             length = images_of(ds_count_min_u64_serialize, n), read_images(count_prefix, length), n)
-    COST("count_min_merge", new_count(&sketch, n); new_count(&other, n); ds_count_min_u64_update_u64(&other, 1, 1),
-         ds_count_min_u64_merge(&sketch, &other))
-    COST("count_min_merge_all", new_count(&sketch, 3); for (size_t i = 0; i < n; i++) new_count(&others[i], 3),
-         ds_count_min_u64_merge_all(&sketch, others, n))
+    COST("count_min_merge", new_count(&sketch, n); new_count(&other, n);
+         ds_count_min_u64_update_u64(&other, 1, 1), ds_count_min_u64_merge(&sketch, &other))
+    COST("count_min_merge_all", new_count(&sketch, 3);
+         for (size_t i = 0; i < n; i++) new_count(&others[i], 3), ds_count_min_u64_merge_all(&sketch, others, n))
     new_signed(1 << 12);
     COST("count_min_i64_update_all_weighted_u64", ,
          ds_count_min_i64_update_all_weighted_u64(&sketch, numbers, n, signed_weights, n))
@@ -190,12 +206,12 @@ static void frequent_numbers(const char *kind, const uint64_t *items)
     COST(NAMED("bounds_all"), , ds_frequent_items_u64_bounds_all(&sketch, items, n, bounds, n))
     COST(NAMED("deserialize"), size_t length = image_of(items, n),
          ds_frequent_items_u64_deserialize(&sketch, image, length, SIZE_MAX))
-    COST(NAMED("serialized_bytes"), size_t length; new_numbers(&sketch); ds_frequent_items_u64_update_all(&sketch, items, n),
-         ds_frequent_items_u64_serialized_bytes(&sketch, &length))
-    COST(NAMED("serialize"), size_t length; new_numbers(&sketch); ds_frequent_items_u64_update_all(&sketch, items, n),
+    COST(NAMED("serialized_bytes"), size_t length; new_numbers(&sketch);
+         ds_frequent_items_u64_update_all(&sketch, items, n), ds_frequent_items_u64_serialized_bytes(&sketch, &length))
+    COST(NAMED("serialize"), size_t length; new_numbers(&sketch);
+         ds_frequent_items_u64_update_all(&sketch, items, n),
          ds_frequent_items_u64_serialize(&sketch, image, sizeof image, &length))
-    COST(NAMED("merge"), new_numbers(&sketch); new_numbers(&other);
-         ds_frequent_items_u64_update_all(&sketch, items, n / 2);
+    COST(NAMED("merge"), new_numbers(&sketch); new_numbers(&other); ds_frequent_items_u64_update_all(&sketch, items, n / 2);
          ds_frequent_items_u64_update_all(&other, items + n / 2, n / 2), ds_frequent_items_u64_merge(&sketch, &other))
 }
 
@@ -203,10 +219,12 @@ static void frequent_items(void)
 {
     size_t length = 0;
     frequent_numbers("random numbers", numbers);
-    COST("frequent_items_merge_all", new_numbers(&sketch); for (size_t i = 0; i < n; i++) {
-             new_numbers(&others[i]);
-             ds_frequent_items_u64_update(&others[i], numbers[i], 1);
-         }, ds_frequent_items_u64_merge_all(&sketch, others, n))
+    COST(
+        "frequent_items_merge_all", new_numbers(&sketch); for (size_t i = 0; i < n; i++) {
+            new_numbers(&others[i]);
+            ds_frequent_items_u64_update(&others[i], numbers[i], 1);
+        },
+                                                          ds_frequent_items_u64_merge_all(&sketch, others, n))
     COST("frequent_items_update_all_string", new_strings(&sketch),
          ds_frequent_items_string_update_all(&sketch, words, WORD * n, offsets, n + 1))
     COST("frequent_items_update_all_weighted_string", new_strings(&sketch),
@@ -225,9 +243,10 @@ static void frequent_items(void)
          ds_frequent_items_string_deserialize(&sketch, image, length, SIZE_MAX))
     COST_OF("frequent_items_deserialize_prefix of each image, numbers", new_numbers(&other);
             ds_frequent_items_u64_update(&other, 7, 1); length = images_of(ds_frequent_items_u64_serialize, n),
-            read_images(ds_frequent_items_u64_deserialize_prefix, length), n)
+                                                        read_images(ds_frequent_items_u64_deserialize_prefix, length), n)
     COST_OF("frequent_items_deserialize_prefix of each image, strings", new_strings(&other);
-            ds_frequent_items_string_update(&other, words, WORD, 1); length = images_of(ds_frequent_items_string_serialize, n),
+            ds_frequent_items_string_update(&other, words, WORD, 1);
+            length = images_of(ds_frequent_items_string_serialize, n),
             read_images(ds_frequent_items_string_deserialize_prefix, length), n)
     COST("frequent_items_serialized_bytes, strings", new_strings(&other);
          ds_frequent_items_string_update_all(&other, words, WORD * n, offsets, n + 1),
@@ -237,12 +256,14 @@ static void frequent_items(void)
          ds_frequent_items_string_serialize(&other, image, sizeof image, &length))
     COST_OF("frequent_items_deserialize, rejected at the end", new_strings(&other);
             ds_frequent_items_string_update_all(&other, words, WORD * n, offsets, n + 1);
-            check(!ds_frequent_items_string_serialize(&other, image, sizeof image, &length), "image"); image[length - 1] = 0xff,
-            ds_frequent_items_string_deserialize(&sketch, image, length, SIZE_MAX), DS_INVALID_UTF8)
-    COST_OF("frequent_items_update_all_string, bad offset at the end", uint64_t last = offsets[n]; offsets[n] = 0,
-            ds_frequent_items_string_update_all(&sketch, words, WORD * n, offsets, n + 1), (offsets[n] = last, DS_BAD_OFFSETS))
-    COST_OF("frequent_items_update_words, bad byte at the end", uint8_t last = words[WORD * n - 1]; words[WORD * n - 1] = 0xff,
-            ds_frequent_items_string_update_words(&sketch, words, WORD * n), (words[WORD * n - 1] = last, DS_INVALID_UTF8))
+            check(!ds_frequent_items_string_serialize(&other, image, sizeof image, &length), "image");
+            image[length - 1] = 0xff, ds_frequent_items_string_deserialize(&sketch, image, length, SIZE_MAX), DS_INVALID_UTF8)
+    COST_OF("frequent_items_update_all_string, bad offset at the end", uint64_t last = offsets[n];
+            offsets[n] = 0, ds_frequent_items_string_update_all(&sketch, words, WORD * n, offsets, n + 1),
+            (offsets[n] = last, DS_BAD_OFFSETS))
+    COST_OF("frequent_items_update_words, bad byte at the end", uint8_t last = words[WORD * n - 1];
+            words[WORD * n - 1] = 0xff, ds_frequent_items_string_update_words(&sketch, words, WORD * n),
+            (words[WORD * n - 1] = last, DS_INVALID_UTF8))
 }
 
 /* Items that collide in a table without a key. */

@@ -60,12 +60,14 @@ static long lines_read;
 static long lines_written;
 static long late_reads;
 
-static long number_of(const char *name) {
+static long number_of(const char *name)
+{
     const char *text = getenv(name);
     return text ? atol(text) : 0;
 }
 
-__attribute__((constructor)) static void begin(void) {
+__attribute__((constructor)) static void begin(void)
+{
     real_malloc = dlsym(RTLD_NEXT, "malloc");
     real_realloc = dlsym(RTLD_NEXT, "realloc");
     real_calloc = dlsym(RTLD_NEXT, "calloc");
@@ -84,7 +86,8 @@ __attribute__((constructor)) static void begin(void) {
     counting = !getenv("REFUSED_MARKED");
 }
 
-__attribute__((destructor)) static void end(void) {
+__attribute__((destructor)) static void end(void)
+{
     loaded = 0;
     counting = 0;
     const char *path = getenv("REFUSED_REPORT");
@@ -100,7 +103,8 @@ __attribute__((destructor)) static void end(void) {
 }
 
 /* Counts an allocation of this many bytes. Returns whether it is the one that fails. */
-static int refuses(size_t size) {
+static int refuses(size_t size)
+{
     if (!counting) {
         return 0;
     }
@@ -114,7 +118,8 @@ static int refuses(size_t size) {
     return 1;
 }
 
-void *malloc(size_t size) {
+void *malloc(size_t size)
+{
     if (!real_malloc) {
         real_malloc = dlsym(RTLD_NEXT, "malloc");
     }
@@ -128,7 +133,8 @@ void *malloc(size_t size) {
     return block;
 }
 
-void *calloc(size_t count, size_t size) {
+void *calloc(size_t count, size_t size)
+{
     if (!real_calloc) {
         return NULL; /* dlsym's own first allocation, which may fail */
     }
@@ -140,7 +146,8 @@ void *calloc(size_t count, size_t size) {
     return block;
 }
 
-void *realloc(void *block, size_t size) {
+void *realloc(void *block, size_t size)
+{
     if (refuses(size)) {
         return NULL;
     }
@@ -149,7 +156,8 @@ void *realloc(void *block, size_t size) {
     return moved;
 }
 
-void free(void *block) {
+void free(void *block)
+{
     blocks -= loaded && block;
     given_back += counting && block;
     if (real_free) {
@@ -158,7 +166,8 @@ void free(void *block) {
 }
 
 /* Counts a read or a write. Returns whether it is the one that fails. */
-static int fails(long *calls, long at) {
+static int fails(long *calls, long at)
+{
     *calls += 1;
     if (*calls != at) {
         return 0;
@@ -169,7 +178,8 @@ static int fails(long *calls, long at) {
 }
 
 /* Returns the number of line feeds. */
-static long lines_in(const char *bytes, ssize_t size) {
+static long lines_in(const char *bytes, ssize_t size)
+{
     long lines = 0;
     for (ssize_t i = 0; i < size; i++) {
         lines += bytes[i] == '\n';
@@ -177,7 +187,8 @@ static long lines_in(const char *bytes, ssize_t size) {
     return lines;
 }
 
-ssize_t read(int file, void *bytes, size_t size) {
+ssize_t read(int file, void *bytes, size_t size)
+{
     if (file != 0 || !streams || !loaded) {
         return real_read(file, bytes, size);
     }
@@ -193,7 +204,8 @@ ssize_t read(int file, void *bytes, size_t size) {
     return moved;
 }
 
-ssize_t write(int file, const void *bytes, size_t size) {
+ssize_t write(int file, const void *bytes, size_t size)
+{
     if (file != 1 || !streams || !loaded) {
         return real_write(file, bytes, size);
     }
@@ -208,11 +220,13 @@ ssize_t write(int file, const void *bytes, size_t size) {
     return moved;
 }
 
-ssize_t __write(int file, const void *bytes, size_t size) {
+ssize_t __write(int file, const void *bytes, size_t size)
+{
     return write(file, bytes, size);
 }
 
-int getentropy(void *bytes, size_t size) {
+int getentropy(void *bytes, size_t size)
+{
     if (getenv("NO_RANDOM_BYTES")) {
         errno = ENOSYS;
         return -1;

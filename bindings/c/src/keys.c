@@ -87,13 +87,13 @@ static bool draw_key(uint64_t *k0, uint64_t *k1)
         if (!draw_key(&k0, &k1)) return DS_NO_RANDOM; \
         return ds_frequent_items_##kind##_new_with_key(handle, max_map_size, sample_size, k0, k1); \
     } \
-    int32_t(ds_frequent_items_##kind##_deserialize)(ds_sketch *handle, const uint8_t *image, size_t length, size_t max_bytes) \
+    int32_t(ds_frequent_items_##kind##_deserialize)(ds_sketch * handle, const uint8_t *image, size_t length, size_t max_bytes) \
     { \
         uint64_t k0, k1; \
         if (!draw_key(&k0, &k1)) return DS_NO_RANDOM; \
         return (ds_frequent_items_##kind##_deserialize_with_key)(handle, image, length, max_bytes, k0, k1); \
     } \
-    int32_t(ds_frequent_items_##kind##_deserialize_prefix)(ds_sketch *handle, const uint8_t *image, size_t length, \
+    int32_t(ds_frequent_items_##kind##_deserialize_prefix)(ds_sketch * handle, const uint8_t *image, size_t length, \
                                                            size_t max_bytes, size_t *used) \
     { \
         uint64_t k0, k1; \

@@ -10,24 +10,25 @@
     X(DS_BAD_ARGUMENT, "BadArgument", "the same handle twice, or null with a count above 0 or in a pair") \
     X(DS_NO_RANDOM, "NoRandom", "the system has no random bytes for a key")
 
+/* Returns the result's name or its message, or NULL if it has none. */
+static const char *text_of(int32_t result, bool is_name)
+{
+#define OTHER(constant, name, message) \
+    if (result == (constant)) return is_name ? (name) : (message);
+#define SKETCH(number, constant, name, message) OTHER(constant, name, message)
+    OTHER_ERRORS(OTHER)
+    DS_SKETCH_ERRORS(SKETCH)
+    return NULL;
+}
+
 const char *ds_result_name(int32_t result)
 {
-#define OTHER_NAME(constant, name, message) case constant: return name;
-#define SKETCH_NAME(number, constant, name, message) case constant: return name;
-    switch (result) {
-    OTHER_ERRORS(OTHER_NAME)
-    DS_SKETCH_ERRORS(SKETCH_NAME)
-    default: return result < 0 ? "Unknown" : "Ok";
-    }
+    const char *name = text_of(result, true);
+    return name != NULL ? name : result < 0 ? "Unknown" : "Ok";
 }
 
 const char *ds_result_message(int32_t result)
 {
-#define OTHER_MESSAGE(constant, name, message) case constant: return message;
-#define SKETCH_MESSAGE(number, constant, name, message) case constant: return message;
-    switch (result) {
-    OTHER_ERRORS(OTHER_MESSAGE)
-    DS_SKETCH_ERRORS(SKETCH_MESSAGE)
-    default: return result < 0 ? "unknown" : "ok";
-    }
+    const char *message = text_of(result, false);
+    return message != NULL ? message : result < 0 ? "unknown" : "ok";
 }

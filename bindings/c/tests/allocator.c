@@ -64,9 +64,8 @@ int main(void)
 {
     counts counted = {.left = -1};
     const ds_allocator ours = {allocate, reallocate, deallocate, &counted};
-    const ds_allocator without[] = {{NULL, reallocate, deallocate, NULL},
-                                    {allocate, NULL, deallocate, NULL},
-                                    {allocate, reallocate, NULL, NULL}};
+    const ds_allocator without[] = {
+        {NULL, reallocate, deallocate, NULL}, {allocate, NULL, deallocate, NULL}, {allocate, reallocate, NULL, NULL}};
     CHECK(ds_set_allocator(NULL) == DS_BAD_ARGUMENT);
     for (size_t i = 0; i < 3; i++) {
         CHECK(ds_set_allocator(&without[i]) == DS_BAD_ARGUMENT);

@@ -160,7 +160,8 @@ static void play(const struct line *lines, size_t count)
     if (strcmp(verb, "insert") == 0) insert(handle, &all);
     else if (strcmp(verb, "add") == 0) add(handle, &all);
     else if (strcmp(verb, "ask") == 0) ask(handle, &all);
-    else for (size_t i = 0; i < count; i++) create(&lines[i]);
+    else
+        for (size_t i = 0; i < count; i++) create(&lines[i]);
 }
 
 static int is_of_run(const struct line *first, const struct line *it)

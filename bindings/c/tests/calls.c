@@ -7,7 +7,7 @@
 
 /* The image of a filter of one word and one hash under the seed 9001 with the bits 0 and 1. */
 static const uint8_t TWO_BITS[40] = {4, 1, 21, 0, 1, 0, 0, 0, 0x29, 0x23, 0, 0, 0, 0, 0, 0, 1, 0, 0, 0,
-                                     0, 0, 0, 0, 2, 0, 0, 0, 0,    0,    0, 0, 3, 0, 0, 0, 0, 0, 0, 0};
+                                     0, 0, 0,  0, 2, 0, 0, 0, 0,    0,    0, 0, 3, 0, 0, 0, 0, 0, 0, 0};
 
 /* The place of a byte and its new value, the image's length, the limit, and the result. */
 struct alteration {
@@ -446,7 +446,7 @@ static const struct {
 
 /* Makes each call for many strings with these offsets. Checks that all return the same error and change nothing. */
 static void refused_strings(ds_sketch *filter, ds_sketch *count, ds_sketch *signs, ds_sketch *frequent, const uint8_t *bytes,
-                          size_t length, const uint64_t *offsets, size_t num_offsets, int32_t answer)
+                            size_t length, const uint64_t *offsets, size_t num_offsets, int32_t answer)
 {
     bool answers[2] = {true, true};
     uint64_t estimates[2] = {7, 7};
@@ -643,7 +643,11 @@ static void rows_of_strings(void)
     CHECK(ds_frequent_items_string_rows(&strings, true, 1, NULL, 1, offsets, 4, bounds, 3, &count, &length) == DS_BAD_ARGUMENT);
     CHECK(memcmp(bytes, before, 16) == 0 && offsets[1] == 8 && bounds[0].estimate == 0);
     CHECK(ds_frequent_items_string_rows(&strings, true, 1, bytes, 16, offsets, 6, bounds, 4, &count, &length) == DS_OK);
-    CHECK(count == 3 && length == 12 && memcmp(bytes, "\xe2\x82\xac!a\xcc\x88" "apple....", 16) == 0);
+    CHECK(count == 3 && length == 12 &&
+          memcmp(bytes,
+                 "\xe2\x82\xac!a\xcc\x88"
+                 "apple....",
+                 16) == 0);
     CHECK(offsets[0] == 0 && offsets[1] == 4 && offsets[2] == 7 && offsets[3] == 12 && offsets[4] == 8);
     CHECK(bounds[0].estimate == 9 && bounds[1].lower_bound == 7 && bounds[2].upper_bound == 5 && bounds[3].estimate == 3);
     CHECK(ds_frequent_items_string_rows(&strings, false, 6, bytes, 7, offsets, 3, bounds, 2, &count, &length) == DS_OK);

@@ -54,11 +54,10 @@ static void commas(void)
     CHECK(ds_bloom_insert_string(&sketches[0], (const uint8_t[]){'a', 'b'}, 2) == DS_OK);
     CHECK(ds_bloom_contains_string(&sketches[0], (const uint8_t *){(const uint8_t *)"ab"}, 2) == DS_YES);
     CHECK(ds_bloom_insert_all_string(&sketches[0], (const uint8_t[]){'c', 'd'}, 2, (const uint64_t[]){0, 1, 2}, 3) == DS_OK);
-    CHECK(ds_bloom_insert_all_string_pairs(
-              &sketches[0], (const ds_string[]){{(const uint8_t *)"ef", 2}, {(const uint8_t *)"", 0}}, 2) == DS_OK);
-    CHECK(ds_bloom_contains_all_string_pairs(
-              &sketches[0], (const ds_string[]){{(const uint8_t *)"c", 1}, {(const uint8_t *)"", 0}}, 2,
-              (bool *[2]){found + 1, NULL}[0], 2) == DS_OK);
+    CHECK(ds_bloom_insert_all_string_pairs(&sketches[0], (const ds_string[]){{(const uint8_t *)"ef", 2}, {(const uint8_t *)"", 0}},
+                                           2) == DS_OK);
+    CHECK(ds_bloom_contains_all_string_pairs(&sketches[0], (const ds_string[]){{(const uint8_t *)"c", 1}, {(const uint8_t *)"", 0}},
+                                             2, (bool *[2]){found + 1, NULL}[0], 2) == DS_OK);
     CHECK(found[1] && found[2]);
     CHECK(ds_bloom_union_all(&sketches[1], (ds_sketch *[2]){&sketches[0], NULL}[0], 1) == DS_OK);
     CHECK(ds_bloom_equal(&sketches[1], (ds_sketch *[2]){&sketches[0], NULL}[0]) == DS_YES);
@@ -73,8 +72,8 @@ static void commas(void)
     CHECK(ds_count_min_u64_estimate_all_u64(&count, (const uint64_t[]){2, 1}, 2, estimates, 2) == DS_OK);
     CHECK(estimates[0] == 6 && estimates[1] == 5);
     CHECK(ds_count_min_i64_update_all_weighted_string_pairs(
-              &signs, (const ds_string[]){{(const uint8_t *)"a", 1}, {(const uint8_t *)"b", 1}}, 2, (const int64_t[]){-5, 6},
-              2) == DS_OK);
+              &signs, (const ds_string[]){{(const uint8_t *)"a", 1}, {(const uint8_t *)"b", 1}}, 2, (const int64_t[]){-5, 6}, 2) ==
+          DS_OK);
     CHECK(ds_count_min_i64_estimate_all_string(&signs, (const uint8_t *)"ba", 2, (const uint64_t[]){0, 1, 2}, 3, of_signs, 2) ==
           DS_OK);
     CHECK(of_signs[0] == 6 && of_signs[1] == -5);

@@ -30,7 +30,10 @@ template <class Call> std::int32_t code_of(Call call)
     auto got = call();
     return got.ok() ? static_cast<std::int32_t>(DS_OK) : got.code();
 }
-template <class T> T take(ds::result<T> got) { return std::move(got).value(); }
+template <class T> T take(ds::result<T> got)
+{
+    return std::move(got).value();
+}
 #else
 template <class Call> std::int32_t code_of(Call call)
 {
@@ -41,7 +44,10 @@ template <class Call> std::int32_t code_of(Call call)
         return failed.code();
     }
 }
-template <class T> T take(T got) { return got; }
+template <class T> T take(T got)
+{
+    return got;
+}
 #endif
 
 #define DONE(...) CHECK(code_of([&] { return __VA_ARGS__; }) == DS_OK)
@@ -74,7 +80,10 @@ static_assert(std::is_same_v<decltype(std::declval<numbers &>().clone()), ds::ou
 
 /* --- Filters. --- */
 
-static filter new_filter() { return take(filter::create(1 << 15, 5)); }
+static filter new_filter()
+{
+    return take(filter::create(1 << 15, 5));
+}
 
 /* The image of a filter into which C calls insert. */
 template <class Insert> image by_c(Insert insert)
@@ -157,14 +166,23 @@ struct temporaries {
     using pointer = void;
     using reference = std::string;
     std::size_t at;
-    std::string operator*() const { return "temporary string number " + std::to_string(at); }
+    std::string operator*() const
+    {
+        return "temporary string number " + std::to_string(at);
+    }
     temporaries &operator++()
     {
         at++;
         return *this;
     }
-    bool operator!=(const temporaries &other) const { return at != other.at; }
-    bool operator==(const temporaries &other) const { return at == other.at; }
+    bool operator!=(const temporaries &other) const
+    {
+        return at != other.at;
+    }
+    bool operator==(const temporaries &other) const
+    {
+        return at == other.at;
+    }
 };
 
 /* The same, but it says that it is walked more than once. */
@@ -179,8 +197,14 @@ struct repeated_temporaries : temporaries {
 
 template <class Iterator> struct between {
     Iterator first, last;
-    Iterator begin() const { return first; }
-    Iterator end() const { return last; }
+    Iterator begin() const
+    {
+        return first;
+    }
+    Iterator end() const
+    {
+        return last;
+    }
 };
 
 /* Ranges of strings of each size around the blocks, and of each kind. */
@@ -416,7 +440,10 @@ static void images()
 }
 
 /* Appends a copy of some bytes. */
-static void append(image &all, const image &more) { all.insert(all.end(), more.begin(), more.end()); }
+static void append(image &all, const image &more)
+{
+    all.insert(all.end(), more.begin(), more.end());
+}
 
 /* Images one after another, of two sketches of items and of an empty one, each read from the front of the rest. */
 template <class T> static void frequent_prefixes(const T &first, const T &second)
@@ -624,9 +651,11 @@ static void threads_of_shares()
     FAILS(DS_WRONG_KIND, made.insert(1));
     std::vector<std::thread> threads;
     for (auto &found : got)
-        threads.emplace_back([&found](filter own) {
-            for (int i = 0; i < 800; i++) found.push_back(take(own.contains(i)));
-        }, take(made.share()));
+        threads.emplace_back(
+            [&found](filter own) {
+                for (int i = 0; i < 800; i++) found.push_back(take(own.contains(i)));
+            },
+            take(made.share()));
     for (auto &thread : threads) thread.join();
     for (auto &found : got) CHECK(found == wanted);
     CHECK(take(made.thaw()));
@@ -788,12 +817,9 @@ static void weights()
 
 template <class T> T item_of(std::uint64_t number)
 {
-    if constexpr (std::is_same_v<T, std::string>)
-        return "item number " + std::to_string(number);
-    else if constexpr (std::is_same_v<T, std::int64_t>)
-        return -static_cast<std::int64_t>(number);
-    else
-        return number;
+    if constexpr (std::is_same_v<T, std::string>) return "item number " + std::to_string(number);
+    else if constexpr (std::is_same_v<T, std::int64_t>) return -static_cast<std::int64_t>(number);
+    else return number;
 }
 
 /* A report beside the exact counts: items with weights that differ, without errors. */
@@ -817,9 +843,8 @@ template <class T> void reports(std::size_t count)
     }
     CHECK(same && rows == exact.size());
     auto report = take(made.rows(ds::error_type::no_false_positives, count / 2));
-    CHECK(report.size() == static_cast<std::size_t>(std::count_if(exact.begin(), exact.end(), [&](auto &it) {
-              return it.second > count / 2;
-          })));
+    CHECK(report.size() ==
+          static_cast<std::size_t>(std::count_if(exact.begin(), exact.end(), [&](auto &it) { return it.second > count / 2; })));
     CHECK(report.empty() == (count == 0) && std::distance(report.begin(), report.end()) == static_cast<long>(report.size()));
     if (report.empty()) return;
     /* a report moves with its strings, and does not depend on the sketch */

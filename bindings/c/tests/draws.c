@@ -87,9 +87,8 @@ static void note(uint64_t k0, uint64_t k1)
         note(k0, k1); \
         return __real_ds_frequent_items_##kind##_deserialize_with_key(handle, image, length, max_bytes, k0, k1); \
     } \
-    int32_t __wrap_ds_frequent_items_##kind##_deserialize_prefix_with_key(ds_sketch *handle, const uint8_t *image, size_t length, \
-                                                                          size_t max_bytes, uint64_t k0, uint64_t k1, \
-                                                                          size_t *used) \
+    int32_t __wrap_ds_frequent_items_##kind##_deserialize_prefix_with_key( \
+        ds_sketch *handle, const uint8_t *image, size_t length, size_t max_bytes, uint64_t k0, uint64_t k1, size_t *used) \
     { \
         note(k0, k1); \
         return __real_ds_frequent_items_##kind##_deserialize_prefix_with_key(handle, image, length, max_bytes, k0, k1, used); \

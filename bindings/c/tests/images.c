@@ -100,7 +100,7 @@ static void filters_in_place(void)
 
 /* The image of a filter of one word and one hash under the seed 9001 with the bits 0 and 1. */
 static const uint8_t TWO_BITS[40] = {4, 1, 21, 0, 1, 0, 0, 0, 0x29, 0x23, 0, 0, 0, 0, 0, 0, 1, 0, 0, 0,
-                                     0, 0, 0, 0, 2, 0, 0, 0, 0,    0,    0, 0, 3, 0, 0, 0, 0, 0, 0, 0};
+                                     0, 0, 0,  0, 2, 0, 0, 0, 0,    0,    0, 0, 3, 0, 0, 0, 0, 0, 0, 0};
 
 /* The place of a byte and its new value, the image's length, and the result. */
 struct alteration {
@@ -111,10 +111,18 @@ struct alteration {
 };
 
 static const struct alteration FILTERS_ALTERED[] = {
-    {0, 4, 3, DS_INSUFFICIENT_DATA},  {2, 10, 40, DS_BAD_FAMILY},      {1, 2, 40, DS_BAD_VERSION},
-    {0, 2, 40, DS_BAD_PREAMBLE},      {0, 4, 5, DS_INSUFFICIENT_DATA}, {4, 0, 40, DS_BAD_NUM_HASHES},
-    {0, 4, 23, DS_INSUFFICIENT_DATA}, {16, 0, 40, DS_BAD_NUM_WORDS},   {0, 4, 39, DS_INSUFFICIENT_DATA},
-    {24, 3, 40, DS_NO},               {24, 0, 40, DS_NO},              {32, 0, 40, DS_NO},
+    {0, 4, 3, DS_INSUFFICIENT_DATA},
+    {2, 10, 40, DS_BAD_FAMILY},
+    {1, 2, 40, DS_BAD_VERSION},
+    {0, 2, 40, DS_BAD_PREAMBLE},
+    {0, 4, 5, DS_INSUFFICIENT_DATA},
+    {4, 0, 40, DS_BAD_NUM_HASHES},
+    {0, 4, 23, DS_INSUFFICIENT_DATA},
+    {16, 0, 40, DS_BAD_NUM_WORDS},
+    {0, 4, 39, DS_INSUFFICIENT_DATA},
+    {24, 3, 40, DS_NO},
+    {24, 0, 40, DS_NO},
+    {32, 0, 40, DS_NO},
 };
 
 /* Returns whether an error is of a check that images in place do not have: of memory, or of the bits and the cells. */

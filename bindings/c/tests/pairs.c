@@ -11,7 +11,7 @@
 static const uint8_t BYTES[] = "applea\xcc\x88\xe2\x82\xac!";
 
 /* Pairs that overlap, one in the middle of another, twice the same, two empty ones, and one behind the last byte. */
-static const ds_string STRINGS[] = {{BYTES, 5},     {BYTES, 12},    {BYTES + 2, 3}, {BYTES + 5, 3}, {BYTES, 5},
+static const ds_string STRINGS[] = {{BYTES, 5},     {BYTES, 12},     {BYTES + 2, 3}, {BYTES + 5, 3}, {BYTES, 5},
                                     {BYTES + 3, 0}, {BYTES + 12, 0}, {BYTES + 8, 4}, {BYTES + 8, 3}, {BYTES + 4, 2}};
 
 enum { STRINGS_COUNT = COUNT(STRINGS) };
@@ -68,8 +68,7 @@ static void beside_single_calls(void)
     }
     CHECK(ds_bloom_insert_all_string_pairs(&many.filter, STRINGS, STRINGS_COUNT) == DS_OK);
     CHECK(ds_count_min_u64_update_all_string_pairs(&many.count, STRINGS, STRINGS_COUNT) == DS_OK);
-    CHECK(ds_count_min_u64_update_all_weighted_string_pairs(&many.count, STRINGS, STRINGS_COUNT, weights, STRINGS_COUNT) ==
-          DS_OK);
+    CHECK(ds_count_min_u64_update_all_weighted_string_pairs(&many.count, STRINGS, STRINGS_COUNT, weights, STRINGS_COUNT) == DS_OK);
     CHECK(ds_count_min_i64_update_all_string_pairs(&many.signs, STRINGS, STRINGS_COUNT) == DS_OK);
     CHECK(ds_count_min_i64_update_all_weighted_string_pairs(&many.signs, STRINGS, STRINGS_COUNT, signs, STRINGS_COUNT) == DS_OK);
     CHECK(ds_frequent_items_string_update_all_pairs(&many.frequent, STRINGS, STRINGS_COUNT) == DS_OK);

@@ -244,10 +244,8 @@ static void altered(void)
             CHECK(kinds[i]->serialize(&sketches[i], image, ROOM, &length) == DS_OK);
             for (size_t k = 0; k < AFTER; k++) image[length + k] = (uint8_t)next_random();
             while (changed-- > 0) image[next_random() % (length < 48 || trial % 2 ? length : 48)] = (uint8_t)next_random();
-            if (both(kinds[i], image, length + AFTER, LIMIT) < 0)
-                rejected++;
-            else
-                accepted++;
+            if (both(kinds[i], image, length + AFTER, LIMIT) < 0) rejected++;
+            else accepted++;
         }
     }
     CHECK(accepted > SKETCHES * TRIALS / 3 && rejected > SKETCHES * TRIALS / 9);
@@ -264,10 +262,8 @@ static void limits(void)
         /* the least limit with which the image alone is accepted */
         while (least < most) {
             size_t middle = (least + most) / 2;
-            if (kinds[i]->alone(&read, image, length, middle) == DS_OK)
-                most = middle;
-            else
-                least = middle + 1;
+            if (kinds[i]->alone(&read, image, length, middle) == DS_OK) most = middle;
+            else least = middle + 1;
         }
         for (size_t after = 0; after <= 9; after += 9) {
             CHECK(both(kinds[i], image, length + after, least) == DS_OK);

@@ -107,7 +107,10 @@ static int32_t join(const char *verb, ds_sketch *into, ds_sketch *from)
 
 static void create(char **words)
 {
-    if (look_up(sketches, words[1])) { puts("refused NameTaken"); return; }
+    if (look_up(sketches, words[1])) {
+        puts("refused NameTaken");
+        return;
+    }
     struct named *it = place(sketches, words[1]);
     if (strcmp(words[0], "frequent") == 0) {
         size_t greatest = strtoull(words[2], 0, 10), sample = ds_frequent_items_max_sample_size(greatest);
@@ -115,14 +118,16 @@ static void create(char **words)
         return;
     }
     uint64_t seed = strtoull(words[4], 0, 10), size = strtoull(words[3], 0, 10);
-    if (strcmp(words[0], "bloom") == 0)
-        made(it, ds_bloom_new(&it->handle, strtoull(words[2], 0, 10), (uint16_t)size, seed));
+    if (strcmp(words[0], "bloom") == 0) made(it, ds_bloom_new(&it->handle, strtoull(words[2], 0, 10), (uint16_t)size, seed));
     else made(it, ds_count_min_u64_new(&it->handle, (uint8_t)atoi(words[2]), (uint32_t)size, seed));
 }
 
 static void load(char **words)
 {
-    if (look_up(sketches, words[1])) { puts("refused NameTaken"); return; }
+    if (look_up(sketches, words[1])) {
+        puts("refused NameTaken");
+        return;
+    }
     struct named *it = place(sketches, words[1]);
     int filter = strcmp(words[2], "bloom") == 0, frequent = strcmp(words[2], "frequent") == 0;
     size_t length, most = strtoull(words[3], 0, 10);
@@ -156,15 +161,18 @@ static void status(ds_sketch *handle)
         printf("bloom bits %" PRIu64 " capacity %" PRIu64 " hashes %u seed %" PRIu64 "\n", filter.bits_used, filter.capacity,
                (unsigned)filter.num_hashes, filter.seed);
     else if (ds_count_min_u64_get_status(handle, &count) == DS_OK)
-        printf("countu total %" PRIu64 " hashes %u buckets %u seed %" PRIu64 "\n", count.total_weight,
-               (unsigned)count.num_hashes, (unsigned)count.num_buckets, count.seed);
+        printf("countu total %" PRIu64 " hashes %u buckets %u seed %" PRIu64 "\n", count.total_weight, (unsigned)count.num_hashes,
+               (unsigned)count.num_buckets, count.seed);
     else abort();
 }
 
 static void show(char **words)
 {
     struct named *it = look_up(images, words[1]);
-    if (!it) { puts("refused NoSuchName"); return; }
+    if (!it) {
+        puts("refused NoSuchName");
+        return;
+    }
     printf("image ");
     for (size_t i = 0; i < it->length; i++) printf("%02x", it->image[i]);
     puts("");
@@ -184,13 +192,15 @@ static void joined(char **words, struct named *it)
 static void of_sketch(char **words)
 {
     struct named *it = look_up(sketches, words[1]);
-    if (!it) { puts("refused NoSuchName"); return; }
+    if (!it) {
+        puts("refused NoSuchName");
+        return;
+    }
     ds_sketch *handle = &it->handle;
     const uint8_t *text = (const uint8_t *)words[2];
     size_t length = words[2] ? strlen(words[2]) : 0;
     if (strcmp(words[0], "insert") == 0) reply(ds_bloom_insert_string(handle, text, length));
-    else if (strcmp(words[0], "add") == 0)
-        reply(add(handle, words[3], strtoull(words[2], 0, 10)));
+    else if (strcmp(words[0], "add") == 0) reply(add(handle, words[3], strtoull(words[2], 0, 10)));
     else if (strcmp(words[0], "ask") == 0) ask(handle, text, length);
     else if (strcmp(words[0], "reset") == 0) reply(ds_bloom_reset(handle));
     else if (strcmp(words[0], "halve") == 0) reply(ds_count_min_u64_halve(handle));

@@ -53,8 +53,7 @@ void __wrap_free(void *block)
         rows++; \
         if (answer != (wanted) || asked != (asks) || given_back != (gives_back)) { \
             failures++; \
-            printf("%s:%d: %s: answer %d, asked %ld, gave back %ld\n", __FILE__, __LINE__, #call, (int)answer, asked, \
-                   given_back); \
+            printf("%s:%d: %s: answer %d, asked %ld, gave back %ld\n", __FILE__, __LINE__, #call, (int)answer, asked, given_back); \
         } \
     } while (0)
 
@@ -87,8 +86,8 @@ static const uint8_t COUNTS[16] = {2, 1, 18, 1, 0, 0, 0, 0, 64, 0, 0, 0, 3, 0xcc
 static const uint8_t FREQUENT[8] = {1, 1, 10, 6, 3, 5, 0, 0};
 
 /* The image of one string whose stated length is 4 GiB - 1, with no byte after the length. */
-static const uint8_t HOSTILE[44] = {4, 1, 10, 3, 3, 0, 0, 0, 1, 0, 0, 0, 0, 0, 0, 0, 1, 0, 0, 0, 0, 0,
-                                    0, 0, 0, 0, 0, 0, 0, 0, 0, 0, 1, 0, 0, 0, 0, 0, 0, 0, 0xff, 0xff, 0xff, 0xff};
+static const uint8_t HOSTILE[44] = {4, 1, 10, 3, 3, 0, 0, 0, 1, 0, 0, 0, 0, 0, 0, 0, 1, 0, 0,    0,    0,    0,
+                                    0, 0, 0,  0, 0, 0, 0, 0, 0, 0, 1, 0, 0, 0, 0, 0, 0, 0, 0xff, 0xff, 0xff, 0xff};
 
 static void filters(void)
 {

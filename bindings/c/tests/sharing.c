@@ -172,8 +172,7 @@ static void threads(bool thaws_early)
 static bool make(ds_sketch *handle, int kind)
 {
     switch (kind) {
-    case 0:
-        return ds_bloom_new(handle, 640, 3, 9001) == DS_OK && ds_bloom_insert_all_u64(handle, numbers, 9) == DS_OK;
+    case 0: return ds_bloom_new(handle, 640, 3, 9001) == DS_OK && ds_bloom_insert_all_u64(handle, numbers, 9) == DS_OK;
     case 1:
         return ds_count_min_u64_new(handle, 3, 16, 9001) == DS_OK && ds_count_min_u64_update_all_u64(handle, numbers, 9) == DS_OK;
     case 2:
@@ -198,9 +197,12 @@ typedef struct {
 
 static image image_of(ds_sketch *handle, int kind)
 {
-    static int32_t (*const CALLS[KINDS])(ds_sketch *, uint8_t *, size_t, size_t *) = {
-        ds_bloom_serialize,        ds_count_min_u64_serialize,      ds_count_min_i64_serialize, ds_frequent_items_u64_serialize,
-        ds_frequent_items_i64_serialize, ds_frequent_items_string_serialize};
+    static int32_t (*const CALLS[KINDS])(ds_sketch *, uint8_t *, size_t, size_t *) = {ds_bloom_serialize,
+                                                                                      ds_count_min_u64_serialize,
+                                                                                      ds_count_min_i64_serialize,
+                                                                                      ds_frequent_items_u64_serialize,
+                                                                                      ds_frequent_items_i64_serialize,
+                                                                                      ds_frequent_items_string_serialize};
     image made;
     memset(&made, 0, sizeof made);
     CHECK(CALLS[kind](handle, made.bytes, sizeof made.bytes, &made.length) == DS_OK && made.length > 24);
@@ -255,8 +257,7 @@ static int32_t change_filter(ds_sketch *handle, ds_sketch *other, int call)
         case 6: return ds_count_min_##kind##_update_all_string_pairs(handle, pairs, 4); \
         case 7: return ds_count_min_##kind##_update_all_weighted_u64(handle, numbers, 4, weights, 4); \
         case 8: return ds_count_min_##kind##_update_all_weighted_i64(handle, with_sign, 4, weights, 4); \
-        case 9: \
-            return ds_count_min_##kind##_update_all_weighted_string(handle, letters, sizeof letters, offsets, 5, weights, 4); \
+        case 9: return ds_count_min_##kind##_update_all_weighted_string(handle, letters, sizeof letters, offsets, 5, weights, 4); \
         case 10: return ds_count_min_##kind##_update_all_weighted_string_pairs(handle, pairs, 4, weights, 4); \
         case 11: return ds_count_min_##kind##_update_words(handle, letters, 3); \
         case 12: return ds_count_min_##kind##_update_lines(handle, letters, 3); \
@@ -311,8 +312,8 @@ static int32_t change_frequent_string(ds_sketch *handle, ds_sketch *other, int c
 static const struct {
     int kind, calls;
     int32_t (*change)(ds_sketch *, ds_sketch *, int);
-} CHANGES[] = {{0, 21, change_filter},       {1, 15, change_count_u64},   {1, 2, scale_count},
-               {2, 15, change_count_i64},    {3, 7, change_frequent_u64}, {4, 7, change_frequent_i64},
+} CHANGES[] = {{0, 21, change_filter},         {1, 15, change_count_u64},   {1, 2, scale_count},
+               {2, 15, change_count_i64},      {3, 7, change_frequent_u64}, {4, 7, change_frequent_i64},
                {5, 11, change_frequent_string}};
 
 /* Each call that changes a sketch returns DS_WRONG_KIND for a shared one, changes nothing, and is done after the thaw. The other

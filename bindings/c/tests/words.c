@@ -85,10 +85,8 @@ static void add_words_singly(struct sketches *it, const uint8_t *text, size_t le
 {
     size_t begin = 0;
     for (size_t i = 0; i <= length; i++) {
-        if (i < length && (text[i] == 0 || !strchr(" \t\n\f\r", text[i])))
-            continue;
-        if (i > begin)
-            add_one(it, text + begin, i - begin);
+        if (i < length && (text[i] == 0 || !strchr(" \t\n\f\r", text[i]))) continue;
+        if (i > begin) add_one(it, text + begin, i - begin);
         begin = i + 1;
     }
 }
@@ -98,8 +96,7 @@ static void add_lines_singly(struct sketches *it, const uint8_t *text, size_t le
     while (length > 0) {
         const uint8_t *end = memchr(text, '\n', length);
         size_t line = end ? (size_t)(end - text) : length, used = end ? line + 1 : line;
-        if (end && line > 0 && text[line - 1] == '\r')
-            line--;
+        if (end && line > 0 && text[line - 1] == '\r') line--;
         add_one(it, text, line);
         text += used;
         length -= used;
@@ -117,10 +114,8 @@ static void beside_single_calls(void)
             struct sketches singly, whole;
             create(&singly);
             create(&whole);
-            if (lines)
-                add_lines_singly(&singly, text, length);
-            else
-                add_words_singly(&singly, text, length);
+            if (lines) add_lines_singly(&singly, text, length);
+            else add_words_singly(&singly, text, length);
             add_all(&whole, lines, text, length);
             same_images(&singly, &whole);
             for (size_t cut = 0; cut <= length; cut++) {

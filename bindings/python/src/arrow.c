@@ -35,8 +35,7 @@ int is_arrow(PyObject *object)
 PyObject *arrow_export(PyObject *object)
 {
     int is_array = type_has(object, "__arrow_c_array__");
-    if (is_array < 0)
-        return NULL;
+    if (is_array < 0) return NULL;
     PyObject *made = called(object, is_array ? "__arrow_c_array__" : "__arrow_c_stream__");
     bool good = made != NULL && (is_array ? PyTuple_Check(made) && PyTuple_GET_SIZE(made) == 2 &&
                                                 PyCapsule_IsValid(PyTuple_GET_ITEM(made, 0), "arrow_schema") &&
@@ -55,8 +54,7 @@ PyObject *arrow_export(PyObject *object)
     do { \
         PyObject *type_, *error_, *trace_; \
         PyErr_Fetch(&type_, &error_, &trace_); \
-        if ((owned)->release != NULL) \
-            (owned)->release(owned); \
+        if ((owned)->release != NULL) (owned)->release(owned); \
         PyErr_Restore(type_, error_, trace_); \
     } while (0)
 
@@ -81,18 +79,15 @@ static bool layout_of(const char *format, Run *run)
     } else if (strcmp(format, "vu") == 0) {
         run->layout = VIEWS;
         run->size = 16;
-    } else if (strcmp(format, "n") == 0)
-        run->layout = NOTHING;
-    else
-        return false;
+    } else if (strcmp(format, "n") == 0) run->layout = NOTHING;
+    else return false;
     run->stride = run->size;
     return true;
 }
 
 static bool wrong_format(const Source *source, const Items *items, const char *format)
 {
-    if (strcmp(format, "+s") == 0)
-        no_table(source);
+    if (strcmp(format, "+s") == 0) no_table(source);
     else
         PyErr_Format(PyExc_TypeError, "a column of %s has integers%s, not Arrow's format '%.50s'",
                      items->of_weights ? "weights" : "items", items->of_weights ? "" : " or strings", format);
@@ -103,8 +98,7 @@ static bool wrong_format(const Source *source, const Items *items, const char *f
 static bool type_of(const Source *source, const Items *items, const ArrowSchema *schema, Type *type)
 {
     *type = (Type){.of_entries = schema->dictionary != NULL};
-    if (schema->release == NULL)
-        return malformed("its schema was released");
+    if (schema->release == NULL) return malformed("its schema was released");
     if (schema->format == NULL || (type->of_entries && schema->dictionary->format == NULL))
         return malformed("a schema without a format");
     const char *format = type->of_entries ? schema->dictionary->format : schema->format;
@@ -130,36 +124,28 @@ static bool find_view_buffers(const ArrowArray *array, Run *run)
 static bool is_sound(const ArrowArray *array, const Run *run)
 {
     int64_t least = run->layout == NOTHING ? 0 : run->layout == NUMBERS ? 2 : 3;
-    if (array->release == NULL)
-        return malformed("its array was released");
+    if (array->release == NULL) return malformed("its array was released");
     if (array->length < 0 || array->offset < 0 || array->length > (int64_t)(PY_SSIZE_T_MAX / 32) - array->offset)
         return malformed("a length or an offset out of range");
-    if (array->null_count < -1 || array->null_count > array->length)
-        return malformed("a number of nulls out of range");
+    if (array->null_count < -1 || array->null_count > array->length) return malformed("a number of nulls out of range");
     if (array->n_buffers < least || (run->layout != VIEWS && run->layout != NOTHING && array->n_buffers > least))
         return malformed("a wrong number of buffers");
-    if (least > 0 && array->buffers == NULL)
-        return malformed("no buffers");
-    if (array->n_children != 0)
-        return malformed("an array with children");
-    if (least > 0 && array->length > 0 && array->buffers[1] == NULL)
-        return malformed("rows without a buffer");
+    if (least > 0 && array->buffers == NULL) return malformed("no buffers");
+    if (array->n_children != 0) return malformed("an array with children");
+    if (least > 0 && array->length > 0 && array->buffers[1] == NULL) return malformed("rows without a buffer");
     return least == 0 || array->null_count <= 0 || array->buffers[0] != NULL || malformed("nulls without a bitmap");
 }
 
 /* Sets the places of the array's rows. */
 static bool find_rows(const ArrowArray *array, Run *run)
 {
-    if (!is_sound(array, run))
-        return false;
+    if (!is_sound(array, run)) return false;
     run->count = (size_t)array->length;
-    if (run->layout == NOTHING || run->count == 0)
-        return true;
+    if (run->layout == NOTHING || run->count == 0) return true;
     run->start = (const char *)array->buffers[1] + array->offset * run->stride;
     run->validity = array->null_count != 0 ? array->buffers[0] : NULL;
     run->bit = (size_t)array->offset;
-    if (run->layout == STRINGS_32 || run->layout == STRINGS_64)
-        run->bytes = array->buffers[2];
+    if (run->layout == STRINGS_32 || run->layout == STRINGS_64) run->bytes = array->buffers[2];
     return run->layout != VIEWS || find_view_buffers(array, run);
 }
 
@@ -171,16 +157,14 @@ static bool read_entry(const Run *run, size_t at, Item *entry)
     *entry = (Item){0};
     run_present(run, at, 1, &present);
     entry->missing = !present;
-    if (!present)
-        return true;
+    if (!present) return true;
     if (run->layout == NUMBERS) {
         run_numbers(run, at, 1, &entry->value);
         entry->negative = run->with_sign && entry->value > INT64_MAX;
     } else if (run_strings(run, at, 1, NULL, &string)) {
         entry->text = (const char *)string.bytes;
         entry->value = string.length;
-    } else
-        return malformed("its dictionary changed");
+    } else return malformed("its dictionary changed");
     return true;
 }
 
@@ -192,11 +176,9 @@ static Item *read_dictionary(const ArrowArray *array, const Type *type, size_t *
         malformed("an array without a dictionary, or with two");
         return NULL;
     }
-    if (!find_rows(array, &run) || !run_check(&run, NULL, NULL))
-        return NULL;
+    if (!find_rows(array, &run) || !run_check(&run, NULL, NULL)) return NULL;
     Item *entries = PyMem_New(Item, run.count);
-    if (entries == NULL)
-        PyErr_NoMemory();
+    if (entries == NULL) PyErr_NoMemory();
     for (size_t i = 0; entries != NULL && i < run.count; i++)
         if (!read_entry(&run, i, &entries[i])) {
             PyMem_Free(entries);
@@ -210,8 +192,8 @@ static Item *read_dictionary(const ArrowArray *array, const Type *type, size_t *
 static bool are_same(const ArrowArray *first, const ArrowArray *second)
 {
     bool same = first != NULL && second != NULL && first->length == second->length && first->offset == second->offset &&
-                first->null_count == second->null_count && first->n_buffers == second->n_buffers &&
-                second->dictionary == NULL && second->release != NULL;
+                first->null_count == second->null_count && first->n_buffers == second->n_buffers && second->dictionary == NULL &&
+                second->release != NULL;
     for (int64_t i = 0; same && i < first->n_buffers; i++)
         same = second->buffers != NULL && first->buffers[i] == second->buffers[i];
     return same;
@@ -223,8 +205,7 @@ static bool find_entries(const ArrowArray *array, const Type *type, Run *run, Di
     if (!are_same(last->array, array->dictionary)) {
         size_t count = 0;
         run->own_entries = read_dictionary(array->dictionary, type, &count);
-        if (run->own_entries == NULL)
-            return false;
+        if (run->own_entries == NULL) return false;
         *last = (Dictionary){.array = array->dictionary, .entries = run->own_entries, .count = count};
     }
     run->entries = last->entries;
@@ -240,15 +221,13 @@ static bool add_array(Items *items, const Type *type, ArrowArray *array, Diction
     run.array = *array;
     run.first = items->count;
     if (!good || run.count == 0 || !items_add(items, &run)) {
-        if (last->entries == run.own_entries)
-            *last = (Dictionary){0};
+        if (last->entries == run.own_entries) *last = (Dictionary){0};
         PyMem_Free(run.own_entries);
         RELEASE(array);
         return good && run.count == 0;
     }
     items->count += run.count;
-    if (items->count > PY_SSIZE_T_MAX / 32)
-        return malformed("too many rows");
+    if (items->count > PY_SSIZE_T_MAX / 32) return malformed("too many rows");
     Run *added = &items->runs[items->num_runs - 1];
     good = run_check(added, NULL, NULL);
     items->has_gaps |= added->has_gaps;
@@ -268,7 +247,7 @@ static void set_type(Items *items, const Type *type)
     do { \
         void *owned_ = PyCapsule_GetPointer(capsule, name); \
         memcpy(&(taken), owned_, sizeof(taken)); \
-        memset((char *)owned_ + offsetof(__typeof__(taken), release), 0, sizeof (taken).release); \
+        memset((char *)owned_ + offsetof(__typeof__(taken), release), 0, sizeof(taken).release); \
     } while (0)
 
 static bool open_array(const Source *source, Items *items)
@@ -302,8 +281,7 @@ static bool read_type(const Source *source, Items *items, ArrowStream *stream, T
 {
     ArrowSchema schema = {0};
     int number = stream->get_schema(stream, &schema);
-    if (number != 0)
-        return stream_failed(stream, number);
+    if (number != 0) return stream_failed(stream, number);
     bool good = type_of(source, items, &schema, type);
     RELEASE(&schema);
     return good;
@@ -316,12 +294,9 @@ static bool read_arrays(Items *items, ArrowStream *stream, const Type *type)
     for (;;) {
         ArrowArray array = {0};
         int number = stream->get_next(stream, &array);
-        if (number != 0)
-            return stream_failed(stream, number);
-        if (array.release == NULL)
-            return true;
-        if (!add_array(items, type, &array, &last) || PyErr_CheckSignals() < 0)
-            return false;
+        if (number != 0) return stream_failed(stream, number);
+        if (array.release == NULL) return true;
+        if (!add_array(items, type, &array, &last) || PyErr_CheckSignals() < 0) return false;
     }
 }
 

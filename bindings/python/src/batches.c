@@ -35,16 +35,14 @@ static bool batch_enter(Batch *batch)
 
 static void batch_leave(Batch *batch)
 {
-    if (batch->in_use)
-        use_end(&batch->use);
+    if (batch->in_use) use_end(&batch->use);
     batch->in_use = false;
 }
 
 /* Does the same for work that keeps the interpreter's lock. */
 static bool batch_ready(Batch *batch)
 {
-    if (batch->self == NULL)
-        return true;
+    if (batch->self == NULL) return true;
     batch->handle = &batch->self->handle;
     return batch->use.changes ? sketch_ready_to_change(batch->self) : sketch_ready(batch->self);
 }
@@ -52,8 +50,7 @@ static bool batch_ready(Batch *batch)
 static bool are_few(const Items *items)
 {
     size_t bytes = 0;
-    if (items->count > FEW || (items->with_texts && items->items == NULL))
-        return false;
+    if (items->count > FEW || (items->with_texts && items->items == NULL)) return false;
     for (size_t i = 0; items->with_texts && i < items->count; i++)
         bytes += items->items[i].text != NULL && bytes <= SHORT ? items->items[i].value : 0;
     return bytes <= SHORT;
@@ -63,12 +60,10 @@ static bool are_few(const Items *items)
 static bool batch_begin(Batch *batch, const Items *items)
 {
     uint64_t time = items->held != NULL ? now() : 0;
-    if (batch->turn == 0)
-        batch->turn = time;
+    if (batch->turn == 0) batch->turn = time;
     bool is_quick = items->held != NULL && batch->took < QUICK && time - batch->turn < TURN;
     bool keeps_lock = is_quick || are_few(items);
-    if (keeps_lock ? !batch_ready(batch) : !batch_enter(batch))
-        return false;
+    if (keeps_lock ? !batch_ready(batch) : !batch_enter(batch)) return false;
     batch->began = items->held != NULL ? now() : 0;
     batch->due = 0;
     batch->thread = keeps_lock ? NULL : PyEval_SaveThread();
@@ -77,8 +72,7 @@ static bool batch_begin(Batch *batch, const Items *items)
 
 static void batch_end(Batch *batch)
 {
-    if (batch->began > 0)
-        batch->took = now() - batch->began;
+    if (batch->began > 0) batch->took = now() - batch->began;
     if (batch->thread != NULL) {
         PyEval_RestoreThread(batch->thread);
         batch->turn = 0;
@@ -107,13 +101,10 @@ static bool handle_interrupt(void)
 static bool batch_goes_on(Batch *batch)
 {
     bool goes_on = true;
-    if (batch->thread == NULL)
-        return true;
+    if (batch->thread == NULL) return true;
     uint64_t time = now();
-    if (batch->due == 0)
-        batch->due = time + LISTENS;
-    if (time < batch->due)
-        return true;
+    if (batch->due == 0) batch->due = time + LISTENS;
+    if (time < batch->due) return true;
     PyEval_RestoreThread(batch->thread);
     if (PyOS_InterruptOccurred()) {
         batch_leave(batch);
@@ -152,22 +143,17 @@ static void set_error(int32_t answer, const Batch *batch, const Items *items)
 {
     if (answer == DS_NO_MEMORY && items->held == NULL)
         PyErr_Format(PyExc_MemoryError, "memory ended when %zu of %zu items were counted", batch->done, items->count);
-    else if (answer == DS_NO_MEMORY)
-        PyErr_Format(PyExc_MemoryError, "memory ended when %zu items were counted", batch->done);
-    else if (answer == CHANGED || answer == DS_INVALID_UTF8) /* all strings were checked before */
-        set_changed();
-    else if (answer != STOPPED)
-        refuse(answer);
-    if (batch->done > 0 && answer != DS_NO_MEMORY)
-        note_taken(batch->done);
+    else if (answer == DS_NO_MEMORY) PyErr_Format(PyExc_MemoryError, "memory ended when %zu items were counted", batch->done);
+    else if (answer == CHANGED || answer == DS_INVALID_UTF8) /* all strings were checked before */ set_changed();
+    else if (answer != STOPPED) refuse(answer);
+    if (batch->done > 0 && answer != DS_NO_MEMORY) note_taken(batch->done);
 }
 
 /* Returns the number of items from index `from` on that are all strings, or all numbers. Copies such numbers. */
 static size_t run_length(Chunk *chunk, const Items *items, size_t from)
 {
     size_t end = from;
-    if (!items->with_texts)
-        return chunk->count;
+    if (!items->with_texts) return chunk->count;
     for (bool text = chunk->strings[from].bytes != NULL; end < chunk->count && text == (chunk->strings[end].bytes != NULL); end++)
         chunk->numbers[end] = chunk->strings[end].length;
     return end - from;
@@ -182,8 +168,7 @@ static int32_t take_chunk(Batch *batch, Chunk *chunk, bool with_weights, const U
         count = run_length(chunk, batch->items, i);
         if (batch->items->with_texts && chunk->strings[i].bytes != NULL)
             answer = updates->strings(batch, chunk->strings + i, weights, count);
-        else
-            answer = updates->numbers(batch, chunk->numbers + i, weights, count);
+        else answer = updates->numbers(batch, chunk->numbers + i, weights, count);
         batch->done += answer >= 0 ? count : 0;
     }
     return answer;
@@ -198,12 +183,9 @@ static int32_t take_items(Batch *batch, const Weights *weights, const Updates *u
     int32_t answer = updates->room != NULL ? weights_fit(items, weights, updates->room(batch->self)) : DS_OK;
     chunk_open(&chunk, items->count, by_one && updates->longest != NULL ? updates->longest(batch->self) : CHUNK);
     for (size_t i = 0; i < items->count && answer >= 0; i += chunk.rows) {
-        if (i > 0 && !batch_goes_on(batch))
-            answer = STOPPED;
-        else
-            answer = chunk_read(&chunk, items, by_one ? NULL : weights, i);
-        if (answer >= 0)
-            answer = take_chunk(batch, &chunk, !by_one, updates);
+        if (i > 0 && !batch_goes_on(batch)) answer = STOPPED;
+        else answer = chunk_read(&chunk, items, by_one ? NULL : weights, i);
+        if (answer >= 0) answer = take_chunk(batch, &chunk, !by_one, updates);
     }
     chunk_close(&chunk);
     return answer;
@@ -215,18 +197,15 @@ PyObject *update_all(Sketch *self, Items *items, Weights *weights, const Updates
     int32_t answer;
     do {
         answer = STOPPED;
-        if (!update_next(items, weights) || (updates->check != NULL && !updates->check(self, items)) ||
-            !batch_begin(&batch, items))
+        if (!update_next(items, weights) || (updates->check != NULL && !updates->check(self, items)) || !batch_begin(&batch, items))
             break;
         answer = take_items(&batch, weights, updates);
         batch_end(&batch);
     } while (answer >= 0 && items->iterator != NULL);
-    if (answer < 0)
-        set_error(answer, &batch, items);
+    if (answer < 0) set_error(answer, &batch, items);
     items_release(&weights->items);
     items_release(items);
-    if (answer < 0)
-        return NULL;
+    if (answer < 0) return NULL;
     Py_RETURN_NONE;
 }
 
@@ -247,11 +226,9 @@ static bool room_in_array(const Question *question, size_t count, Room *room)
                                            : PyObject_CallFunction(empty, "(ni)s", rows, question->width, question->kind);
     Py_XDECREF(empty);
     Py_XDECREF(numpy);
-    if (room->array == NULL || PyObject_GetBuffer(room->array, &room->view, PyBUF_CONTIG) < 0)
-        return false;
+    if (room->array == NULL || PyObject_GetBuffer(room->array, &room->view, PyBUF_CONTIG) < 0) return false;
     room->values = room->view.buf;
-    if (room->view.len == (Py_ssize_t)(count * question->size))
-        return true;
+    if (room->view.len == (Py_ssize_t)(count * question->size)) return true;
     PyErr_Format(PyExc_ValueError, "numpy.empty returned an array of %zd bytes for %zu answers", room->view.len, count);
     return false;
 }
@@ -259,20 +236,16 @@ static bool room_in_array(const Question *question, size_t count, Room *room)
 /* Allocates room for `count` results: a numpy array if `in_array`. Returns false, with an error set, if that fails. */
 static bool room_for(const Question *question, bool in_array, size_t count, Room *room)
 {
-    if (in_array)
-        return room_in_array(question, count, room);
+    if (in_array) return room_in_array(question, count, room);
     room->values = count <= PY_SSIZE_T_MAX / question->size ? PyMem_Malloc(count * question->size) : NULL;
-    if (room->values == NULL)
-        PyErr_NoMemory();
+    if (room->values == NULL) PyErr_NoMemory();
     return room->values != NULL;
 }
 
 static void room_release(Room *room)
 {
-    if (room->view.obj != NULL)
-        PyBuffer_Release(&room->view);
-    else if (room->array == NULL)
-        PyMem_Free(room->values);
+    if (room->view.obj != NULL) PyBuffer_Release(&room->view);
+    else if (room->array == NULL) PyMem_Free(room->values);
     Py_CLEAR(room->array);
 }
 
@@ -285,8 +258,7 @@ static int32_t ask_chunk(Batch *batch, Chunk *chunk, const Question *question, c
         count = run_length(chunk, batch->items, i);
         if (batch->items->with_texts && chunk->strings[i].bytes != NULL)
             answer = question->strings(batch, chunk->strings + i, count, place);
-        else
-            answer = question->numbers(batch, chunk->numbers + i, count, place);
+        else answer = question->numbers(batch, chunk->numbers + i, count, place);
         batch->done += answer >= 0 && question->changes ? count : 0;
     }
     return answer;
@@ -300,10 +272,8 @@ static int32_t ask_items(Batch *batch, const Question *question, char *answers)
     chunk_open(&chunk, items->count, question->longest != NULL ? question->longest(batch->self) : CHUNK);
     for (size_t i = 0; i < items->count && answer >= 0; i += chunk.rows) {
         answer = i > 0 && !batch_goes_on(batch) ? STOPPED : chunk_read(&chunk, items, NULL, i);
-        if (answer >= 0 && chunk.count < chunk.rows)
-            answer = CHANGED;
-        if (answer >= 0)
-            answer = ask_chunk(batch, &chunk, question, answers + i * question->size);
+        if (answer >= 0 && chunk.count < chunk.rows) answer = CHANGED;
+        if (answer >= 0) answer = ask_chunk(batch, &chunk, question, answers + i * question->size);
     }
     chunk_close(&chunk);
     return answer;
@@ -312,14 +282,11 @@ static int32_t ask_items(Batch *batch, const Question *question, char *answers)
 static bool ask(Batch *batch, const Question *question, const Items *items, void *answers)
 {
     batch->items = items;
-    if ((question->check != NULL && !question->check(batch->self, items)) || !batch_begin(batch, items))
-        return false;
+    if ((question->check != NULL && !question->check(batch->self, items)) || !batch_begin(batch, items)) return false;
     int32_t answer = ask_items(batch, question, answers);
     batch_end(batch);
-    if (answer == CHANGED || answer == DS_INVALID_UTF8)
-        set_changed();
-    else if (answer < 0 && answer != STOPPED)
-        refuse(answer);
+    if (answer == CHANGED || answer == DS_INVALID_UTF8) set_changed();
+    else if (answer < 0 && answer != STOPPED) refuse(answer);
     return answer >= 0;
 }
 
@@ -328,8 +295,7 @@ static bool make_places(PyObject *list, size_t count)
 {
     Py_ssize_t length = PyList_GET_SIZE(list);
     PyObject *more = PyList_New((Py_ssize_t)count);
-    for (size_t i = 0; more != NULL && i < count; i++)
-        PyList_SET_ITEM(more, (Py_ssize_t)i, Py_NewRef(Py_None));
+    for (size_t i = 0; more != NULL && i < count; i++) PyList_SET_ITEM(more, (Py_ssize_t)i, Py_NewRef(Py_None));
     bool made = more != NULL && PyList_SetSlice(list, length, length, more) == 0;
     Py_XDECREF(more);
     return made;
@@ -341,8 +307,7 @@ static bool fill_places(PyObject *list, const Sketch *self, const Question *ques
     size_t first = (size_t)PyList_GET_SIZE(list) - count;
     for (size_t i = 0; i < count; i++) {
         PyObject *answer = question->object(self, answers, i);
-        if (answer == NULL || PyList_SetItem(list, (Py_ssize_t)(first + i), answer) < 0)
-            return false;
+        if (answer == NULL || PyList_SetItem(list, (Py_ssize_t)(first + i), answer) < 0) return false;
     }
     return true;
 }
@@ -359,8 +324,7 @@ static bool ask_stream(Batch *batch, const Question *question, Items *items, PyO
 {
     bool asked;
     void *answers = PyMem_Malloc(STREAM_CHUNK * question->size);
-    if (answers == NULL)
-        PyErr_NoMemory();
+    if (answers == NULL) PyErr_NoMemory();
     do {
         asked = answers != NULL && items_next(items, STREAM_CHUNK) && ask_into(batch, question, items, answers, list);
     } while (asked && items->iterator != NULL);
@@ -382,23 +346,19 @@ static PyObject *ask_source(Batch *batch, const Source *source, const Question *
 {
     Items items = {0};
     Room room = {0};
-    if (!items_open(source, &items))
-        return NULL;
+    if (!items_open(source, &items)) return NULL;
     bool asked = false, is_stream = items.iterator != NULL, in_array = source->in_array && !is_stream;
     PyObject *list = in_array ? NULL : PyList_New(0);
     if ((in_array || list != NULL) && no_gaps(&items, question)) {
-        if (is_stream)
-            asked = ask_stream(batch, question, &items, list);
+        if (is_stream) asked = ask_stream(batch, question, &items, list);
         else if (room_for(question, in_array, items.count, &room))
-            asked = in_array ? ask(batch, question, &items, room.values)
-                             : ask_into(batch, question, &items, room.values, list);
+            asked = in_array ? ask(batch, question, &items, room.values) : ask_into(batch, question, &items, room.values, list);
     }
     PyObject *result = !asked ? NULL : Py_NewRef(in_array ? room.array : list);
     Py_XDECREF(list);
     room_release(&room);
     items_release(&items);
-    if (!asked && batch->done > 0)
-        note_taken(batch->done);
+    if (!asked && batch->done > 0) note_taken(batch->done);
     return result;
 }
 
@@ -408,13 +368,11 @@ PyObject *ask_all(Sketch *self, PyObject *given, const Question *question)
     Source source;
     PyObject *result = NULL;
     int masked = is_masked(given);
-    if (masked < 0)
-        return NULL;
+    if (masked < 0) return NULL;
     if (masked > 0)
         return PyErr_Format(PyExc_TypeError, "%s takes no masked array: write %s(array.compressed())", question->call,
                             question->call);
-    if (source_of(given, question->call, false, &source))
-        result = ask_source(&batch, &source, question);
+    if (source_of(given, question->call, false, &source)) result = ask_source(&batch, &source, question);
     source_release(&source);
     return result;
 }

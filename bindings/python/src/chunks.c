@@ -9,8 +9,7 @@
 bool below_top(const uint64_t *chunk, size_t count)
 {
     uint64_t all = 0;
-    for (size_t i = 0; i < count; i++)
-        all |= chunk[i];
+    for (size_t i = 0; i < count; i++) all |= chunk[i];
     return all <= INT64_MAX;
 }
 
@@ -20,10 +19,8 @@ static const Run *run_of(const Items *items, size_t row)
     size_t low = 0, high = items->num_runs;
     while (high - low > 1) {
         size_t middle = low + (high - low) / 2;
-        if (items->runs[middle].first <= row)
-            low = middle;
-        else
-            high = middle;
+        if (items->runs[middle].first <= row) low = middle;
+        else high = middle;
     }
     return &items->runs[low];
 }
@@ -37,10 +34,8 @@ static size_t rows_in(const Run *run, size_t first, size_t most)
 
 void items_present(const Items *items, size_t first, size_t count, bool *present)
 {
-    for (size_t i = 0; items->missing != NULL && i < count; i++)
-        present[i] &= !items->missing[first + i];
-    if (items->items != NULL)
-        return;
+    for (size_t i = 0; items->missing != NULL && i < count; i++) present[i] &= !items->missing[first + i];
+    if (items->items != NULL) return;
     for (size_t i = 0, some; i < count; i += some) {
         const Run *run = run_of(items, first + i);
         some = rows_in(run, first + i, count - i);
@@ -61,13 +56,11 @@ size_t items_gaps(const Items *items)
 
 static bool read_numbers(const Items *items, size_t first, size_t count, uint64_t *numbers)
 {
-    for (size_t i = 0; items->items != NULL && i < count; i++)
-        numbers[i] = items->items[first + i].value;
+    for (size_t i = 0; items->items != NULL && i < count; i++) numbers[i] = items->items[first + i].value;
     for (size_t i = 0, some; items->items == NULL && i < count; i += some) {
         const Run *run = run_of(items, first + i);
         some = rows_in(run, first + i, count - i);
-        if (!run_numbers(run, first + i - run->first, some, numbers + i))
-            return false;
+        if (!run_numbers(run, first + i - run->first, some, numbers + i)) return false;
     }
     return true;
 }
@@ -76,8 +69,7 @@ void weights_chunk(const Weights *weights, size_t first, size_t count, uint64_t 
 {
     if (weights->each)
         read_numbers(&weights->items, first, count, chunk); /* no index can be out of range, since weights have no dictionary */
-    for (size_t i = 0; !weights->each && i < count; i++)
-        chunk[i] = weights->same;
+    for (size_t i = 0; !weights->each && i < count; i++) chunk[i] = weights->same;
 }
 
 static bool read_strings(const Items *items, size_t first, size_t count, Chunk *chunk)
@@ -89,8 +81,7 @@ static bool read_strings(const Items *items, size_t first, size_t count, Chunk *
     for (size_t i = 0, some; items->items == NULL && i < count; i += some) {
         const Run *run = run_of(items, first + i);
         some = rows_in(run, first + i, count - i);
-        if (!run_strings(run, first + i - run->first, some, chunk->room, chunk->strings + i))
-            return false;
+        if (!run_strings(run, first + i - run->first, some, chunk->room, chunk->strings + i)) return false;
     }
     return true;
 }
@@ -104,15 +95,11 @@ static void drop_missing(Chunk *chunk, const Items *items, const Weights *weight
         some = chunk->rows - i < CHUNK ? chunk->rows - i : CHUNK;
         memset(present, true, some);
         items_present(items, first + i, some, present);
-        if (weights != NULL && weights->each)
-            items_present(&weights->items, first + i, some, present);
+        if (weights != NULL && weights->each) items_present(&weights->items, first + i, some, present);
         for (size_t j = i; j < i + some; j++) {
-            if (items->with_texts)
-                chunk->strings[kept] = chunk->strings[j];
-            else
-                chunk->numbers[kept] = chunk->numbers[j];
-            if (weights != NULL)
-                chunk->weights[kept] = chunk->weights[j];
+            if (items->with_texts) chunk->strings[kept] = chunk->strings[j];
+            else chunk->numbers[kept] = chunk->numbers[j];
+            if (weights != NULL) chunk->weights[kept] = chunk->weights[j];
             kept += present[j - i];
         }
     }
@@ -123,15 +110,12 @@ static void drop_missing(Chunk *chunk, const Items *items, const Weights *weight
 static bool prepare(Chunk *chunk, const Items *items, size_t first)
 {
     size_t most = chunk->most, size = 0;
-    if (items->with_texts && most > CHUNK)
-        most = CHUNK;
+    if (items->with_texts && most > CHUNK) most = CHUNK;
     if (items->num_runs == 1 && (items->runs[0].layout == FIXED_BYTES || items->runs[0].layout == FIXED_WIDE))
         size = (size_t)items->runs[0].size;
-    if (size > MOST_BYTES / CHUNK)
-        most = size < MOST_BYTES && MOST_BYTES / size < most ? MOST_BYTES / size : 1;
+    if (size > MOST_BYTES / CHUNK) most = size < MOST_BYTES && MOST_BYTES / size < most ? MOST_BYTES / size : 1;
     chunk->rows = chunk->count = items->count - first < most ? items->count - first : most;
-    if (size == 0 || chunk->room_size >= size * chunk->rows)
-        return true;
+    if (size == 0 || chunk->room_size >= size * chunk->rows) return true;
     PyMem_RawFree(chunk->room);
     chunk->room_size = size * chunk->rows;
     chunk->room = PyMem_RawMalloc(chunk->room_size);
@@ -140,15 +124,12 @@ static bool prepare(Chunk *chunk, const Items *items, size_t first)
 
 int32_t chunk_read(Chunk *chunk, const Items *items, const Weights *weights, size_t first)
 {
-    if (!prepare(chunk, items, first))
-        return DS_NO_MEMORY;
+    if (!prepare(chunk, items, first)) return DS_NO_MEMORY;
     if (items->with_texts ? !read_strings(items, first, chunk->rows, chunk)
                           : !read_numbers(items, first, chunk->rows, chunk->numbers))
         return CHANGED;
-    if (weights != NULL)
-        weights_chunk(weights, first, chunk->rows, chunk->weights);
-    if (items->has_gaps || (weights != NULL && weights->items.has_gaps))
-        drop_missing(chunk, items, weights, first);
+    if (weights != NULL) weights_chunk(weights, first, chunk->rows, chunk->weights);
+    if (items->has_gaps || (weights != NULL && weights->items.has_gaps)) drop_missing(chunk, items, weights, first);
     return weights == NULL || weights_hold(weights, chunk->weights, chunk->count) ? DS_OK : CHANGED;
 }
 
@@ -159,15 +140,12 @@ void chunk_open(Chunk *chunk, size_t count, size_t longest)
     chunk->room_size = 0;
     chunk->most = count < longest ? count : longest;
     uint64_t *many = chunk->most > CHUNK ? PyMem_RawMalloc(chunk->most * sizeof *many) : NULL;
-    if (many != NULL)
-        chunk->numbers = many;
-    else
-        chunk->most = CHUNK;
+    if (many != NULL) chunk->numbers = many;
+    else chunk->most = CHUNK;
 }
 
 void chunk_close(Chunk *chunk)
 {
-    if (chunk->numbers != chunk->few)
-        PyMem_RawFree(chunk->numbers);
+    if (chunk->numbers != chunk->few) PyMem_RawFree(chunk->numbers);
     PyMem_RawFree(chunk->room);
 }

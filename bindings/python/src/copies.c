@@ -4,8 +4,7 @@
 PyObject *sketch_like(const Sketch *self, ds_sketch *made)
 {
     Sketch *like = sketch_of(Py_TYPE(self), made);
-    if (like == NULL)
-        return NULL;
+    if (like == NULL) return NULL;
     like->seed = self->seed;
     like->buckets = self->buckets;
     like->hashes = self->hashes;
@@ -19,8 +18,7 @@ static PyObject *copy_of(Sketch *self)
     Use use = {.sketch = self};
     ds_sketch made = DS_NONE;
     int32_t answer;
-    if (!use_begin(&use))
-        return NULL;
+    if (!use_begin(&use)) return NULL;
     Py_BEGIN_ALLOW_THREADS
     answer = ds_clone(&made, &use.share);
     Py_END_ALLOW_THREADS
@@ -32,8 +30,7 @@ static PyObject *copy_of(Sketch *self)
 static PyObject *attribute_if_any(PyObject *object, const char *name)
 {
     PyObject *value = PyObject_GetAttrString(object, name);
-    if (value == NULL && PyErr_ExceptionMatches(PyExc_AttributeError))
-        PyErr_Clear();
+    if (value == NULL && PyErr_ExceptionMatches(PyExc_AttributeError)) PyErr_Clear();
     return value;
 }
 
@@ -41,14 +38,11 @@ static PyObject *attribute_if_any(PyObject *object, const char *name)
  * `__getstate__`. */
 static PyObject *state_of(PyObject *self)
 {
-    if (!PyType_HasFeature(Py_TYPE(self), Py_TPFLAGS_HEAPTYPE))
-        return Py_NewRef(Py_None);
+    if (!PyType_HasFeature(Py_TYPE(self), Py_TPFLAGS_HEAPTYPE)) return Py_NewRef(Py_None);
     PyObject *get = attribute_if_any(self, "__getstate__");
     PyObject *state = NULL;
-    if (get != NULL)
-        state = PyObject_CallNoArgs(get);
-    else if (!PyErr_Occurred())
-        state = attribute_if_any(self, "__dict__");
+    if (get != NULL) state = PyObject_CallNoArgs(get);
+    else if (!PyErr_Occurred()) state = attribute_if_any(self, "__dict__");
     Py_XDECREF(get);
     return state != NULL || PyErr_Occurred() ? state : Py_NewRef(Py_None);
 }
@@ -85,8 +79,7 @@ static bool put_state(PyObject *object, PyObject *state)
         PyObject *result = values != NULL ? PyObject_CallMethod(values, "update", "(O)", state) : NULL;
         Py_XDECREF(values);
         Py_XDECREF(result);
-        if (result == NULL)
-            return false;
+        if (result == NULL) return false;
     }
     return slots == Py_None || set_attributes(object, slots);
 }
@@ -96,8 +89,7 @@ static PyObject *with_state(PyObject *copy, PyObject *state)
 {
     bool done = copy != NULL && state != NULL && (state == Py_None || put_state(copy, state));
     Py_XDECREF(state);
-    if (!done)
-        Py_CLEAR(copy);
+    if (!done) Py_CLEAR(copy);
     return copy;
 }
 
@@ -110,8 +102,7 @@ PyObject *sketch_copy(PyObject *self, PyObject *Py_UNUSED(unused))
 /* Stores the copy in the memo. This precedes the copy of the state, which may refer to the sketch. */
 static bool remember(PyObject *memo, PyObject *self, PyObject *copy)
 {
-    if (!PyDict_Check(memo))
-        return true;
+    if (!PyDict_Check(memo)) return true;
     PyObject *key = PyLong_FromVoidPtr(self);
     bool done = key != NULL && PyDict_SetItem(memo, key, copy) == 0;
     Py_XDECREF(key);
@@ -122,8 +113,7 @@ PyObject *sketch_deepcopy(PyObject *self, PyObject *memo)
 {
     PyObject *copy = copy_of((Sketch *)self);
     PyObject *state = copy != NULL ? state_of(self) : NULL;
-    if (state == NULL || state == Py_None)
-        return with_state(copy, state);
+    if (state == NULL || state == Py_None) return with_state(copy, state);
     PyObject *module = remember(memo, self, copy) ? PyImport_ImportModule("copy") : NULL;
     PyObject *deep = module != NULL ? PyObject_CallMethod(module, "deepcopy", "OO", state, memo) : NULL;
     Py_XDECREF(module);
@@ -133,13 +123,11 @@ PyObject *sketch_deepcopy(PyObject *self, PyObject *memo)
 
 PyObject *sketch_reduce(PyObject *self, PyObject *arguments)
 {
-    if (arguments == NULL)
-        return NULL;
+    if (arguments == NULL) return NULL;
     PyObject *reader = PyObject_GetAttrString((PyObject *)Py_TYPE(self), "_unpickle");
     PyObject *state = reader != NULL ? state_of(self) : NULL;
     PyObject *result = NULL;
-    if (state != NULL)
-        result = state == Py_None ? PyTuple_Pack(2, reader, arguments) : PyTuple_Pack(3, reader, arguments, state);
+    if (state != NULL) result = state == Py_None ? PyTuple_Pack(2, reader, arguments) : PyTuple_Pack(3, reader, arguments, state);
     Py_XDECREF(state);
     Py_XDECREF(reader);
     Py_DECREF(arguments);
@@ -160,8 +148,7 @@ PyObject *sketch_unpickle(PyObject *type, PyObject *args, const char *const *nam
             break;
         }
     }
-    if (named)
-        result = read(type, none, keywords);
+    if (named) result = read(type, none, keywords);
     Py_XDECREF(none);
     Py_XDECREF(keywords);
     Py_XDECREF(limit);

@@ -8,8 +8,7 @@
 static PyObject *count_of(PyTypeObject *type, ds_sketch *made, bool with_sign, const ds_count_min_status *numbers)
 {
     Sketch *self = sketch_of(type, made);
-    if (self == NULL)
-        return NULL;
+    if (self == NULL) return NULL;
     self->hashes = numbers->num_hashes;
     self->buckets = numbers->num_buckets;
     self->seed = numbers->seed;
@@ -56,10 +55,8 @@ PyDoc_STRVAR(halve_doc,
 /* Returns whether the sketch can be halved and decayed. Sets an error for signed weights: the library has no call for them. */
 static bool ages(Sketch *self)
 {
-    if (!sketch_ready(self))
-        return false;
-    if (self->with_sign)
-        PyErr_SetString(PyExc_TypeError, "a sketch of signed weights is not halved or decayed");
+    if (!sketch_ready(self)) return false;
+    if (self->with_sign) PyErr_SetString(PyExc_TypeError, "a sketch of signed weights is not halved or decayed");
     return !self->with_sign;
 }
 
@@ -84,8 +81,7 @@ static PyObject *count_decay(PyObject *object, PyObject *const *args, Py_ssize_t
     Sketch *self = (Sketch *)object;
     Use use = {.sketch = self, .changes = true};
     uint64_t numerator, denominator;
-    if (count != 2)
-        return PyErr_Format(PyExc_TypeError, "decay takes a numerator and a denominator, not %zd arguments", count);
+    if (count != 2) return PyErr_Format(PyExc_TypeError, "decay takes a numerator and a denominator, not %zd arguments", count);
     if (!ages(self) || !natural_of(args[0], "numerator", &numerator) || !natural_of(args[1], "denominator", &denominator) ||
         !use_begin(&use))
         return NULL;
@@ -94,8 +90,7 @@ static PyObject *count_decay(PyObject *object, PyObject *const *args, Py_ssize_t
     answer = ds_count_min_u64_decay(&self->handle, numerator, denominator);
     Py_END_ALLOW_THREADS
     use_end(&use);
-    if (answer < 0)
-        return refuse(answer);
+    if (answer < 0) return refuse(answer);
     Py_RETURN_NONE;
 }
 
@@ -108,26 +103,22 @@ static bool are_counts(PyObject *first, PyObject *second)
 static of_two merge_of(PyObject *first, PyObject *second)
 {
     Sketch *self = (Sketch *)first, *other = (Sketch *)second;
-    if (!sketch_ready(self) || !sketch_ready(other))
-        return NULL;
-    if (self->with_sign == other->with_sign)
-        return self->with_sign ? (ds_count_min_i64_merge) : (ds_count_min_u64_merge);
+    if (!sketch_ready(self) || !sketch_ready(other)) return NULL;
+    if (self->with_sign == other->with_sign) return self->with_sign ? (ds_count_min_i64_merge) : (ds_count_min_u64_merge);
     PyErr_SetString(PyExc_ValueError, "one sketch has signed weights, and the other has not");
     return NULL;
 }
 
 static PyObject *count_add_into(PyObject *first, PyObject *second)
 {
-    if (!are_counts(first, second))
-        Py_RETURN_NOTIMPLEMENTED;
+    if (!are_counts(first, second)) Py_RETURN_NOTIMPLEMENTED;
     of_two merge = merge_of(first, second);
     return merge != NULL ? sketch_join((Sketch *)first, (Sketch *)second, merge) : NULL;
 }
 
 static PyObject *count_add(PyObject *first, PyObject *second)
 {
-    if (!are_counts(first, second))
-        Py_RETURN_NOTIMPLEMENTED;
+    if (!are_counts(first, second)) Py_RETURN_NOTIMPLEMENTED;
     of_two merge = merge_of(first, second);
     return merge != NULL ? sketch_joined((Sketch *)first, (Sketch *)second, merge) : NULL;
 }
@@ -153,8 +144,7 @@ PyDoc_STRVAR(merge_all_doc,
 static PyObject *count_merge_all(PyObject *self, PyObject *given)
 {
     PyObject *others = joins_given(self, given, "merge_all", &count_type, can_merge);
-    if (others == NULL)
-        return NULL;
+    if (others == NULL) return NULL;
     of_many merge_all = ((Sketch *)self)->with_sign ? (ds_count_min_i64_merge_all) : (ds_count_min_u64_merge_all);
     return sketch_join_all(self, others, merge_all);
 }
@@ -174,8 +164,7 @@ static PyObject *count_repr(PyObject *object)
 static PyObject *count_number(PyObject *object, void *which)
 {
     Sketch *self = (Sketch *)object;
-    if (!sketch_ready(self))
-        return NULL;
+    if (!sketch_ready(self)) return NULL;
     uint64_t fields[] = {self->hashes, self->buckets, self->seed};
     return PyLong_FromUnsignedLongLong(fields[(uintptr_t)which]);
 }
@@ -187,8 +176,7 @@ static PyObject *count_signed(PyObject *object, void *Py_UNUSED(unused))
 
 static bool count_numbers_of(Sketch *self, ds_count_min_status *numbers)
 {
-    if (!sketch_ready(self))
-        return false;
+    if (!sketch_ready(self)) return false;
     int32_t answer = BY_SIGN(self->with_sign, get_status, &self->handle, numbers);
     return answer >= 0 || refuse(answer) != NULL;
 }
@@ -238,14 +226,12 @@ static PyObject *count_read(PyObject *type, PyObject *args, PyObject *keywords, 
     if (ready) {
         Py_BEGIN_ALLOW_THREADS
         answer = BY_SIGN(with_sign, deserialize_prefix, &made, image.bytes, image.length, seed, limit, used);
-        if (answer >= 0)
-            answer = BY_SIGN(with_sign, get_status, &made, &numbers);
+        if (answer >= 0) answer = BY_SIGN(with_sign, get_status, &made, &numbers);
         Py_END_ALLOW_THREADS
         answer = image_answer(&image, answer);
     }
     image_release(&image);
-    if (answer < 0)
-        return refuse_image(answer);
+    if (answer < 0) return refuse_image(answer);
     return ready ? count_of((PyTypeObject *)type, &made, with_sign != 0, &numbers) : NULL;
 }
 
@@ -276,8 +262,7 @@ static PyObject *count_deserialize_prefix(PyObject *type, PyObject *args, PyObje
 static PyObject *count_reduce(PyObject *object, PyObject *Py_UNUSED(unused))
 {
     PyObject *image = count_serialize(object, NULL);
-    if (image == NULL)
-        return NULL;
+    if (image == NULL) return NULL;
     Sketch *self = (Sketch *)object;
     PyObject *with_sign = self->with_sign ? Py_True : Py_False;
     return sketch_reduce(object, Py_BuildValue("(NKO)", image, (unsigned long long)self->seed, with_sign));
@@ -292,13 +277,10 @@ static PyObject *count_unpickle(PyObject *type, PyObject *args)
 /* Compares two sketches. Sketches with weights of different types are unequal. */
 static PyObject *count_compare(PyObject *first, PyObject *second, int operation)
 {
-    if ((operation != Py_EQ && operation != Py_NE) || !PyObject_TypeCheck(second, &count_type))
-        Py_RETURN_NOTIMPLEMENTED;
+    if ((operation != Py_EQ && operation != Py_NE) || !PyObject_TypeCheck(second, &count_type)) Py_RETURN_NOTIMPLEMENTED;
     Sketch *self = (Sketch *)first, *other = (Sketch *)second;
-    if (!sketch_ready(self) || !sketch_ready(other))
-        return NULL;
-    if (self->with_sign != other->with_sign)
-        return PyBool_FromLong(operation == Py_NE);
+    if (!sketch_ready(self) || !sketch_ready(other)) return NULL;
+    if (self->with_sign != other->with_sign) return PyBool_FromLong(operation == Py_NE);
     return sketch_equal(self, other, self->with_sign ? (ds_count_min_i64_equal) : (ds_count_min_u64_equal), operation);
 }
 
@@ -367,10 +349,20 @@ PyDoc_STRVAR(count_doc,
 "(7, 18)\n");
 
 PyTypeObject count_type = {
+    /* clang-format off */
     PyVarObject_HEAD_INIT(NULL, 0)
-    .tp_name = "datasketches_rattle.CountMinSketch", .tp_basicsize = sizeof(Sketch), .tp_doc = count_doc,
-    .tp_flags = Py_TPFLAGS_DEFAULT | Py_TPFLAGS_BASETYPE, .tp_new = count_new, .tp_dealloc = sketch_dealloc,
-    .tp_repr = count_repr, .tp_methods = count_methods, .tp_getset = count_fields, .tp_as_number = &count_as_number,
+        /* clang-format on */
+        .tp_name = "datasketches_rattle.CountMinSketch",
+    .tp_basicsize = sizeof(Sketch),
+    .tp_doc = count_doc,
+    .tp_flags = Py_TPFLAGS_DEFAULT | Py_TPFLAGS_BASETYPE,
+    .tp_new = count_new,
+    .tp_dealloc = sketch_dealloc,
+    .tp_repr = count_repr,
+    .tp_methods = count_methods,
+    .tp_getset = count_fields,
+    .tp_as_number = &count_as_number,
     .tp_as_mapping = &count_as_mapping,
-    .tp_richcompare = count_compare, .tp_hash = PyObject_HashNotImplemented,
+    .tp_richcompare = count_compare,
+    .tp_hash = PyObject_HashNotImplemented,
 };

@@ -54,10 +54,8 @@ static int32_t upper_bound_one(Sketch *self, const Item *item, uint64_t *number)
 static uint64_t room(Sketch *self)
 {
     ds_count_min_status status = {0};
-    if (self->with_sign)
-        ds_count_min_i64_get_status(&self->handle, &status);
-    else
-        ds_count_min_u64_get_status(&self->handle, &status);
+    if (self->with_sign) ds_count_min_i64_get_status(&self->handle, &status);
+    else ds_count_min_u64_get_status(&self->handle, &status);
     return (self->with_sign ? INT64_MAX : UINT64_MAX) - status.total_weight;
 }
 
@@ -66,9 +64,8 @@ static int32_t update_strings(Batch *batch, const ds_string *strings, const uint
     ds_sketch *handle = batch->handle;
     const int64_t *with_sign = (const int64_t *)weights;
     if (batch->self->with_sign)
-        return weights == NULL
-                   ? (ds_count_min_i64_update_all_string_pairs)(handle, strings, count)
-                   : (ds_count_min_i64_update_all_weighted_string_pairs)(handle, strings, count, with_sign, count);
+        return weights == NULL ? (ds_count_min_i64_update_all_string_pairs)(handle, strings, count)
+                               : (ds_count_min_i64_update_all_weighted_string_pairs)(handle, strings, count, with_sign, count);
     return weights == NULL ? (ds_count_min_u64_update_all_string_pairs)(handle, strings, count)
                            : (ds_count_min_u64_update_all_weighted_string_pairs)(handle, strings, count, weights, count);
 }
@@ -116,8 +113,7 @@ PyObject *count_update(PyObject *object, PyObject *const *args, Py_ssize_t count
     Items items;
     Weights weights;
     uint64_t weight = 1;
-    if (!update_arguments(args, count, names, &given))
-        return NULL;
+    if (!update_arguments(args, count, names, &given)) return NULL;
     if (!is_single(args[0])) {
         bool opened = update_open(args[0], given, self->with_sign, &items, &weights);
         return opened ? update_all(self, &items, &weights, &updates) : NULL;
@@ -126,8 +122,7 @@ PyObject *count_update(PyObject *object, PyObject *const *args, Py_ssize_t count
         !sketch_ready_to_change(self))
         return NULL;
     int32_t answer = update_one(self, &item, weight);
-    if (answer < 0)
-        return refuse(answer);
+    if (answer < 0) return refuse(answer);
     Py_RETURN_NONE;
 }
 
@@ -143,8 +138,7 @@ static PyObject *asked(PyObject *object, PyObject *given, question ask)
     Sketch *self = (Sketch *)object;
     Item item;
     uint64_t number = 0;
-    if (!item_of(given, &item) || !sketch_ready(self))
-        return NULL;
+    if (!item_of(given, &item) || !sketch_ready(self)) return NULL;
     int32_t answer = ask(self, &item, &number);
     return answer < 0 ? refuse(answer) : number_for(self, number);
 }
@@ -187,17 +181,28 @@ static PyObject *number_at(const Sketch *self, const void *answers, size_t index
 
 PyObject *count_estimate(PyObject *object, PyObject *given)
 {
-    static const Question natural = {.call = "estimate", .size = sizeof(uint64_t), .kind = "u8", .width = 1,
-                                     .object = number_at, .longest = longest, .strings = estimate_strings,
+    static const Question natural = {.call = "estimate",
+                                     .size = sizeof(uint64_t),
+                                     .kind = "u8",
+                                     .width = 1,
+                                     .object = number_at,
+                                     .longest = longest,
+                                     .strings = estimate_strings,
                                      .numbers = estimate_numbers};
-    static const Question with_sign = {.call = "estimate", .size = sizeof(int64_t), .kind = "i8", .width = 1,
-                                       .object = number_at, .longest = longest, .strings = estimate_strings,
+    static const Question with_sign = {.call = "estimate",
+                                       .size = sizeof(int64_t),
+                                       .kind = "i8",
+                                       .width = 1,
+                                       .object = number_at,
+                                       .longest = longest,
+                                       .strings = estimate_strings,
                                        .numbers = estimate_numbers};
     Sketch *self = (Sketch *)object;
     return is_single(given) ? count_at(object, given) : ask_all(self, given, self->with_sign ? &with_sign : &natural);
 }
 
-const char count_upper_bound_doc[] = PyDoc_STR(
+const char count_upper_bound_doc[] =
+    PyDoc_STR(
 "upper_bound($self, item, /)\n--\n\n"
 "Return the estimate plus a margin: e times the total weight over the number of buckets.\n\n"
 ">>> import datasketches_rattle as ds\n"

@@ -4,8 +4,7 @@
 /* Reads the filter's status. Returns false, with an error set, if the filter is closed. */
 static bool numbers_of(Sketch *self, ds_bloom_status *numbers)
 {
-    if (!sketch_ready(self))
-        return false;
+    if (!sketch_ready(self)) return false;
     int32_t answer = ds_bloom_get_status(&self->handle, numbers);
     return answer >= 0 || refuse(answer) != NULL;
 }
@@ -52,21 +51,25 @@ static bool are_filters(PyObject *first, PyObject *second)
 
 static PyObject *join_into(PyObject *first, PyObject *second, of_two join)
 {
-    if (!are_filters(first, second))
-        Py_RETURN_NOTIMPLEMENTED;
+    if (!are_filters(first, second)) Py_RETURN_NOTIMPLEMENTED;
     return sketch_join((Sketch *)first, (Sketch *)second, join);
 }
 
 static PyObject *joined(PyObject *first, PyObject *second, of_two join)
 {
-    if (!are_filters(first, second))
-        Py_RETURN_NOTIMPLEMENTED;
+    if (!are_filters(first, second)) Py_RETURN_NOTIMPLEMENTED;
     return sketch_joined((Sketch *)first, (Sketch *)second, join);
 }
 
 #define OPERATION(name, call) \
-    static PyObject *filter_##name(PyObject *a, PyObject *b) { return joined(a, b, (call)); } \
-    static PyObject *filter_##name##_into(PyObject *a, PyObject *b) { return join_into(a, b, (call)); }
+    static PyObject *filter_##name(PyObject *a, PyObject *b) \
+    { \
+        return joined(a, b, (call)); \
+    } \
+    static PyObject *filter_##name##_into(PyObject *a, PyObject *b) \
+    { \
+        return join_into(a, b, (call)); \
+    }
 OPERATION(or, ds_bloom_union)
 OPERATION(and, ds_bloom_intersect)
 OPERATION(subtract, ds_bloom_difference)
@@ -123,8 +126,7 @@ static PyObject *filter_read(PyObject *type, PyObject *args, PyObject *keywords,
     Image image = {0};
     PyObject *limit_object = NULL;
     size_t limit = DEFAULT_LIMIT;
-    if (!PyArg_ParseTupleAndKeywords(args, keywords, format, names, &image.view, &limit_object))
-        return NULL;
+    if (!PyArg_ParseTupleAndKeywords(args, keywords, format, names, &image.view, &limit_object)) return NULL;
     bool ready = limit_of(limit_object, &limit) && image_take(&image, limit);
     ds_sketch made = DS_NONE;
     int32_t answer = DS_OK;
@@ -135,8 +137,7 @@ static PyObject *filter_read(PyObject *type, PyObject *args, PyObject *keywords,
         answer = image_answer(&image, answer);
     }
     image_release(&image);
-    if (answer < 0)
-        return refuse_image(answer);
+    if (answer < 0) return refuse_image(answer);
     return ready ? (PyObject *)sketch_of((PyTypeObject *)type, &made) : NULL;
 }
 
@@ -181,8 +182,7 @@ static PyObject *filter_unpickle(PyObject *type, PyObject *args)
 
 static PyObject *filter_compare(PyObject *first, PyObject *second, int operation)
 {
-    if ((operation != Py_EQ && operation != Py_NE) || !PyObject_TypeCheck(second, &filter_type))
-        Py_RETURN_NOTIMPLEMENTED;
+    if ((operation != Py_EQ && operation != Py_NE) || !PyObject_TypeCheck(second, &filter_type)) Py_RETURN_NOTIMPLEMENTED;
     return sketch_equal((Sketch *)first, (Sketch *)second, (ds_bloom_equal), operation);
 }
 
@@ -194,15 +194,14 @@ static PyObject *filter_repr(PyObject *object)
         return PyUnicode_FromString("<BloomFilter, closed>");
     }
     return PyUnicode_FromFormat("<BloomFilter capacity=%llu num_hashes=%d seed=%llu bits_used=%llu>",
-                                (unsigned long long)numbers.capacity, (int)numbers.num_hashes,
-                                (unsigned long long)numbers.seed, (unsigned long long)numbers.bits_used);
+                                (unsigned long long)numbers.capacity, (int)numbers.num_hashes, (unsigned long long)numbers.seed,
+                                (unsigned long long)numbers.bits_used);
 }
 
 static PyObject *filter_number(PyObject *object, void *which)
 {
     ds_bloom_status numbers;
-    if (!numbers_of((Sketch *)object, &numbers))
-        return NULL;
+    if (!numbers_of((Sketch *)object, &numbers)) return NULL;
     uint64_t fields[] = {numbers.capacity, numbers.num_hashes, numbers.seed, numbers.bits_used};
     return PyLong_FromUnsignedLongLong(fields[(uintptr_t)which]);
 }
@@ -241,8 +240,12 @@ static PyMethodDef filter_methods[] = {
 };
 
 static PyNumberMethods filter_as_number = {
-    .nb_or = filter_or, .nb_and = filter_and, .nb_subtract = filter_subtract,
-    .nb_inplace_or = filter_or_into, .nb_inplace_and = filter_and_into, .nb_inplace_subtract = filter_subtract_into,
+    .nb_or = filter_or,
+    .nb_and = filter_and,
+    .nb_subtract = filter_subtract,
+    .nb_inplace_or = filter_or_into,
+    .nb_inplace_and = filter_and_into,
+    .nb_inplace_subtract = filter_subtract_into,
 };
 
 static PySequenceMethods filter_as_sequence = {.sq_contains = filter_has};
@@ -260,10 +263,20 @@ PyDoc_STRVAR(filter_doc,
 "<BloomFilter capacity=1048576 num_hashes=7 seed=9001 bits_used=14>\n");
 
 PyTypeObject filter_type = {
+    /* clang-format off */
     PyVarObject_HEAD_INIT(NULL, 0)
-    .tp_name = "datasketches_rattle.BloomFilter", .tp_basicsize = sizeof(Sketch), .tp_doc = filter_doc,
-    .tp_flags = Py_TPFLAGS_DEFAULT | Py_TPFLAGS_BASETYPE, .tp_new = filter_new, .tp_dealloc = sketch_dealloc,
-    .tp_repr = filter_repr, .tp_richcompare = filter_compare, .tp_hash = PyObject_HashNotImplemented,
-    .tp_methods = filter_methods, .tp_getset = filter_fields, .tp_as_number = &filter_as_number,
+        /* clang-format on */
+        .tp_name = "datasketches_rattle.BloomFilter",
+    .tp_basicsize = sizeof(Sketch),
+    .tp_doc = filter_doc,
+    .tp_flags = Py_TPFLAGS_DEFAULT | Py_TPFLAGS_BASETYPE,
+    .tp_new = filter_new,
+    .tp_dealloc = sketch_dealloc,
+    .tp_repr = filter_repr,
+    .tp_richcompare = filter_compare,
+    .tp_hash = PyObject_HashNotImplemented,
+    .tp_methods = filter_methods,
+    .tp_getset = filter_fields,
+    .tp_as_number = &filter_as_number,
     .tp_as_sequence = &filter_as_sequence,
 };

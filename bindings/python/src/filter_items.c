@@ -3,17 +3,14 @@
 
 static int32_t insert_one(ds_sketch *handle, const Item *item)
 {
-    if (item->text != NULL)
-        return ds_bloom_insert_string(handle, (const uint8_t *)item->text, item->value);
+    if (item->text != NULL) return ds_bloom_insert_string(handle, (const uint8_t *)item->text, item->value);
     return item->negative ? ds_bloom_insert_i64(handle, (int64_t)item->value) : ds_bloom_insert_u64(handle, item->value);
 }
 
 static int32_t contains_one(ds_sketch *handle, const Item *item)
 {
-    if (item->text != NULL)
-        return ds_bloom_contains_string(handle, (const uint8_t *)item->text, item->value);
-    return item->negative ? ds_bloom_contains_i64(handle, (int64_t)item->value)
-                          : ds_bloom_contains_u64(handle, item->value);
+    if (item->text != NULL) return ds_bloom_contains_string(handle, (const uint8_t *)item->text, item->value);
+    return item->negative ? ds_bloom_contains_i64(handle, (int64_t)item->value) : ds_bloom_contains_u64(handle, item->value);
 }
 
 static int32_t insert_strings(Batch *batch, const ds_string *strings, const uint64_t *Py_UNUSED(weights), size_t count)
@@ -59,13 +56,10 @@ PyObject *filter_insert(PyObject *object, PyObject *given)
     Item item;
     Items items;
     Weights weights;
-    if (!is_single(given))
-        return items_of(given, "insert", &items, &weights) ? update_all(self, &items, &weights, &inserts) : NULL;
-    if (!item_of(given, &item) || !sketch_ready_to_change(self))
-        return NULL;
+    if (!is_single(given)) return items_of(given, "insert", &items, &weights) ? update_all(self, &items, &weights, &inserts) : NULL;
+    if (!item_of(given, &item) || !sketch_ready_to_change(self)) return NULL;
     int32_t answer = insert_one(&self->handle, &item);
-    if (answer < 0)
-        return refuse(answer);
+    if (answer < 0) return refuse(answer);
     Py_RETURN_NONE;
 }
 
@@ -73,15 +67,14 @@ int filter_has(PyObject *object, PyObject *given)
 {
     Sketch *self = (Sketch *)object;
     Item item;
-    if (!item_of(given, &item) || !sketch_ready(self))
-        return -1;
+    if (!item_of(given, &item) || !sketch_ready(self)) return -1;
     int32_t answer = contains_one(&self->handle, &item);
-    if (answer < 0)
-        refuse(answer);
+    if (answer < 0) refuse(answer);
     return answer < 0 ? -1 : answer;
 }
 
-const char filter_contains_doc[] = PyDoc_STR(
+const char filter_contains_doc[] =
+    PyDoc_STR(
 "contains($self, items, /)\n--\n\n"
 "Return whether the filter contains an item. Return a list of bools for many items, and an array for an array of\n"
 "numpy or pandas.\n\n"
@@ -101,18 +94,21 @@ static PyObject *bool_at(const Sketch *Py_UNUSED(self), const void *answers, siz
 
 PyObject *filter_contains(PyObject *object, PyObject *given)
 {
-    static const Question contains = {.call = "contains", .size = sizeof(bool), .kind = "?", .width = 1, .object = bool_at,
-                                      .strings = contains_strings, .numbers = contains_numbers};
-    if (!is_single(given))
-        return ask_all((Sketch *)object, given, &contains);
+    static const Question contains = {.call = "contains",
+                                      .size = sizeof(bool),
+                                      .kind = "?",
+                                      .width = 1,
+                                      .object = bool_at,
+                                      .strings = contains_strings,
+                                      .numbers = contains_numbers};
+    if (!is_single(given)) return ask_all((Sketch *)object, given, &contains);
     int answer = filter_has(object, given);
     return answer < 0 ? NULL : PyBool_FromLong(answer);
 }
 
 static int32_t contains_and_insert_one(ds_sketch *handle, const Item *item)
 {
-    if (item->text != NULL)
-        return ds_bloom_contains_and_insert_string(handle, (const uint8_t *)item->text, item->value);
+    if (item->text != NULL) return ds_bloom_contains_and_insert_string(handle, (const uint8_t *)item->text, item->value);
     return item->negative ? ds_bloom_contains_and_insert_i64(handle, (int64_t)item->value)
                           : ds_bloom_contains_and_insert_u64(handle, item->value);
 }
@@ -142,15 +138,18 @@ const char filter_contains_and_insert_doc[] = PyDoc_STR(
 
 PyObject *filter_contains_and_insert(PyObject *object, PyObject *given)
 {
-    static const Question question = {.call = "contains_and_insert", .size = sizeof(bool), .kind = "?", .width = 1,
-                                      .changes = true, .object = bool_at, .strings = contains_and_insert_strings,
+    static const Question question = {.call = "contains_and_insert",
+                                      .size = sizeof(bool),
+                                      .kind = "?",
+                                      .width = 1,
+                                      .changes = true,
+                                      .object = bool_at,
+                                      .strings = contains_and_insert_strings,
                                       .numbers = contains_and_insert_numbers};
     Sketch *self = (Sketch *)object;
     Item item;
-    if (!is_single(given))
-        return ask_all(self, given, &question);
-    if (!item_of(given, &item) || !sketch_ready_to_change(self))
-        return NULL;
+    if (!is_single(given)) return ask_all(self, given, &question);
+    if (!item_of(given, &item) || !sketch_ready_to_change(self)) return NULL;
     int32_t answer = contains_and_insert_one(&self->handle, &item);
     return answer < 0 ? refuse(answer) : PyBool_FromLong(answer);
 }

@@ -20,11 +20,13 @@ typedef struct {
 } Kind;
 
 #define KIND(name, with_sign, with_texts, call) \
-    {name, with_sign, with_texts, ds_frequent_items_##call##_new, ds_frequent_items_##call##_new_with_key, \
-     ds_frequent_items_##call##_merge, ds_frequent_items_##call##_merge_all, ds_frequent_items_##call##_reset, \
-     ds_frequent_items_##call##_set_sample_size, ds_frequent_items_##call##_get_status, \
-     ds_frequent_items_##call##_serialized_bytes, ds_frequent_items_##call##_serialize, \
-     ds_frequent_items_##call##_deserialize_prefix, ds_frequent_items_##call##_deserialize_prefix_with_key}
+    { \
+        name, with_sign, with_texts, ds_frequent_items_##call##_new, ds_frequent_items_##call##_new_with_key, \
+            ds_frequent_items_##call##_merge, ds_frequent_items_##call##_merge_all, ds_frequent_items_##call##_reset, \
+            ds_frequent_items_##call##_set_sample_size, ds_frequent_items_##call##_get_status, \
+            ds_frequent_items_##call##_serialized_bytes, ds_frequent_items_##call##_serialize, \
+            ds_frequent_items_##call##_deserialize_prefix, ds_frequent_items_##call##_deserialize_prefix_with_key \
+    }
 
 static const Kind numbers_with_sign = KIND("i64", true, false, i64);
 static const Kind numbers_without_sign = KIND("u64", false, false, u64);
@@ -39,14 +41,11 @@ static const Kind *kind_of(const Sketch *self)
  * Returns NULL, with an error set, if it is none of these. */
 static const Kind *kind_named(PyObject *item)
 {
-    if (item == NULL || item == (PyObject *)&PyLong_Type)
-        return &numbers_with_sign;
+    if (item == NULL || item == (PyObject *)&PyLong_Type) return &numbers_with_sign;
     if (item == (PyObject *)&PyUnicode_Type || (PyUnicode_Check(item) && PyUnicode_CompareWithASCIIString(item, "str") == 0))
         return &texts;
-    if (PyUnicode_Check(item) && PyUnicode_CompareWithASCIIString(item, "i64") == 0)
-        return &numbers_with_sign;
-    if (PyUnicode_Check(item) && PyUnicode_CompareWithASCIIString(item, "u64") == 0)
-        return &numbers_without_sign;
+    if (PyUnicode_Check(item) && PyUnicode_CompareWithASCIIString(item, "i64") == 0) return &numbers_with_sign;
+    if (PyUnicode_Check(item) && PyUnicode_CompareWithASCIIString(item, "u64") == 0) return &numbers_without_sign;
     PyErr_SetString(PyExc_ValueError, "item is int, 'i64', 'u64', str or 'str'");
     return NULL;
 }
@@ -78,8 +77,7 @@ static int32_t read_sketch(const Kind *kind, ds_sketch *made, const Image *image
 static PyObject *frequent_of(PyTypeObject *type, ds_sketch *made, const Kind *kind)
 {
     Sketch *self = sketch_of(type, made);
-    if (self == NULL)
-        return NULL;
+    if (self == NULL) return NULL;
     self->with_sign = kind->with_sign;
     self->with_texts = kind->with_texts;
     return (PyObject *)self;
@@ -95,14 +93,10 @@ static PyObject *frequent_new(PyTypeObject *type, PyObject *args, PyObject *keyw
                                      &key_object))
         return NULL;
     const Kind *kind = natural_of(size_object, "max_map_size", &size) ? kind_named(item) : NULL;
-    if (kind == NULL)
-        return NULL;
-    if (sample_object == Py_None)
-        sample = ds_frequent_items_max_sample_size(size);
-    else if (!natural_of(sample_object, "sample_size", &sample))
-        return NULL;
-    if (!key_or_none(key_object, &key))
-        return NULL;
+    if (kind == NULL) return NULL;
+    if (sample_object == Py_None) sample = ds_frequent_items_max_sample_size(size);
+    else if (!natural_of(sample_object, "sample_size", &sample)) return NULL;
+    if (!key_or_none(key_object, &key)) return NULL;
     ds_sketch made = DS_NONE;
     int32_t answer = make_sketch(kind, &made, size, sample, &key);
     return answer < 0 ? refuse(answer) : frequent_of(type, &made, kind);
@@ -116,26 +110,22 @@ static bool are_frequent(PyObject *first, PyObject *second)
 /* Returns the library's merge for two sketches. Returns NULL, with an error set, if there is none. */
 static of_two merge_of(PyObject *first, PyObject *second)
 {
-    if (!sketch_ready((Sketch *)first) || !sketch_ready((Sketch *)second))
-        return NULL;
-    if (kind_of((Sketch *)first) == kind_of((Sketch *)second))
-        return kind_of((Sketch *)first)->merge;
+    if (!sketch_ready((Sketch *)first) || !sketch_ready((Sketch *)second)) return NULL;
+    if (kind_of((Sketch *)first) == kind_of((Sketch *)second)) return kind_of((Sketch *)first)->merge;
     PyErr_SetString(PyExc_ValueError, "the sketches count items of different types");
     return NULL;
 }
 
 static PyObject *frequent_add_into(PyObject *first, PyObject *second)
 {
-    if (!are_frequent(first, second))
-        Py_RETURN_NOTIMPLEMENTED;
+    if (!are_frequent(first, second)) Py_RETURN_NOTIMPLEMENTED;
     of_two merge = merge_of(first, second);
     return merge != NULL ? sketch_join((Sketch *)first, (Sketch *)second, merge) : NULL;
 }
 
 static PyObject *frequent_add(PyObject *first, PyObject *second)
 {
-    if (!are_frequent(first, second))
-        Py_RETURN_NOTIMPLEMENTED;
+    if (!are_frequent(first, second)) Py_RETURN_NOTIMPLEMENTED;
     of_two merge = merge_of(first, second);
     return merge != NULL ? sketch_joined((Sketch *)first, (Sketch *)second, merge) : NULL;
 }
@@ -167,10 +157,8 @@ static PyObject *frequent_merge_all(PyObject *self, PyObject *given)
 /* Compares two sketches. A sketch is equal only to itself: the order of its items is open, and no call compares two. */
 static PyObject *frequent_compare(PyObject *first, PyObject *second, int operation)
 {
-    if ((operation != Py_EQ && operation != Py_NE) || !PyObject_TypeCheck(second, &frequent_type))
-        Py_RETURN_NOTIMPLEMENTED;
-    if (!sketch_ready((Sketch *)first) || !sketch_ready((Sketch *)second))
-        return NULL;
+    if ((operation != Py_EQ && operation != Py_NE) || !PyObject_TypeCheck(second, &frequent_type)) Py_RETURN_NOTIMPLEMENTED;
+    if (!sketch_ready((Sketch *)first) || !sketch_ready((Sketch *)second)) return NULL;
     return PyBool_FromLong((first == second) == (operation == Py_EQ));
 }
 
@@ -181,8 +169,7 @@ static Py_hash_t frequent_hash(PyObject *object)
 
 bool frequent_status(Sketch *self, ds_frequent_items_status *numbers)
 {
-    if (!sketch_ready(self))
-        return false;
+    if (!sketch_ready(self)) return false;
     int32_t answer = kind_of(self)->status(&self->handle, numbers);
     return answer >= 0 || refuse(answer) != NULL;
 }
@@ -242,30 +229,25 @@ static PyObject *frequent_read(PyObject *type, PyObject *args, PyObject *keyword
     size_t limit = DEFAULT_LIMIT;
     uint64_t sample = 0;
     Key key;
-    if (!PyArg_ParseTupleAndKeywords(args, keywords, format, names, &image.view, &item, &limit_object, &sample_object,
-                                     &key_object))
+    if (!PyArg_ParseTupleAndKeywords(args, keywords, format, names, &image.view, &item, &limit_object, &sample_object, &key_object))
         return NULL;
     const Kind *kind = kind_named(item);
     bool ready = kind != NULL && limit_of(limit_object, &limit) &&
-                 (sample_object == Py_None || natural_of(sample_object, "sample_size", &sample)) &&
-                 key_or_none(key_object, &key) && image_take(&image, limit);
+                 (sample_object == Py_None || natural_of(sample_object, "sample_size", &sample)) && key_or_none(key_object, &key) &&
+                 image_take(&image, limit);
     ds_sketch made = DS_NONE;
     int32_t answer = DS_OK, sampled = DS_OK;
     if (ready) {
         Py_BEGIN_ALLOW_THREADS
         answer = read_sketch(kind, &made, &image, limit, &key, used);
-        if (answer >= 0 && sample_object != Py_None)
-            sampled = kind->set_sample_size(&made, sample);
-        if (sampled < 0)
-            ds_free(&made);
+        if (answer >= 0 && sample_object != Py_None) sampled = kind->set_sample_size(&made, sample);
+        if (sampled < 0) ds_free(&made);
         Py_END_ALLOW_THREADS
         answer = image_answer(&image, answer);
     }
     image_release(&image);
-    if (answer < 0)
-        return refuse_image(answer);
-    if (sampled < 0)
-        return refuse(sampled);
+    if (answer < 0) return refuse_image(answer);
+    if (sampled < 0) return refuse(sampled);
     return ready ? frequent_of((PyTypeObject *)type, &made, kind) : NULL;
 }
 
@@ -298,11 +280,9 @@ static PyObject *frequent_reduce(PyObject *object, PyObject *Py_UNUSED(unused))
     Sketch *self = (Sketch *)object;
     ds_frequent_items_status numbers;
     PyObject *image = numbers_of(object, &numbers) ? frequent_serialize(object, NULL) : NULL;
-    if (image == NULL)
-        return NULL;
+    if (image == NULL) return NULL;
     unsigned long long sample = numbers.sample_size;
-    if (self->with_texts)
-        return sketch_reduce(object, Py_BuildValue("(NOK)", image, (PyObject *)&PyUnicode_Type, sample));
+    if (self->with_texts) return sketch_reduce(object, Py_BuildValue("(NOK)", image, (PyObject *)&PyUnicode_Type, sample));
     return sketch_reduce(object, Py_BuildValue("(NsK)", image, kind_of(self)->name, sample));
 }
 
@@ -350,15 +330,14 @@ static PyObject *frequent_repr(PyObject *object)
         return PyUnicode_FromString("<FrequentItemsSketch, closed>");
     }
     return PyUnicode_FromFormat("<FrequentItemsSketch max_map_size=%llu item=%s total_weight=%llu>",
-                                (unsigned long long)numbers.max_map_size,
-                                kind_of((Sketch *)object)->name, (unsigned long long)numbers.total_weight);
+                                (unsigned long long)numbers.max_map_size, kind_of((Sketch *)object)->name,
+                                (unsigned long long)numbers.total_weight);
 }
 
 static PyObject *frequent_number(PyObject *object, void *which)
 {
     ds_frequent_items_status numbers;
-    if (!numbers_of(object, &numbers))
-        return NULL;
+    if (!numbers_of(object, &numbers)) return NULL;
     uint64_t fields[] = {numbers.total_weight, numbers.maximum_error, numbers.num_active_items, numbers.max_map_size,
                          numbers.sample_size};
     return PyLong_FromUnsignedLongLong(fields[(uintptr_t)which]);
@@ -385,8 +364,7 @@ static PyMethodDef frequent_methods[] = {
     {"merge_all", frequent_merge_all, METH_O, merge_all_doc},
     {"reset", frequent_reset, METH_NOARGS, reset_doc},
     {"serialize", frequent_serialize, METH_NOARGS, serialize_doc},
-    {"deserialize", (PyCFunction)(void (*)(void))frequent_deserialize, METH_CLASS | METH_VARARGS | METH_KEYWORDS,
-     deserialize_doc},
+    {"deserialize", (PyCFunction)(void (*)(void))frequent_deserialize, METH_CLASS | METH_VARARGS | METH_KEYWORDS, deserialize_doc},
     CLASS_METHOD("deserialize_prefix", frequent_deserialize_prefix),
     {"__bytes__", frequent_serialize, METH_NOARGS, NULL},
     {"__reduce__", frequent_reduce, METH_NOARGS, NULL},
@@ -431,11 +409,20 @@ PyDoc_STRVAR(frequent_doc,
 "[('apple', 2, 2, 2), ('pear', 1, 1, 1)]\n");
 
 PyTypeObject frequent_type = {
+    /* clang-format off */
     PyVarObject_HEAD_INIT(NULL, 0)
-    .tp_name = "datasketches_rattle.FrequentItemsSketch", .tp_basicsize = sizeof(Sketch), .tp_doc = frequent_doc,
-    .tp_flags = Py_TPFLAGS_DEFAULT | Py_TPFLAGS_BASETYPE, .tp_new = frequent_new, .tp_dealloc = sketch_dealloc,
-    .tp_repr = frequent_repr, .tp_methods = frequent_methods, .tp_getset = frequent_fields,
+        /* clang-format on */
+        .tp_name = "datasketches_rattle.FrequentItemsSketch",
+    .tp_basicsize = sizeof(Sketch),
+    .tp_doc = frequent_doc,
+    .tp_flags = Py_TPFLAGS_DEFAULT | Py_TPFLAGS_BASETYPE,
+    .tp_new = frequent_new,
+    .tp_dealloc = sketch_dealloc,
+    .tp_repr = frequent_repr,
+    .tp_methods = frequent_methods,
+    .tp_getset = frequent_fields,
     .tp_as_number = &frequent_as_number,
     .tp_as_mapping = &frequent_as_mapping,
-    .tp_richcompare = frequent_compare, .tp_hash = frequent_hash,
+    .tp_richcompare = frequent_compare,
+    .tp_hash = frequent_hash,
 };

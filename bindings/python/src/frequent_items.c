@@ -10,14 +10,10 @@ static bool counts(const Sketch *self, bool text, uint64_t value, bool negative)
 {
     if (text != self->with_texts)
         PyErr_SetString(PyExc_TypeError, text ? "this sketch counts int, not str" : "this sketch counts str, not int");
-    else if (text)
-        return true;
-    else if (self->with_sign && !negative && value > INT64_MAX)
-        PyErr_SetString(PyExc_OverflowError, "the item is above 2**63 - 1");
-    else if (!self->with_sign && negative)
-        PyErr_SetString(PyExc_OverflowError, "the item is below 0");
-    else
-        return true;
+    else if (text) return true;
+    else if (self->with_sign && !negative && value > INT64_MAX) PyErr_SetString(PyExc_OverflowError, "the item is above 2**63 - 1");
+    else if (!self->with_sign && negative) PyErr_SetString(PyExc_OverflowError, "the item is below 0");
+    else return true;
     return false;
 }
 
@@ -45,16 +41,14 @@ static bool counts_each(const Sketch *self, const Items *items)
     bool all_texts = self->with_texts && !items->with_numbers;
     for (size_t i = 0; items->items != NULL && !all_texts && i < items->count; i++) {
         const Item *item = &items->items[i];
-        if (!item->missing && !counts(self, item->text != NULL, item->value, item->negative))
-            return false;
+        if (!item->missing && !counts(self, item->text != NULL, item->value, item->negative)) return false;
     }
     for (size_t i = 0; i < items->num_runs; i++) {
         const Run *run = &items->runs[i];
         size_t count = counts_entries(self, run) ? 0 : run->count;
         for (size_t at = 0; at < count; at++) {
             const Item *item = run_entry(run, at);
-            if (item != NULL && !item->missing && !counts(self, item->text != NULL, item->value, item->negative))
-                return false;
+            if (item != NULL && !item->missing && !counts(self, item->text != NULL, item->value, item->negative)) return false;
         }
     }
     return true;
@@ -77,8 +71,7 @@ static bool counts_numbers(const Sketch *self, const Items *items)
 
 static bool counts_all(const Sketch *self, const Items *items)
 {
-    if (items->items != NULL || items->of_entries)
-        return counts_each(self, items);
+    if (items->items != NULL || items->of_entries) return counts_each(self, items);
     if (items->with_texts != self->with_texts)
         return items_gaps(items) == items->count || counts(self, items->with_texts, 0, false);
     return self->with_texts || !other_sign(self, items) || counts_numbers(self, items);
@@ -109,20 +102,16 @@ const char frequent_update_doc[] = PyDoc_STR(
 
 static int32_t update_one(Sketch *self, const Item *item, uint64_t weight)
 {
-    if (item->text != NULL)
-        return ds_frequent_items_string_update(&self->handle, (const uint8_t *)item->text, item->value, weight);
+    if (item->text != NULL) return ds_frequent_items_string_update(&self->handle, (const uint8_t *)item->text, item->value, weight);
     return BY_SIGN(self, update, &self->handle, item->value, weight);
 }
 
 static uint64_t total_of(Sketch *self)
 {
     ds_frequent_items_status numbers = {0};
-    if (self->with_texts)
-        ds_frequent_items_string_get_status(&self->handle, &numbers);
-    else if (self->with_sign)
-        ds_frequent_items_i64_get_status(&self->handle, &numbers);
-    else
-        ds_frequent_items_u64_get_status(&self->handle, &numbers);
+    if (self->with_texts) ds_frequent_items_string_get_status(&self->handle, &numbers);
+    else if (self->with_sign) ds_frequent_items_i64_get_status(&self->handle, &numbers);
+    else ds_frequent_items_u64_get_status(&self->handle, &numbers);
     return numbers.total_weight;
 }
 
@@ -147,9 +136,8 @@ static int32_t update_strings(Batch *batch, const ds_string *strings, const uint
 {
     ds_sketch *handle = batch->handle;
     uint64_t was = total_of(batch->self);
-    int32_t answer = weights == NULL
-                         ? (ds_frequent_items_string_update_all_pairs)(handle, strings, count)
-                         : (ds_frequent_items_string_update_all_weighted_pairs)(handle, strings, count, weights, count);
+    int32_t answer = weights == NULL ? (ds_frequent_items_string_update_all_pairs)(handle, strings, count)
+                                     : (ds_frequent_items_string_update_all_weighted_pairs)(handle, strings, count, weights, count);
     return note_counted(batch, answer, weights, count, was);
 }
 
@@ -159,8 +147,7 @@ static int32_t update_numbers(Batch *batch, const uint64_t *numbers, const uint6
     const int64_t *with_sign = (const int64_t *)numbers;
     uint64_t was = total_of(batch->self);
     int32_t answer;
-    if (other_sign(batch->self, batch->items) && !below_top(numbers, count))
-        return CHANGED;
+    if (other_sign(batch->self, batch->items) && !below_top(numbers, count)) return CHANGED;
     if (batch->self->with_sign)
         answer = weights == NULL ? ds_frequent_items_i64_update_all(handle, with_sign, count)
                                  : ds_frequent_items_i64_update_all_weighted(handle, with_sign, count, weights, count);
@@ -180,8 +167,7 @@ PyObject *frequent_update(PyObject *object, PyObject *const *args, Py_ssize_t co
     Items items;
     Weights weights;
     uint64_t weight = 1;
-    if (!update_arguments(args, count, names, &given))
-        return NULL;
+    if (!update_arguments(args, count, names, &given)) return NULL;
     if (!is_single(args[0])) {
         bool opened = update_open(args[0], given, false, &items, &weights);
         return opened ? update_all(self, &items, &weights, &updates) : NULL;
@@ -190,8 +176,7 @@ PyObject *frequent_update(PyObject *object, PyObject *const *args, Py_ssize_t co
         !counts(self, item.text != NULL, item.value, item.negative) || !sketch_ready_to_change(self))
         return NULL;
     int32_t answer = update_one(self, &item, weight);
-    if (answer < 0)
-        return refuse(answer);
+    if (answer < 0) return refuse(answer);
     Py_RETURN_NONE;
 }
 
@@ -199,8 +184,7 @@ static bool bounds_of(PyObject *object, PyObject *given, ds_frequent_items_bound
 {
     Sketch *self = (Sketch *)object;
     Item item;
-    if (!item_of(given, &item) || !counts(self, item.text != NULL, item.value, item.negative) || !sketch_ready(self))
-        return false;
+    if (!item_of(given, &item) || !counts(self, item.text != NULL, item.value, item.negative) || !sketch_ready(self)) return false;
     int32_t answer = self->with_texts
                          ? ds_frequent_items_string_bounds(&self->handle, (const uint8_t *)item.text, item.value, bounds)
                          : BY_SIGN(self, bounds, &self->handle, item.value, bounds);
@@ -215,24 +199,21 @@ static int32_t bounds_strings(Batch *batch, const ds_string *strings, size_t cou
 static int32_t bounds_numbers(Batch *batch, const uint64_t *numbers, size_t count, void *answers)
 {
     ds_sketch *handle = batch->handle;
-    if (other_sign(batch->self, batch->items) && !below_top(numbers, count))
-        return CHANGED;
+    if (other_sign(batch->self, batch->items) && !below_top(numbers, count)) return CHANGED;
     return batch->self->with_sign ? ds_frequent_items_i64_bounds_all(handle, (const int64_t *)numbers, count, answers, count)
                                   : ds_frequent_items_u64_bounds_all(handle, numbers, count, answers, count);
 }
 
 static void keep_estimates(const ds_frequent_items_bounds *bounds, size_t count, uint64_t *estimates)
 {
-    for (size_t i = 0; i < count; i++)
-        estimates[i] = bounds[i].estimate;
+    for (size_t i = 0; i < count; i++) estimates[i] = bounds[i].estimate;
 }
 
 static int32_t estimate_strings(Batch *batch, const ds_string *strings, size_t count, void *answers)
 {
     ds_frequent_items_bounds bounds[CHUNK];
     int32_t answer = bounds_strings(batch, strings, count, bounds);
-    if (answer >= 0)
-        keep_estimates(bounds, count, answers);
+    if (answer >= 0) keep_estimates(bounds, count, answers);
     return answer;
 }
 
@@ -240,8 +221,7 @@ static int32_t estimate_numbers(Batch *batch, const uint64_t *numbers, size_t co
 {
     ds_frequent_items_bounds bounds[CHUNK];
     int32_t answer = bounds_numbers(batch, numbers, count, bounds);
-    if (answer >= 0)
-        keep_estimates(bounds, count, answers);
+    if (answer >= 0) keep_estimates(bounds, count, answers);
     return answer;
 }
 
@@ -273,12 +253,16 @@ const char frequent_bounds_doc[] = PyDoc_STR(
 
 PyObject *frequent_bounds(PyObject *object, PyObject *items)
 {
-    static const Question all = {.call = "bounds", .size = sizeof(ds_frequent_items_bounds), .kind = "u8", .width = 3,
-                                 .object = bounds_at, .check = counts_all, .strings = bounds_strings,
+    static const Question all = {.call = "bounds",
+                                 .size = sizeof(ds_frequent_items_bounds),
+                                 .kind = "u8",
+                                 .width = 3,
+                                 .object = bounds_at,
+                                 .check = counts_all,
+                                 .strings = bounds_strings,
                                  .numbers = bounds_numbers};
     ds_frequent_items_bounds bounds;
-    if (!is_single(items))
-        return ask_all((Sketch *)object, items, &all);
+    if (!is_single(items)) return ask_all((Sketch *)object, items, &all);
     return bounds_of(object, items, &bounds) ? tuple_of(&bounds) : NULL;
 }
 
@@ -288,7 +272,8 @@ PyObject *frequent_at(PyObject *object, PyObject *item)
     return bounds_of(object, item, &bounds) ? PyLong_FromUnsignedLongLong(bounds.estimate) : NULL;
 }
 
-const char frequent_estimate_doc[] = PyDoc_STR(
+const char frequent_estimate_doc[] =
+    PyDoc_STR(
 "estimate($self, items, /)\n--\n\n"
 "Return the estimate of an item's weight, as `heavy[item]` does.\n\n"
 "Return a list of estimates for many items, and an array for an array of numpy or pandas.\n\n"
@@ -300,7 +285,13 @@ const char frequent_estimate_doc[] = PyDoc_STR(
 
 PyObject *frequent_estimate(PyObject *object, PyObject *items)
 {
-    static const Question all = {.call = "estimate", .size = sizeof(uint64_t), .kind = "u8", .width = 1, .object = estimate_at,
-                                 .check = counts_all, .strings = estimate_strings, .numbers = estimate_numbers};
+    static const Question all = {.call = "estimate",
+                                 .size = sizeof(uint64_t),
+                                 .kind = "u8",
+                                 .width = 1,
+                                 .object = estimate_at,
+                                 .check = counts_all,
+                                 .strings = estimate_strings,
+                                 .numbers = estimate_numbers};
     return is_single(items) ? frequent_at(object, items) : ask_all((Sketch *)object, items, &all);
 }

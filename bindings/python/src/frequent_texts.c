@@ -24,8 +24,7 @@ static bool row_room_alloc(RowRoom *room, size_t rows, size_t bytes)
     room->offsets = PyMem_New(uint64_t, rows + 1);
     room->bounds = PyMem_New(ds_frequent_items_bounds, rows);
     room->rows = PyMem_New(TextRow, rows);
-    if (room->bytes != NULL && room->offsets != NULL && room->bounds != NULL && room->rows != NULL)
-        return true;
+    if (room->bytes != NULL && room->offsets != NULL && room->bounds != NULL && room->rows != NULL) return true;
     PyErr_NoMemory();
     return false;
 }
@@ -42,8 +41,7 @@ static void row_room_free(RowRoom *room)
 static int heavier(const void *first, const void *second)
 {
     const TextRow *a = first, *b = second;
-    if (a->bounds.estimate != b->bounds.estimate)
-        return a->bounds.estimate > b->bounds.estimate ? -1 : 1;
+    if (a->bounds.estimate != b->bounds.estimate) return a->bounds.estimate > b->bounds.estimate ? -1 : 1;
     int order = memcmp(a->text, b->text, a->length < b->length ? a->length : b->length);
     return order != 0 ? order : (a->length > b->length) - (a->length < b->length);
 }
@@ -52,8 +50,8 @@ static int heavier(const void *first, const void *second)
 static void sort_rows(RowRoom *room, size_t count)
 {
     for (size_t i = 0; i < count; i++)
-        room->rows[i] = (TextRow){(const char *)room->bytes + room->offsets[i],
-                                  (size_t)(room->offsets[i + 1] - room->offsets[i]), room->bounds[i]};
+        room->rows[i] = (TextRow){(const char *)room->bytes + room->offsets[i], (size_t)(room->offsets[i + 1] - room->offsets[i]),
+                                  room->bounds[i]};
     qsort(room->rows, count, sizeof *room->rows, heavier);
 }
 
@@ -85,15 +83,14 @@ PyObject *texts_rows(Sketch *self, const Wanted *wanted)
         size_t count = 0, num_bytes = 0;
         if (ready) {
             Py_BEGIN_ALLOW_THREADS
-            answer = ds_frequent_items_string_rows(&use.share, wanted->no_false_negatives, wanted->threshold, room.bytes,
-                                                   bytes, room.offsets, rows + 1, room.bounds, rows, &count, &num_bytes);
+            answer = ds_frequent_items_string_rows(&use.share, wanted->no_false_negatives, wanted->threshold, room.bytes, bytes,
+                                                   room.offsets, rows + 1, room.bounds, rows, &count, &num_bytes);
             Py_END_ALLOW_THREADS
             use_end(&use);
             list = answer >= 0 ? list_of(&room, count, wanted) : answer == DS_NO_ROOM ? NULL : refuse(answer);
         }
         row_room_free(&room);
-        if (answer != DS_NO_ROOM)
-            return list;
+        if (answer != DS_NO_ROOM) return list;
         rows = count;
         bytes = num_bytes;
     }

@@ -15,8 +15,7 @@ PyObject *attribute(PyObject *object, const char *name)
 /* Returns 0 and clears the error that is set if it says that there is no such attribute. Otherwise returns -1 and keeps it. */
 static int no_attribute(void)
 {
-    if (!PyErr_ExceptionMatches(PyExc_AttributeError))
-        return -1;
+    if (!PyErr_ExceptionMatches(PyExc_AttributeError)) return -1;
     PyErr_Clear();
     return 0;
 }
@@ -24,8 +23,7 @@ static int no_attribute(void)
 int type_has(PyObject *object, const char *name)
 {
     PyObject *value = attribute((PyObject *)Py_TYPE(object), name);
-    if (value == NULL)
-        return no_attribute();
+    if (value == NULL) return no_attribute();
     Py_DECREF(value);
     return 1;
 }
@@ -58,11 +56,9 @@ int is_of(PyObject *object, const char *module, const char *name)
     PyObject *module_name = PyUnicode_InternFromString(module);
     PyObject *imported = module_name != NULL ? PyDict_GetItemWithError(PyImport_GetModuleDict(), module_name) : NULL;
     Py_XDECREF(module_name);
-    if (imported == NULL)
-        return PyErr_Occurred() ? -1 : 0;
+    if (imported == NULL) return PyErr_Occurred() ? -1 : 0;
     PyObject *type = attribute(imported, name);
-    if (type == NULL)
-        return no_attribute();
+    if (type == NULL) return no_attribute();
     int answer = PyObject_IsInstance(object, type);
     Py_DECREF(type);
     return answer;
@@ -101,16 +97,12 @@ static int is_table(PyObject *object)
 
 int is_mapping(PyObject *object)
 {
-    if (is_whole(object) || PyObject_CheckBuffer(object) || PyIter_Check(object))
-        return 0;
-    if (PyDict_Check(object) || !PyMapping_Check(object))
-        return PyDict_Check(object);
+    if (is_whole(object) || PyObject_CheckBuffer(object) || PyIter_Check(object)) return 0;
+    if (PyDict_Check(object) || !PyMapping_Check(object)) return PyDict_Check(object);
     int answer = type_has_both(object, "keys", "items");
-    if (answer <= 0)
-        return answer;
+    if (answer <= 0) return answer;
     answer = type_has(object, "dtype");
-    if (answer == 0)
-        answer = is_table(object);
+    if (answer == 0) answer = is_table(object);
     return answer < 0 ? answer : !answer;
 }
 
@@ -122,10 +114,8 @@ static bool mapping_split_pairs(PyObject *mapping, PyObject *keys, PyObject *val
     for (Py_ssize_t i = 0; split && i < count; i++) {
         PyObject *pair = PyList_GET_ITEM(pairs, i);
         split = PyTuple_Check(pair) && PyTuple_GET_SIZE(pair) == 2;
-        if (!split)
-            PyErr_SetString(PyExc_TypeError, "the items() of a mapping are pairs");
-        else
-            split = PyList_Append(keys, PyTuple_GET_ITEM(pair, 0)) == 0 && PyList_Append(values, PyTuple_GET_ITEM(pair, 1)) == 0;
+        if (!split) PyErr_SetString(PyExc_TypeError, "the items() of a mapping are pairs");
+        else split = PyList_Append(keys, PyTuple_GET_ITEM(pair, 0)) == 0 && PyList_Append(values, PyTuple_GET_ITEM(pair, 1)) == 0;
     }
     Py_XDECREF(pairs);
     return split;
@@ -149,15 +139,12 @@ static int is_plain_dict(PyObject *object)
 bool mapping_split(PyObject *mapping, PyObject **keys, PyObject **values)
 {
     int plain = is_plain_dict(mapping);
-    if (plain < 0)
-        return false;
+    if (plain < 0) return false;
     int collects = PyGC_Disable(); /* a finalizer could change the dict between its keys and its values */
     *keys = plain ? PyDict_Keys(mapping) : PyList_New(0);
     *values = plain ? PyDict_Values(mapping) : PyList_New(0);
-    if (collects)
-        PyGC_Enable();
-    if (*keys != NULL && *values != NULL && (plain || mapping_split_pairs(mapping, *keys, *values)))
-        return true;
+    if (collects) PyGC_Enable();
+    if (*keys != NULL && *values != NULL && (plain || mapping_split_pairs(mapping, *keys, *values))) return true;
     Py_CLEAR(*keys);
     Py_CLEAR(*values);
     return false;
@@ -185,13 +172,11 @@ static bool has_items(PyObject *object, const Source *source)
 {
     const char *call = source->call;
     int table = is_table(object), levels = is_of(object, "pandas", "MultiIndex");
-    if (table > 0)
-        return no_table(source);
+    if (table > 0) return no_table(source);
     if (levels > 0)
         PyErr_Format(PyExc_TypeError, "%s takes no %.200s: pass one of its levels, as in %s(index.get_level_values(0))", call,
                      Py_TYPE(object)->tp_name, call);
-    if (levels != 0)
-        return false;
+    if (levels != 0) return false;
     int mapping = table == 0 ? is_mapping(object) : 0;
     if (mapping > 0)
         PyErr_Format(PyExc_TypeError, "%s takes no mapping (%.200s): write %s(mapping.keys())", call, Py_TYPE(object)->tp_name,
@@ -204,15 +189,12 @@ static bool has_items(PyObject *object, const Source *source)
 static bool find_source(PyObject *object, bool of_weights, Source *source)
 {
     int masked = is_masked(object);
-    if (masked != 0)
-        return masked > 0 && masked_source(object, source);
+    if (masked != 0) return masked > 0 && masked_source(object, source);
     if (!PyObject_CheckBuffer(object) && !is_whole(object) && !PyIter_Check(object)) {
         int series = has_items(object, source) ? is_series(object) : -1;
-        if (series != 0)
-            return series > 0 && series_source(object, of_weights, source);
+        if (series != 0) return series > 0 && series_source(object, of_weights, source);
         int arrow = is_arrow(object);
-        if (arrow < 0)
-            return false;
+        if (arrow < 0) return false;
         source->of_arrow = arrow > 0;
     }
     source->values = source->of_arrow ? arrow_export(object) : Py_NewRef(object);
@@ -248,16 +230,14 @@ static bool has_one_dimension(PyObject *array)
     PyObject *dimensions = attribute(array, "ndim");
     long number = dimensions != NULL ? PyLong_AsLong(dimensions) : -1;
     Py_XDECREF(dimensions);
-    if (!PyErr_Occurred() && number != 1)
-        PyErr_SetString(PyExc_ValueError, "an array of items has one dimension");
+    if (!PyErr_Occurred() && number != 1) PyErr_SetString(PyExc_ValueError, "an array of items has one dimension");
     return !PyErr_Occurred();
 }
 
 int kind_of_array(PyObject *dtype)
 {
     PyObject *letter = attribute(dtype, "kind");
-    if (letter == NULL)
-        return no_attribute();
+    if (letter == NULL) return no_attribute();
     bool is_letter = PyUnicode_Check(letter) && PyUnicode_GET_LENGTH(letter) == 1;
     int kind = is_letter ? (int)PyUnicode_READ_CHAR(letter, 0) : 0;
     Py_DECREF(letter);
@@ -270,20 +250,16 @@ PyObject *array_entries(PyObject *array, const char *what)
     Py_ssize_t count = dtype != NULL ? PyObject_Size(array) : -1;
     int kind = count > 0 ? kind_of_array(dtype) : 0;
     PyObject *list = NULL;
-    if (count == 0)
-        list = PyList_New(0);
-    else if (kind == 'U' || kind == 'S' || kind == 'O' || kind == 'T')
-        list = called(array, "tolist");
+    if (count == 0) list = PyList_New(0);
+    else if (kind == 'U' || kind == 'S' || kind == 'O' || kind == 'T') list = called(array, "tolist");
     else if (count > 0 && (kind == 'M' || kind == 'm'))
         PyErr_Format(PyExc_TypeError, "an array of %s has no times (%S): write array.astype('int64')", what, dtype);
     else if (count > 0 && kind >= 0)
         PyErr_Format(PyExc_TypeError, "an array of %s has integers%s, not %S", what,
                      strcmp(what, "weights") == 0 ? "" : " or strings", dtype);
     Py_XDECREF(dtype);
-    if (list == NULL || PyList_Check(list))
-        return list;
-    if (!PyErr_Occurred())
-        PyErr_SetString(PyExc_TypeError, "tolist() of the array returned no list");
+    if (list == NULL || PyList_Check(list)) return list;
+    if (!PyErr_Occurred()) PyErr_SetString(PyExc_TypeError, "tolist() of the array returned no list");
     Py_DECREF(list);
     return NULL;
 }

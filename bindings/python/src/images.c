@@ -10,8 +10,7 @@
 bool is_constant(const Py_buffer *view)
 {
     PyObject *owner = view->obj;
-    if (owner != NULL && PyMemoryView_Check(owner))
-        owner = PyMemoryView_GET_BASE(owner);
+    if (owner != NULL && PyMemoryView_Check(owner)) owner = PyMemoryView_GET_BASE(owner);
     return owner != NULL && PyBytes_CheckExact(owner);
 }
 
@@ -19,11 +18,9 @@ bool image_take(Image *image, size_t limit)
 {
     image->bytes = image->view.buf;
     image->length = (size_t)image->view.len;
-    if (is_constant(&image->view))
-        return true;
+    if (is_constant(&image->view)) return true;
     image->is_cut = image->length > LONGEST_PREAMBLE && image->length - LONGEST_PREAMBLE > limit;
-    if (image->is_cut)
-        image->length = limit + LONGEST_PREAMBLE;
+    if (image->is_cut) image->length = limit + LONGEST_PREAMBLE;
     image->copy = PyMem_RawMalloc(image->length);
     if (image->copy == NULL) {
         PyErr_NoMemory();
@@ -53,8 +50,7 @@ static uint64_t checked_bytes(const uint8_t *header)
 /* A part that ends too early is of an image that does so too, or that exceeds the limit. */
 int32_t image_answer(const Image *image, int32_t answer)
 {
-    if (!image->is_cut || answer != DS_INSUFFICIENT_DATA || checked_bytes(image->bytes) > (uint64_t)image->view.len)
-        return answer;
+    if (!image->is_cut || answer != DS_INSUFFICIENT_DATA || checked_bytes(image->bytes) > (uint64_t)image->view.len) return answer;
     return DS_TABLE_TOO_LARGE;
 }
 
@@ -82,8 +78,7 @@ static int32_t write_image(Use *use, image_writer write, size_t length, PyObject
     Py_BEGIN_ALLOW_THREADS
     answer = write(use_handle(use), (uint8_t *)PyBytes_AS_STRING(*image), length, &written);
     Py_END_ALLOW_THREADS
-    if (answer < 0)
-        Py_CLEAR(*image);
+    if (answer < 0) Py_CLEAR(*image);
     return answer;
 }
 
@@ -93,13 +88,11 @@ PyObject *sketch_image(Sketch *self, image_measure measure, image_writer write)
     PyObject *image = NULL;
     size_t length = 0;
     int32_t answer;
-    if (!use_begin(&use))
-        return NULL;
+    if (!use_begin(&use)) return NULL;
     Py_BEGIN_ALLOW_THREADS
     answer = measure(use_handle(&use), &length);
     Py_END_ALLOW_THREADS
-    if (answer >= 0)
-        answer = write_image(&use, write, length, &image);
+    if (answer >= 0) answer = write_image(&use, write, length, &image);
     use_end(&use);
     return answer < 0 ? refuse(answer) : image;
 }

@@ -19,18 +19,15 @@ bool is_single(PyObject *object)
 static bool number_of(PyObject *object, Item *item)
 {
     PyObject *number = PyLong_CheckExact(object) ? Py_NewRef(object) : PyNumber_Index(object);
-    if (number == NULL)
-        return false;
+    if (number == NULL) return false;
     int overflow = 0;
     long long value = PyLong_AsLongLongAndOverflow(number, &overflow);
     if (overflow > 0) {
         item->value = PyLong_AsUnsignedLongLong(number);
         if (PyErr_Occurred() && PyErr_ExceptionMatches(PyExc_OverflowError))
             PyErr_SetString(PyExc_OverflowError, "the item is above 2**64 - 1");
-    } else if (overflow < 0)
-        PyErr_SetString(PyExc_OverflowError, "the item is below -2**63");
-    else
-        item->value = (uint64_t)value;
+    } else if (overflow < 0) PyErr_SetString(PyExc_OverflowError, "the item is below -2**63");
+    else item->value = (uint64_t)value;
     item->negative = overflow == 0 && value < 0;
     Py_DECREF(number);
     return !PyErr_Occurred();
@@ -45,8 +42,7 @@ bool item_of(PyObject *object, Item *item)
         item->value = (uint64_t)length;
         return item->text != NULL;
     }
-    if (is_number(object) && number_of(object, item))
-        return true;
+    if (is_number(object) && number_of(object, item)) return true;
     if (!PyErr_Occurred() || PyErr_ExceptionMatches(PyExc_TypeError))
         PyErr_Format(PyExc_TypeError, "an item is a str or an int, not %.200s", Py_TYPE(object)->tp_name);
     return false;
@@ -60,8 +56,7 @@ bool natural_of(PyObject *object, const char *what, uint64_t *number)
     }
     Item item = {0};
     if (!number_of(object, &item)) {
-        if (PyErr_ExceptionMatches(PyExc_OverflowError))
-            PyErr_Format(PyExc_ValueError, "%s is from 0 to 2**64 - 1", what);
+        if (PyErr_ExceptionMatches(PyExc_OverflowError)) PyErr_Format(PyExc_ValueError, "%s is from 0 to 2**64 - 1", what);
         return false;
     }
     if (item.negative) {
@@ -76,23 +71,20 @@ bool number_fits(const char *what, bool with_sign, uint64_t value, bool negative
 {
     if (with_sign ? !negative && value > INT64_MAX : negative)
         PyErr_Format(PyExc_ValueError, with_sign ? "%s is above 2**63 - 1" : "%s is below 0", what);
-    else
-        return true;
+    else return true;
     return false;
 }
 
 bool number_of_kind(PyObject *object, const char *what, bool with_sign, uint64_t *number)
 {
-    if (!with_sign)
-        return natural_of(object, what, number);
+    if (!with_sign) return natural_of(object, what, number);
     if (!is_number(object)) {
         PyErr_Format(PyExc_TypeError, "%s is an int, not %.200s", what, Py_TYPE(object)->tp_name);
         return false;
     }
     Item item = {0};
     if (!number_of(object, &item)) {
-        if (PyErr_ExceptionMatches(PyExc_OverflowError))
-            PyErr_Format(PyExc_ValueError, "%s is from -2**63 to 2**63 - 1", what);
+        if (PyErr_ExceptionMatches(PyExc_OverflowError)) PyErr_Format(PyExc_ValueError, "%s is from -2**63 to 2**63 - 1", what);
         return false;
     }
     *number = item.value;
@@ -101,14 +93,10 @@ bool number_of_kind(PyObject *object, const char *what, bool with_sign, uint64_t
 
 bool limit_of(PyObject *object, size_t *limit)
 {
-    if (object == NULL)
-        return true;
+    if (object == NULL) return true;
     uint64_t number;
-    if (object == Py_None)
-        *limit = SIZE_MAX;
-    else if (natural_of(object, "max_bytes", &number))
-        *limit = number;
-    else
-        return false;
+    if (object == Py_None) *limit = SIZE_MAX;
+    else if (natural_of(object, "max_bytes", &number)) *limit = number;
+    else return false;
     return true;
 }

@@ -3,11 +3,9 @@
 
 PyObject *joins_given(PyObject *self, PyObject *given, const char *call, PyTypeObject *type, joins_check check)
 {
-    if (!sketch_ready((Sketch *)self))
-        return NULL;
+    if (!sketch_ready((Sketch *)self)) return NULL;
     PyObject *others = PySequence_Tuple(given);
-    if (others == NULL)
-        return NULL;
+    if (others == NULL) return NULL;
     for (Py_ssize_t i = 0; i < PyTuple_GET_SIZE(others); i++) {
         PyObject *other = PyTuple_GET_ITEM(others, i);
         if (!PyObject_TypeCheck(other, type)) {
@@ -33,8 +31,7 @@ typedef struct {
 static int by_address(const void *first, const void *second)
 {
     const Place *a = first, *b = second;
-    if (a->sketch != b->sketch)
-        return (uintptr_t)a->sketch < (uintptr_t)b->sketch ? -1 : 1;
+    if (a->sketch != b->sketch) return (uintptr_t)a->sketch < (uintptr_t)b->sketch ? -1 : 1;
     return a->index < b->index ? -1 : a->index > b->index;
 }
 
@@ -68,8 +65,7 @@ static bool group_open(Group *group, Sketch *self, PyObject *others)
         return false;
     }
     group->places[0] = (Place){self, 0};
-    for (size_t i = 1; i < group->count; i++)
-        group->places[i] = (Place){(Sketch *)PyTuple_GET_ITEM(others, i - 1), i};
+    for (size_t i = 1; i < group->count; i++) group->places[i] = (Place){(Sketch *)PyTuple_GET_ITEM(others, i - 1), i};
     qsort(group->places, group->count, sizeof *group->places, by_address);
     for (size_t i = 0; i < group->count; i++) {
         Sketch *sketch = group->places[i].sketch;
@@ -88,13 +84,11 @@ static int32_t group_join(Group *group, of_many join)
         size_t index = group->places[i].index;
         use += use->sketch != group->places[i].sketch;
         if (index > 0)
-            answer = use->changes ? ds_clone(&group->handles[index], &group->handles[0])
-                                  : ds_share(&group->handles[index], &use->share);
+            answer =
+                use->changes ? ds_clone(&group->handles[index], &group->handles[0]) : ds_share(&group->handles[index], &use->share);
     }
-    if (answer >= 0)
-        answer = join(&group->handles[0], &group->handles[1], group->count - 1);
-    for (size_t i = 1; i < group->count; i++)
-        ds_free(&group->handles[i]);
+    if (answer >= 0) answer = join(&group->handles[0], &group->handles[1], group->count - 1);
+    for (size_t i = 1; i < group->count; i++) ds_free(&group->handles[i]);
     return answer;
 }
 
@@ -120,9 +114,7 @@ PyObject *sketch_join_all(PyObject *self, PyObject *others, of_many join)
     }
     group_release(&group);
     Py_DECREF(others);
-    if (!done)
-        return NULL;
-    if (answer < 0)
-        return refuse(answer);
+    if (!done) return NULL;
+    if (answer < 0) return refuse(answer);
     Py_RETURN_NONE;
 }

@@ -13,12 +13,10 @@ static bool open_bytes(PyObject *object, const char *what, const char *kinds, Im
         PyErr_Format(PyExc_TypeError, "%s is %s, not %.200s", what, kinds, Py_TYPE(object)->tp_name);
         return false;
     }
-    if (PyObject_GetBuffer(object, &image->view, PyBUF_ND | PyBUF_FORMAT) < 0)
-        return false;
+    if (PyObject_GetBuffer(object, &image->view, PyBUF_ND | PyBUF_FORMAT) < 0) return false;
     if (image->view.itemsize != 1)
         PyErr_Format(PyExc_TypeError, "%s is %s, not a buffer of entries of %zd bytes", what, kinds, image->view.itemsize);
-    else if (image_take(image, SIZE_MAX))
-        return true;
+    else if (image_take(image, SIZE_MAX)) return true;
     PyBuffer_Release(&image->view);
     return false;
 }
@@ -27,13 +25,10 @@ bool key_of(PyObject *object, uint64_t words[2])
 {
     Image image = {0};
     words[0] = words[1] = 0;
-    if (!open_bytes(object, "the key", "bytes", &image))
-        return false;
+    if (!open_bytes(object, "the key", "bytes", &image)) return false;
     bool fits = image.length == KEY_BYTES;
-    for (size_t i = 0; fits && i < KEY_BYTES; i++)
-        words[i / 8] |= (uint64_t)image.bytes[i] << 8 * (i % 8);
-    if (!fits)
-        PyErr_Format(PyExc_ValueError, "the key has %d bytes, not %zu", KEY_BYTES, image.length);
+    for (size_t i = 0; fits && i < KEY_BYTES; i++) words[i / 8] |= (uint64_t)image.bytes[i] << 8 * (i % 8);
+    if (!fits) PyErr_Format(PyExc_ValueError, "the key has %d bytes, not %zu", KEY_BYTES, image.length);
     image_release(&image);
     return fits;
 }
@@ -43,8 +38,7 @@ static PyObject *hash_of(const uint8_t *bytes, size_t length, const uint64_t wor
     uint64_t hash;
     PyThreadState *thread = length >= LONG_ITEM ? PyEval_SaveThread() : NULL;
     hash = ds_keyed_hash(bytes, length, words[0], words[1]);
-    if (thread != NULL)
-        PyEval_RestoreThread(thread);
+    if (thread != NULL) PyEval_RestoreThread(thread);
     return PyLong_FromUnsignedLongLong(hash);
 }
 
@@ -52,11 +46,9 @@ static PyObject *hash_of(const uint8_t *bytes, size_t length, const uint64_t wor
  * an error set. */
 static int is_many(PyObject *object)
 {
-    if (!PyObject_CheckBuffer(object))
-        return Py_TYPE(object)->tp_iter != NULL ? 1 : is_arrow(object);
+    if (!PyObject_CheckBuffer(object)) return Py_TYPE(object)->tp_iter != NULL ? 1 : is_arrow(object);
     int in_array = is_numpy_array(object);
-    if (in_array <= 0)
-        return in_array;
+    if (in_array <= 0) return in_array;
     PyObject *dtype = attribute(object, "dtype");
     int kind = dtype != NULL ? kind_of_array(dtype) : -1;
     Py_XDECREF(dtype);
@@ -75,8 +67,7 @@ static bool has_numbers(const Items *items)
 static bool are_strings(const Sketch *Py_UNUSED(self), const Items *items)
 {
     bool numbers = has_numbers(items);
-    if (numbers)
-        PyErr_SetString(PyExc_TypeError, "many items of keyed_hash are strings, not numbers");
+    if (numbers) PyErr_SetString(PyExc_TypeError, "many items of keyed_hash are strings, not numbers");
     return !numbers;
 }
 
@@ -120,23 +111,26 @@ PyDoc_STRVAR(keyed_hash_doc,
 static PyObject *keyed_hash(PyObject *Py_UNUSED(module), PyObject *const *args, Py_ssize_t count)
 {
     uint64_t words[2];
-    const Question many = {.call = "keyed_hash", .size = sizeof(uint64_t), .kind = "u8", .width = 1, .context = words,
-                           .object = hash_at, .check = are_strings, .strings = hash_strings, .numbers = hash_numbers};
+    const Question many = {.call = "keyed_hash",
+                           .size = sizeof(uint64_t),
+                           .kind = "u8",
+                           .width = 1,
+                           .context = words,
+                           .object = hash_at,
+                           .check = are_strings,
+                           .strings = hash_strings,
+                           .numbers = hash_numbers};
     Image image = {0};
-    if (count != 2)
-        return PyErr_Format(PyExc_TypeError, "keyed_hash takes a key and items, not %zd arguments", count);
-    if (!key_of(args[0], words))
-        return NULL;
+    if (count != 2) return PyErr_Format(PyExc_TypeError, "keyed_hash takes a key and items, not %zd arguments", count);
+    if (!key_of(args[0], words)) return NULL;
     if (PyUnicode_Check(args[1])) {
         Py_ssize_t length;
         const char *text = PyUnicode_AsUTF8AndSize(args[1], &length);
         return text != NULL ? hash_of((const uint8_t *)text, (size_t)length, words) : NULL;
     }
     int of_many = is_many(args[1]);
-    if (of_many != 0)
-        return of_many > 0 ? ask_all(NULL, args[1], &many) : NULL;
-    if (!open_bytes(args[1], "an item", "a str or bytes", &image))
-        return NULL;
+    if (of_many != 0) return of_many > 0 ? ask_all(NULL, args[1], &many) : NULL;
+    if (!open_bytes(args[1], "an item", "a str or bytes", &image)) return NULL;
     PyObject *hash = hash_of(image.bytes, image.length, words);
     image_release(&image);
     return hash;

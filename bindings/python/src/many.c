@@ -16,11 +16,9 @@ static const char *skip_order(const char *format, bool *swapped)
 /* Returns whether a buffer of this format has integers of 8 to 64 bits. Sets `with_sign` if they are signed. */
 static bool reads_format(const char *format, Py_ssize_t size, bool *with_sign, bool *swapped)
 {
-    if (size != 1 && size != 2 && size != 4 && size != 8)
-        return false;
+    if (size != 1 && size != 2 && size != 4 && size != 8) return false;
     format = skip_order(format, swapped);
-    if (format[0] == '\0' || format[1] != '\0')
-        return false;
+    if (format[0] == '\0' || format[1] != '\0') return false;
     *with_sign = strchr("bhilqn", format[0]) != NULL;
     return *with_sign || strchr("BHILQN", format[0]) != NULL;
 }
@@ -35,8 +33,9 @@ static Layout fixed_layout(const char *format, bool *swapped)
 
 static void set_wrong_type(PyObject *object, const Items *items)
 {
-    PyErr_Format(PyExc_TypeError, items->of_weights ? "weights are an int or many of these, not %.200s"
-                                                    : "items are a str, an int or many of these, not %.200s",
+    PyErr_Format(PyExc_TypeError,
+                 items->of_weights ? "weights are an int or many of these, not %.200s"
+                                   : "items are a str, an int or many of these, not %.200s",
                  Py_TYPE(object)->tp_name);
 }
 
@@ -50,15 +49,12 @@ static bool copy_missing(PyObject *array, Items *items)
 {
     Py_buffer view;
     bool any = false;
-    if (PyObject_GetBuffer(array, &view, PyBUF_STRIDES) < 0)
-        return false;
+    if (PyObject_GetBuffer(array, &view, PyBUF_STRIDES) < 0) return false;
     size_t count = view.ndim == 1 && view.itemsize == 1 ? (size_t)view.shape[0] : 0;
     items->count = count;
     items->missing = count > 0 ? PyMem_New(bool, count) : NULL;
-    if (view.ndim != 1)
-        PyErr_Format(PyExc_ValueError, "an array of %s has one dimension", name_of(items));
-    else if (items->missing == NULL && count > 0)
-        PyErr_NoMemory();
+    if (view.ndim != 1) PyErr_Format(PyExc_ValueError, "an array of %s has one dimension", name_of(items));
+    else if (items->missing == NULL && count > 0) PyErr_NoMemory();
     for (size_t i = 0; items->missing != NULL && i < count; i++) {
         items->missing[i] = ((const char *)view.buf)[(Py_ssize_t)i * view.strides[0]] != 0;
         any |= items->missing[i];
@@ -103,8 +99,7 @@ static bool add_view(Items *items, const Run *like, PyObject *array)
 {
     const Py_buffer *view = &items->view;
     Run run = *like;
-    if (!set_count(items, (size_t)view->shape[0]))
-        return false;
+    if (!set_count(items, (size_t)view->shape[0])) return false;
     run.start = view->buf;
     run.count = items->count;
     run.size = view->itemsize;
@@ -119,32 +114,28 @@ static bool add_view(Items *items, const Run *like, PyObject *array)
 static bool items_of_buffer(PyObject *object, Items *items)
 {
     Py_buffer *view = &items->view;
-    if (PyObject_GetBuffer(object, view, PyBUF_STRIDES | PyBUF_FORMAT) < 0)
-        return false;
+    if (PyObject_GetBuffer(object, view, PyBUF_STRIDES | PyBUF_FORMAT) < 0) return false;
     Run run = {0};
     const char *format = view->format != NULL ? view->format : "B";
     bool of_numbers = reads_format(format, view->itemsize, &run.with_sign, &run.swapped);
     bool may_be_bytes = of_numbers && view->itemsize == 1 && !run.with_sign;
-    int in_array = may_be_bytes ? is_array_of_bytes(object)
+    int in_array = may_be_bytes                                           ? is_array_of_bytes(object)
                    : !of_numbers && view->ndim == 1 && !items->of_weights ? is_numpy_array(object)
                                                                           : 0;
-    if (!of_numbers && in_array > 0)
-        run.layout = fixed_layout(format, &run.swapped);
+    if (!of_numbers && in_array > 0) run.layout = fixed_layout(format, &run.swapped);
     if (in_array < 0)
         ;
-    else if (!of_numbers && view->ndim == 0)
-        set_wrong_type(object, items);
+    else if (!of_numbers && view->ndim == 0) set_wrong_type(object, items);
     else if (may_be_bytes && in_array == 0)
-        PyErr_Format(PyExc_TypeError, "%s are a str, an int or many of these, and the bytes of a %.200s may be either: write "
-                     "str(.., 'utf-8') for one string, or array('B', ..) for many integers", name_of(items),
-                     Py_TYPE(object)->tp_name);
+        PyErr_Format(PyExc_TypeError,
+                     "%s are a str, an int or many of these, and the bytes of a %.200s may be either: write "
+                     "str(.., 'utf-8') for one string, or array('B', ..) for many integers",
+                     name_of(items), Py_TYPE(object)->tp_name);
     else if (run.layout == NUMBERS && !of_numbers)
         PyErr_Format(PyExc_TypeError, "a buffer of %s has integers, not the format '%.50s' (%.200s)", name_of(items), format,
                      Py_TYPE(object)->tp_name);
-    else if (view->ndim != 1)
-        PyErr_Format(PyExc_ValueError, "a buffer of %s has one dimension", name_of(items));
-    else
-        return add_view(items, &run, object);
+    else if (view->ndim != 1) PyErr_Format(PyExc_ValueError, "a buffer of %s has one dimension", name_of(items));
+    else return add_view(items, &run, object);
     PyBuffer_Release(view);
     return false;
 }
@@ -152,8 +143,7 @@ static bool items_of_buffer(PyObject *object, Items *items)
 static bool read_one(PyObject *object, Items *items, Item *item)
 {
     *item = (Item){0};
-    if (items->of_weights)
-        return number_of_kind(object, "a weight", items->weights_with_sign, &item->value);
+    if (items->of_weights) return number_of_kind(object, "a weight", items->weights_with_sign, &item->value);
     bool read = item_of(object, item);
     items->with_texts |= item->text != NULL;
     items->with_numbers |= item->text == NULL;
@@ -165,8 +155,7 @@ static Item *read_tuple(Items *items)
 {
     size_t count = (size_t)PyTuple_GET_SIZE(items->tuple), i = 0;
     Item *read = PyMem_New(Item, count);
-    if (read == NULL)
-        PyErr_NoMemory();
+    if (read == NULL) PyErr_NoMemory();
     for (; read != NULL && i < count; i++) {
         read[i] = (Item){.missing = true};
         bool is_there = items->missing == NULL || !items->missing[i];
@@ -174,8 +163,7 @@ static Item *read_tuple(Items *items)
             (i % SIGNALS == SIGNALS - 1 && PyErr_CheckSignals() < 0))
             break;
     }
-    if (i == count)
-        return read;
+    if (i == count) return read;
     PyMem_Free(read);
     return NULL;
 }
@@ -183,8 +171,7 @@ static Item *read_tuple(Items *items)
 static bool items_of_tuple(PyObject *object, Items *items)
 {
     items->tuple = PySequence_Tuple(object);
-    if (items->tuple == NULL || !set_count(items, (size_t)PyTuple_GET_SIZE(items->tuple)))
-        return false;
+    if (items->tuple == NULL || !set_count(items, (size_t)PyTuple_GET_SIZE(items->tuple))) return false;
     items->items = read_tuple(items);
     return items->items != NULL;
 }
@@ -214,10 +201,8 @@ static bool items_of_categories(const Source *source, Items *items)
 
 static bool items_of_iterable(PyObject *object, Items *items)
 {
-    if (Py_TYPE(object)->tp_iter == NULL && !PySequence_Check(object))
-        set_wrong_type(object, items);
-    else
-        items->iterator = PyObject_GetIter(object);
+    if (Py_TYPE(object)->tp_iter == NULL && !PySequence_Check(object)) set_wrong_type(object, items);
+    else items->iterator = PyObject_GetIter(object);
     return items->iterator != NULL;
 }
 
@@ -226,15 +211,13 @@ static bool find_none(PyObject *list, Items *items)
 {
     size_t count = (size_t)PyList_GET_SIZE(list);
     for (size_t i = 0; i < count; i++) {
-        if (PyList_GET_ITEM(list, (Py_ssize_t)i) != Py_None)
-            continue;
+        if (PyList_GET_ITEM(list, (Py_ssize_t)i) != Py_None) continue;
         if (items->missing == NULL) {
             items->missing = PyMem_Calloc(count, sizeof(bool));
             items->count = count;
         }
         if (items->missing == NULL || !set_count(items, count)) {
-            if (items->missing == NULL)
-                PyErr_NoMemory();
+            if (items->missing == NULL) PyErr_NoMemory();
             return false;
         }
         items->missing[i] = items->has_gaps = true;
@@ -253,8 +236,7 @@ static bool is_format_error(void)
  * buffer that was read, that of another object, and any other error. */
 static bool items_of_entries(PyObject *array, Items *items)
 {
-    if (items->view.obj != NULL || !is_format_error())
-        return false;
+    if (items->view.obj != NULL || !is_format_error()) return false;
     PyObject *type, *error, *trace;
     PyErr_Fetch(&type, &error, &trace);
     int in_array = is_numpy_array(array);
@@ -265,8 +247,7 @@ static bool items_of_entries(PyObject *array, Items *items)
     Py_XDECREF(type);
     Py_XDECREF(error);
     Py_XDECREF(trace);
-    if (in_array < 0)
-        return false;
+    if (in_array < 0) return false;
     PyObject *entries = array_entries(array, name_of(items));
     bool opened = entries != NULL && find_none(entries, items) && items_of_tuple(entries, items);
     Py_XDECREF(entries);
@@ -279,36 +260,27 @@ bool items_open(const Source *source, Items *items)
     bool opened = source->missing == NULL || copy_missing(source->missing, items);
     if (!opened)
         ;
-    else if (source->of_arrow)
-        opened = arrow_open(source, items);
-    else if (source->categories != NULL)
-        opened = items_of_categories(source, items);
-    else if (PyObject_CheckBuffer(values))
-        opened = items_of_buffer(values, items) || items_of_entries(values, items);
-    else if (PyList_Check(values) || PyTuple_Check(values) || PyAnySet_Check(values))
-        opened = items_of_tuple(values, items);
-    else
-        opened = items_of_iterable(values, items);
-    if (!opened)
-        items_release(items);
+    else if (source->of_arrow) opened = arrow_open(source, items);
+    else if (source->categories != NULL) opened = items_of_categories(source, items);
+    else if (PyObject_CheckBuffer(values)) opened = items_of_buffer(values, items) || items_of_entries(values, items);
+    else if (PyList_Check(values) || PyTuple_Check(values) || PyAnySet_Check(values)) opened = items_of_tuple(values, items);
+    else opened = items_of_iterable(values, items);
+    if (!opened) items_release(items);
     return opened;
 }
 
 static void let_go(Items *items)
 {
-    while (items->num_held > 0)
-        Py_DECREF(items->held[--items->num_held]);
+    while (items->num_held > 0) Py_DECREF(items->held[--items->num_held]);
 }
 
 /* Makes room for one more object of an iterator. */
 static bool has_place(Items *items)
 {
-    if (items->num_held < items->room)
-        return true;
+    if (items->num_held < items->room) return true;
     size_t room = items->room == 0 ? STREAM_CHUNK : 2 * items->room;
     PyObject **held = room <= PY_SSIZE_T_MAX / sizeof(Item) ? PyMem_Realloc(items->held, room * sizeof *held) : NULL;
-    if (held != NULL)
-        items->held = held;
+    if (held != NULL) items->held = held;
     Item *read = held != NULL ? PyMem_Realloc(items->items, room * sizeof(Item)) : NULL;
     if (read == NULL) {
         PyErr_NoMemory();
@@ -324,21 +296,17 @@ bool items_next(Items *items, size_t most)
     let_go(items);
     items->count = 0;
     items->with_texts = items->with_numbers = false;
-    if (!has_place(items) || PyErr_CheckSignals() < 0)
-        return false;
+    if (!has_place(items) || PyErr_CheckSignals() < 0) return false;
     while (items->iterator != NULL && items->num_held < most) {
-        if (!has_place(items) || (items->num_held % SIGNALS == SIGNALS - 1 && PyErr_CheckSignals() < 0))
-            return false;
+        if (!has_place(items) || (items->num_held % SIGNALS == SIGNALS - 1 && PyErr_CheckSignals() < 0)) return false;
         PyObject *object = PyIter_Next(items->iterator);
-        if (object == NULL && PyErr_Occurred())
-            return false;
+        if (object == NULL && PyErr_Occurred()) return false;
         if (object == NULL) {
             Py_CLEAR(items->iterator);
             break;
         }
         items->held[items->num_held++] = object;
-        if (!read_one(object, items, &items->items[items->num_held - 1]))
-            return false;
+        if (!read_one(object, items, &items->items[items->num_held - 1])) return false;
     }
     items->count = items->num_held;
     return true;
@@ -348,8 +316,7 @@ bool items_next(Items *items, size_t most)
 static void release_array(ArrowArray *array)
 {
     PyObject *type, *error, *trace;
-    if (array->release == NULL)
-        return;
+    if (array->release == NULL) return;
     PyErr_Fetch(&type, &error, &trace);
     array->release(array);
     PyErr_Restore(type, error, trace);
@@ -367,8 +334,7 @@ void items_release(Items *items)
     items->num_runs = 0;
     PyMem_Free(items->runs);
     items->runs = NULL;
-    if (items->view.obj != NULL)
-        PyBuffer_Release(&items->view);
+    if (items->view.obj != NULL) PyBuffer_Release(&items->view);
     PyMem_Free(items->items);
     items->items = NULL;
     PyMem_Free(items->missing);

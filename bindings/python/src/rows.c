@@ -26,8 +26,7 @@ bool row_list_append(RowList *list, PyObject *item, const ds_frequent_items_boun
 {
     const unsigned long long numbers[] = {bounds->lower_bound, bounds->estimate, bounds->upper_bound};
     PyObject *filled = list->rows != NULL ? list->rows : list->columns[0];
-    if (item == NULL)
-        return false;
+    if (item == NULL) return false;
     bool done = list->rows != NULL ? append(list->rows, Py_BuildValue("NKKK", item, numbers[0], numbers[1], numbers[2]))
                                    : append(list->columns[0], item);
     for (int i = 0; done && list->rows == NULL && i < 3; i++)
@@ -43,12 +42,10 @@ PyObject *row_list_close(RowList *list, bool good)
 {
     PyObject **columns = list->columns, *result = list->rows;
     if (good && result == NULL)
-        result = Py_BuildValue("{sOsOsOsO}", "item", columns[0], "lower_bound", columns[1], "estimate", columns[2],
-                               "upper_bound", columns[3]);
-    for (int i = 0; i < 4; i++)
-        Py_XDECREF(columns[i]);
-    if (!good)
-        Py_CLEAR(result);
+        result = Py_BuildValue("{sOsOsOsO}", "item", columns[0], "lower_bound", columns[1], "estimate", columns[2], "upper_bound",
+                               columns[3]);
+    for (int i = 0; i < 4; i++) Py_XDECREF(columns[i]);
+    if (!good) Py_CLEAR(result);
     return result;
 }
 
@@ -60,11 +57,10 @@ typedef struct {
 
 static int32_t rows_of(Use *use, const Wanted *wanted, Rows *rows, size_t room, size_t *count)
 {
-    return use->sketch->with_sign
-               ? ds_frequent_items_i64_rows(&use->share, wanted->no_false_negatives, wanted->threshold, (int64_t *)rows->items,
-                                            room, rows->bounds, room, count)
-               : ds_frequent_items_u64_rows(&use->share, wanted->no_false_negatives, wanted->threshold, rows->items, room,
-                                            rows->bounds, room, count);
+    return use->sketch->with_sign ? ds_frequent_items_i64_rows(&use->share, wanted->no_false_negatives, wanted->threshold,
+                                                               (int64_t *)rows->items, room, rows->bounds, room, count)
+                                  : ds_frequent_items_u64_rows(&use->share, wanted->no_false_negatives, wanted->threshold,
+                                                               rows->items, room, rows->bounds, room, count);
 }
 
 static PyObject *list_of(const Sketch *self, const Rows *rows, size_t count, const Wanted *wanted)
@@ -87,8 +83,7 @@ static PyObject *number_rows(Sketch *self, const Wanted *wanted)
     Rows rows = {NULL, NULL};
     size_t room, count = 0;
     int32_t answer;
-    if (!frequent_status(self, &numbers))
-        return NULL;
+    if (!frequent_status(self, &numbers)) return NULL;
     room = (size_t)numbers.num_active_items;
     do {
         PyMem_Free(rows.items);
@@ -166,8 +161,7 @@ PyObject *frequent_top(PyObject *object, PyObject *args, PyObject *keywords)
     Wanted wanted = {0};
     PyObject *most;
     const char *no_false = "negatives";
-    if (!PyArg_ParseTupleAndKeywords(args, keywords, "O|s:top", names, &most, &no_false) ||
-        !natural_of(most, "k", &wanted.most))
+    if (!PyArg_ParseTupleAndKeywords(args, keywords, "O|s:top", names, &most, &no_false) || !natural_of(most, "k", &wanted.most))
         return NULL;
     return wanted_rows(object, &wanted, no_false);
 }

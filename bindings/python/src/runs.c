@@ -41,8 +41,7 @@ static void copy_swapped(const char *start, Py_ssize_t stride, Py_ssize_t size, 
 {
     unsigned char bytes[8] = {0};
     for (size_t i = 0; i < count; i++) {
-        for (Py_ssize_t j = 0; j < size; j++)
-            bytes[j] = (unsigned char)start[(Py_ssize_t)i * stride + size - 1 - j];
+        for (Py_ssize_t j = 0; j < size; j++) bytes[j] = (unsigned char)start[(Py_ssize_t)i * stride + size - 1 - j];
         copy_native((const char *)bytes, size, size, with_sign, 1, &numbers[i]);
     }
 }
@@ -56,12 +55,9 @@ static const char *row_start(const Run *run, size_t at)
 static void copy_numbers(const Run *run, size_t at, size_t count, uint64_t *numbers)
 {
     const char *start = row_start(run, at);
-    if (run->swapped)
-        copy_swapped(start, run->stride, run->size, run->with_sign, count, numbers);
-    else if (run->size == 8 && run->stride == 8)
-        memcpy(numbers, start, count * 8);
-    else
-        copy_native(start, run->stride, run->size, run->with_sign, count, numbers);
+    if (run->swapped) copy_swapped(start, run->stride, run->size, run->with_sign, count, numbers);
+    else if (run->size == 8 && run->stride == 8) memcpy(numbers, start, count * 8);
+    else copy_native(start, run->stride, run->size, run->with_sign, count, numbers);
 }
 
 static bool is_valid(const Run *run, size_t at)
@@ -73,10 +69,8 @@ static bool is_valid(const Run *run, size_t at)
 /* Returns the value of a row by its index: a missing one for a missing row, or NULL if the index is out of range. */
 static const Item *entry_by_index(const Run *run, size_t at, uint64_t index)
 {
-    if (run->validity != NULL && !is_valid(run, at))
-        return &gap;
-    if (index < run->num_entries)
-        return &run->entries[index];
+    if (run->validity != NULL && !is_valid(run, at)) return &gap;
+    if (index < run->num_entries) return &run->entries[index];
     return run->gaps_by_code && index == UINT64_MAX ? &gap : NULL;
 }
 
@@ -89,14 +83,11 @@ const Item *run_entry(const Run *run, size_t at)
 
 bool run_numbers(const Run *run, size_t at, size_t count, uint64_t *numbers)
 {
-    if (run->layout == NOTHING)
-        memset(numbers, 0, count * sizeof *numbers);
-    else
-        copy_numbers(run, at, count, numbers);
+    if (run->layout == NOTHING) memset(numbers, 0, count * sizeof *numbers);
+    else copy_numbers(run, at, count, numbers);
     for (size_t i = 0; run->entries != NULL && i < count; i++) {
         const Item *entry = entry_by_index(run, at + i, numbers[i]);
-        if (entry == NULL)
-            return false;
+        if (entry == NULL) return false;
         numbers[i] = entry->value;
     }
     return true;
@@ -104,11 +95,9 @@ bool run_numbers(const Run *run, size_t at, size_t count, uint64_t *numbers)
 
 void run_present(const Run *run, size_t at, size_t count, bool *present)
 {
-    if (!run->has_gaps)
-        return;
+    if (!run->has_gaps) return;
     for (size_t i = 0; i < count; i++) {
-        if (run->entries == NULL)
-            present[i] &= is_valid(run, at + i);
+        if (run->entries == NULL) present[i] &= is_valid(run, at + i);
         else if (present[i]) {
             const Item *entry = run_entry(run, at + i);
             present[i] = entry == NULL || !entry->missing;
@@ -122,8 +111,7 @@ static bool string_by_offsets(const Run *run, size_t at, ds_string *string)
     uint64_t ends[2];
     bool wide = run->layout == STRINGS_64;
     copy_native(row_start(run, at), run->stride, wide ? 8 : 4, true, 2, ends);
-    if (ends[0] > ends[1] || ends[1] > run->num_bytes)
-        return false;
+    if (ends[0] > ends[1] || ends[1] > run->num_bytes) return false;
     *string = (ds_string){run->bytes + ends[0], ends[1] - ends[0]};
     return true;
 }
@@ -136,10 +124,8 @@ static bool string_by_view(const Run *run, size_t at, ds_string *string)
     memcpy(&length, view, sizeof length);
     memcpy(where, view + 8, sizeof where);
     *string = (ds_string){(const uint8_t *)view + 4, (size_t)length};
-    if (length >= 0 && length <= VIEW_INLINE)
-        return true;
-    if (length < 0 || where[0] < 0 || where[1] < 0 || (size_t)where[0] >= run->num_buffers)
-        return false;
+    if (length >= 0 && length <= VIEW_INLINE) return true;
+    if (length < 0 || where[0] < 0 || where[1] < 0 || (size_t)where[0] >= run->num_buffers) return false;
     const uint8_t *bytes = run->buffers[where[0]];
     int64_t size;
     memcpy(&size, &run->sizes[where[0]], sizeof size);
@@ -152,8 +138,7 @@ static void copy_fixed_bytes(const Run *run, size_t at, uint8_t *out, ds_string 
 {
     size_t length = (size_t)run->size;
     memcpy(out, row_start(run, at), length);
-    while (length > 0 && out[length - 1] == 0)
-        length--;
+    while (length > 0 && out[length - 1] == 0) length--;
     *string = (ds_string){out, length};
 }
 
@@ -172,11 +157,9 @@ static size_t encode(uint32_t code, uint8_t *out)
         return 1;
     }
     size_t more = code < 0x800 ? 1 : code < 0x10000 ? 2 : 3;
-    if (code > 0x10FFFF || (code >= 0xD800 && code < 0xE000))
-        return 0;
+    if (code > 0x10FFFF || (code >= 0xD800 && code < 0xE000)) return 0;
     out[0] = (uint8_t)(0xF0 << (3 - more) | code >> 6 * more);
-    for (size_t i = 1; i <= more; i++)
-        out[i] = (uint8_t)(0x80 | (code >> 6 * (more - i) & 0x3F));
+    for (size_t i = 1; i <= more; i++) out[i] = (uint8_t)(0x80 | (code >> 6 * (more - i) & 0x3F));
     return more + 1;
 }
 
@@ -186,8 +169,7 @@ static bool encode_fixed_wide(const Run *run, size_t at, uint8_t *out, ds_string
     const char *start = row_start(run, at);
     Py_ssize_t size = run->size;
     size_t length = 0, used = 1;
-    while (size > 0 && code_point(run, start + size - 4) == 0)
-        size -= 4;
+    while (size > 0 && code_point(run, start + size - 4) == 0) size -= 4;
     for (Py_ssize_t i = 0; i < size && used > 0; i += 4) {
         used = encode(code_point(run, start + i), out + length);
         length += used;
@@ -201,11 +183,9 @@ static bool strings_by_entries(const Run *run, size_t at, size_t count, ds_strin
 {
     uint64_t indices[CHUNK];
     for (size_t i = 0; i < count; i++) {
-        if (i % CHUNK == 0)
-            copy_numbers(run, at + i, count - i < CHUNK ? count - i : CHUNK, indices);
+        if (i % CHUNK == 0) copy_numbers(run, at + i, count - i < CHUNK ? count - i : CHUNK, indices);
         const Item *entry = entry_by_index(run, at + i, indices[i % CHUNK]);
-        if (entry == NULL)
-            return false;
+        if (entry == NULL) return false;
         strings[i] = (ds_string){(const uint8_t *)entry->text, entry->value};
     }
     return true;
@@ -225,12 +205,10 @@ static bool string_of(const Run *run, size_t at, uint8_t *room, ds_string *strin
 
 bool run_strings(const Run *run, size_t at, size_t count, uint8_t *room, ds_string *strings)
 {
-    if (run->entries != NULL)
-        return strings_by_entries(run, at, count, strings);
+    if (run->entries != NULL) return strings_by_entries(run, at, count, strings);
     for (size_t i = 0; i < count; i++)
         if (!string_of(run, at + i, room != NULL ? room + i * (size_t)run->size : NULL, &strings[i])) {
-            if (is_valid(run, at + i))
-                return false;
+            if (is_valid(run, at + i)) return false;
             strings[i] = (ds_string){empty, 0};
         }
     return true;
@@ -244,8 +222,7 @@ static bool is_ascii(const uint8_t *bytes, size_t length)
         memcpy(&word, bytes, sizeof word);
         all |= word;
     }
-    for (size_t i = 0; i < length; i++)
-        last |= bytes[i];
+    for (size_t i = 0; i < length; i++) last |= bytes[i];
     return (all & 0x8080808080808080) == 0 && last < 0x80;
 }
 
@@ -260,11 +237,9 @@ static bool not_unicode(PyObject *array, size_t at, const ds_string *string)
     PyObject *entry = array != NULL ? PySequence_GetItem(array, (Py_ssize_t)at) : NULL;
     if (array == NULL || (entry != NULL && PyBytes_Check(entry)))
         Py_XDECREF(PyUnicode_DecodeUTF8((const char *)string->bytes, (Py_ssize_t)string->length, NULL));
-    else if (entry != NULL && PyUnicode_Check(entry))
-        PyUnicode_AsUTF8(entry);
+    else if (entry != NULL && PyUnicode_Check(entry)) PyUnicode_AsUTF8(entry);
     Py_XDECREF(entry);
-    if (!PyErr_Occurred())
-        PyErr_SetString(PyExc_RuntimeError, "another thread changed a buffer during the call");
+    if (!PyErr_Occurred()) PyErr_SetString(PyExc_RuntimeError, "another thread changed a buffer during the call");
     return false;
 }
 
@@ -283,14 +258,11 @@ static bool check_offsets(Run *run)
         count = run->count - at < CHUNK ? run->count - at : CHUNK;
         copy_native(row_start(run, at), run->stride, size, true, count + 1, ends);
         for (size_t i = 0; i <= count; i++, before = ends[i - 1])
-            if (ends[i] > INT64_MAX || ends[i] < before)
-                return malformed("offsets descend or are below 0", run->first + at + i);
+            if (ends[i] > INT64_MAX || ends[i] < before) return malformed("offsets descend or are below 0", run->first + at + i);
     }
     run->num_bytes = before;
-    if (run->bytes == NULL && before > 0)
-        return malformed("strings without bytes", run->first);
-    if (run->bytes == NULL)
-        run->bytes = empty;
+    if (run->bytes == NULL && before > 0) return malformed("strings without bytes", run->first);
+    if (run->bytes == NULL) run->bytes = empty;
     return true;
 }
 
@@ -298,8 +270,7 @@ static bool check_offsets(Run *run)
 static bool all_ascii(const Run *run)
 {
     uint64_t begin = 0;
-    if ((run->layout != STRINGS_32 && run->layout != STRINGS_64) || run->entries != NULL)
-        return false;
+    if ((run->layout != STRINGS_32 && run->layout != STRINGS_64) || run->entries != NULL) return false;
     copy_native(row_start(run, 0), run->stride, run->layout == STRINGS_64 ? 8 : 4, true, 1, &begin);
     return begin <= run->num_bytes && is_ascii(run->bytes + begin, run->num_bytes - begin);
 }
@@ -325,15 +296,11 @@ bool run_check(Run *run, const bool *missing, PyObject *array)
 {
     bool fixed = run->layout == FIXED_BYTES || run->layout == FIXED_WIDE, good = true;
     run->has_gaps = run->layout == NOTHING || run->validity != NULL;
-    if (run->count == 0 || run->layout == NOTHING || (run->layout == NUMBERS && run->entries == NULL))
-        return true;
-    if ((run->layout == STRINGS_32 || run->layout == STRINGS_64) && !check_offsets(run))
-        return false;
-    if (all_ascii(run))
-        return true;
+    if (run->count == 0 || run->layout == NOTHING || (run->layout == NUMBERS && run->entries == NULL)) return true;
+    if ((run->layout == STRINGS_32 || run->layout == STRINGS_64) && !check_offsets(run)) return false;
+    if (all_ascii(run)) return true;
     uint8_t *room = PyMem_Malloc(fixed ? (size_t)run->size : 1);
-    if (room == NULL)
-        PyErr_NoMemory();
+    if (room == NULL) PyErr_NoMemory();
     for (size_t at = 0; room != NULL && good && at < run->count; at++)
         good = ((missing != NULL && missing[at]) || !is_valid(run, at) ||
                 (run->entries != NULL ? check_index(run, at) : check_row(run, at, room, array))) &&

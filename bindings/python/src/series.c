@@ -11,8 +11,7 @@ static PyObject *integer_type(PyObject *dtype)
 {
     PyObject *own = type_has(dtype, "numpy_dtype") > 0 ? attribute(dtype, "numpy_dtype") : NULL;
     int kind = own != NULL ? kind_of_array(own) : 0;
-    if (kind != 'i' && kind != 'u')
-        Py_CLEAR(own);
+    if (kind != 'i' && kind != 'u') Py_CLEAR(own);
     return own;
 }
 
@@ -20,8 +19,7 @@ static PyObject *integer_type(PyObject *dtype)
 static bool find_missing(PyObject *series, Source *source)
 {
     int has = type_has(series, "isna");
-    if (has <= 0)
-        return has == 0;
+    if (has <= 0) return has == 0;
     source->missing = called(series, "isna");
     if (source->missing != NULL && !PyObject_CheckBuffer(source->missing))
         Py_SETREF(source->missing, called(source->missing, "to_numpy"));
@@ -67,8 +65,7 @@ static bool array_source(PyObject *series, bool may_miss, Source *source)
 /* Clears the error that is set if it says that a package is not there. */
 static void clear_import_error(void)
 {
-    if (PyErr_ExceptionMatches(PyExc_ImportError))
-        PyErr_Clear();
+    if (PyErr_ExceptionMatches(PyExc_ImportError)) PyErr_Clear();
 }
 
 /* Reads the column by Arrow's interface. Returns 0 if that needs a package that is not there. */
@@ -83,8 +80,7 @@ static int arrow_source(PyObject *series, Source *source)
     PyObject *numpy = PyImport_ImportModule("numpy");
     source->in_array = numpy != NULL;
     Py_XDECREF(numpy);
-    if (numpy == NULL)
-        clear_import_error();
+    if (numpy == NULL) clear_import_error();
     return PyErr_Occurred() ? -1 : 1;
 }
 
@@ -92,8 +88,7 @@ static int arrow_source(PyObject *series, Source *source)
 static bool other_source(PyObject *series, Source *source)
 {
     int arrow = is_arrow(series);
-    if (arrow > 0)
-        arrow = arrow_source(series, source);
+    if (arrow > 0) arrow = arrow_source(series, source);
     return arrow == 0 ? array_source(series, true, source) : arrow > 0;
 }
 
@@ -101,8 +96,7 @@ static bool source_by_type(PyObject *series, PyObject *dtype, bool of_weights, S
 {
     int of_numpy = is_of(dtype, "numpy", "dtype");
     int kind = of_numpy > 0 ? kind_of_array(dtype) : of_numpy;
-    if (of_numpy > 0 && kind >= 0)
-        return array_source(series, kind == 'O', source);
+    if (of_numpy > 0 && kind >= 0) return array_source(series, kind == 'O', source);
     PyObject *integers = of_numpy == 0 ? integer_type(dtype) : NULL;
     if (integers != NULL) {
         bool found = integer_source(series, integers, source);
@@ -110,10 +104,8 @@ static bool source_by_type(PyObject *series, PyObject *dtype, bool of_weights, S
         return found;
     }
     int has_categories = PyErr_Occurred() ? -1 : type_has(dtype, "categories");
-    if (has_categories > 0)
-        has_categories = type_has(series, "array");
-    if (has_categories > 0)
-        return of_weights ? array_source(series, true, source) : category_source(series, source);
+    if (has_categories > 0) has_categories = type_has(series, "array");
+    if (has_categories > 0) return of_weights ? array_source(series, true, source) : category_source(series, source);
     return has_categories == 0 && other_source(series, source);
 }
 

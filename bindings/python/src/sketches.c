@@ -40,17 +40,14 @@ static bool can_enter(const Sketch *self, bool changes)
 
 static void let_in(Sketch *self, bool changes)
 {
-    if (changes)
-        self->changing = true;
-    else
-        self->readers++;
+    if (changes) self->changing = true;
+    else self->readers++;
 }
 
 static void wait_for_turn(Waiter *waiter)
 {
     pthread_mutex_lock(&waiter->mutex);
-    while (!waiter->is_in)
-        pthread_cond_wait(&waiter->let_in, &waiter->mutex);
+    while (!waiter->is_in) pthread_cond_wait(&waiter->let_in, &waiter->mutex);
     pthread_mutex_unlock(&waiter->mutex);
 }
 
@@ -79,10 +76,8 @@ static void enter(Sketch *self, bool changes)
         return;
     }
     Waiter waiter = {.changes = changes, .mutex = PTHREAD_MUTEX_INITIALIZER, .let_in = PTHREAD_COND_INITIALIZER};
-    if (self->first == NULL)
-        self->first = &waiter;
-    else
-        self->last->next = &waiter;
+    if (self->first == NULL) self->first = &waiter;
+    else self->last->next = &waiter;
     self->last = &waiter;
     Py_BEGIN_ALLOW_THREADS
     wait_for_turn(&waiter);
@@ -91,10 +86,8 @@ static void enter(Sketch *self, bool changes)
 
 static void leave(Sketch *self, bool changes)
 {
-    if (changes)
-        self->changing = false;
-    else
-        self->readers--;
+    if (changes) self->changing = false;
+    else self->readers--;
     while (self->first != NULL && can_enter(self, self->first->changes)) {
         Waiter *waiter = self->first;
         self->first = waiter->next;
@@ -132,10 +125,8 @@ static bool wait_to_change(Sketch *self)
         enter(self, true);
         leave(self, true);
     }
-    if (self->handle.sketch == NULL)
-        return set_closed();
-    if (self->frozen)
-        thaw(self);
+    if (self->handle.sketch == NULL) return set_closed();
+    if (self->frozen) thaw(self);
     return true;
 }
 
@@ -159,14 +150,10 @@ static int32_t begin(Use *use)
     Sketch *self = use->sketch;
     int32_t answer = DS_OK;
     enter(self, use->changes);
-    if (self->handle.sketch == NULL)
-        answer = DS_NO_SKETCH;
-    else if (!use->changes)
-        answer = take_share(use);
-    else if (self->frozen)
-        thaw(self);
-    if (answer < 0)
-        leave(self, use->changes);
+    if (self->handle.sketch == NULL) answer = DS_NO_SKETCH;
+    else if (!use->changes) answer = take_share(use);
+    else if (self->frozen) thaw(self);
+    if (answer < 0) leave(self, use->changes);
     return answer;
 }
 
@@ -191,25 +178,20 @@ bool uses_begin(Use *uses, size_t count)
 {
     int32_t answer = DS_OK;
     size_t i = 0;
-    for (; i < count && answer >= 0; i++)
-        answer = begin(&uses[i]);
-    if (answer < 0)
-        uses_end(uses, i - 1);
+    for (; i < count && answer >= 0; i++) answer = begin(&uses[i]);
+    if (answer < 0) uses_end(uses, i - 1);
     return began(answer);
 }
 
 void uses_end(Use *uses, size_t count)
 {
-    for (size_t i = 0; i < count; i++)
-        use_end(&uses[i]);
+    for (size_t i = 0; i < count; i++) use_end(&uses[i]);
 }
 
 static PyObject *refuse_as(int32_t answer, const char *kind)
 {
-    if (answer == DS_NO_MEMORY)
-        return PyErr_NoMemory();
-    if (answer == DS_NO_RANDOM)
-        return PyErr_Format(PyExc_OSError, "%s", ds_result_message(answer));
+    if (answer == DS_NO_MEMORY) return PyErr_NoMemory();
+    if (answer == DS_NO_RANDOM) return PyErr_Format(PyExc_OSError, "%s", ds_result_message(answer));
     PyObject *error = PyObject_CallFunction(sketch_error, "s", ds_result_message(answer));
     PyObject *kind_text = PyUnicode_FromString(kind);
     PyObject *fault = PyUnicode_FromString(ds_result_name(answer));
@@ -252,8 +234,7 @@ PyObject *refuse_image(int32_t answer)
 
 static PyObject *none_or_refuse(int32_t answer)
 {
-    if (answer < 0)
-        return refuse(answer);
+    if (answer < 0) return refuse(answer);
     Py_RETURN_NONE;
 }
 
@@ -261,8 +242,7 @@ PyObject *sketch_change(Sketch *self, int32_t (*change)(ds_sketch *))
 {
     Use use = {.sketch = self, .changes = true};
     int32_t answer;
-    if (!use_begin(&use))
-        return NULL;
+    if (!use_begin(&use)) return NULL;
     Py_BEGIN_ALLOW_THREADS
     answer = change(&self->handle);
     Py_END_ALLOW_THREADS
@@ -304,8 +284,7 @@ static int32_t pair_join(ds_sketch *handle, Pair *pair, of_two join)
         answer = ds_clone(&twin, handle);
         other = &twin;
     }
-    if (answer >= 0)
-        answer = join(handle, other);
+    if (answer >= 0) answer = join(handle, other);
     ds_free(&twin);
     return answer;
 }
@@ -314,8 +293,7 @@ PyObject *sketch_join(Sketch *self, Sketch *other, of_two join)
 {
     Pair pair;
     int32_t answer;
-    if (!pair_begin(&pair, self, other, true))
-        return NULL;
+    if (!pair_begin(&pair, self, other, true)) return NULL;
     Py_BEGIN_ALLOW_THREADS
     answer = pair_join(&self->handle, &pair, join);
     Py_END_ALLOW_THREADS
@@ -328,14 +306,11 @@ PyObject *sketch_joined(Sketch *self, Sketch *other, of_two join)
     ds_sketch made = DS_NONE;
     Pair pair;
     int32_t answer;
-    if (!pair_begin(&pair, self, other, false))
-        return NULL;
+    if (!pair_begin(&pair, self, other, false)) return NULL;
     Py_BEGIN_ALLOW_THREADS
     answer = ds_clone(&made, use_handle(pair.first));
-    if (answer >= 0)
-        answer = pair_join(&made, &pair, join);
-    if (answer < 0)
-        ds_free(&made);
+    if (answer >= 0) answer = pair_join(&made, &pair, join);
+    if (answer < 0) ds_free(&made);
     Py_END_ALLOW_THREADS
     pair_end(&pair);
     return answer < 0 ? refuse(answer) : sketch_like(self, &made);
@@ -345,8 +320,7 @@ PyObject *sketch_equal(Sketch *self, Sketch *other, of_two equal, int operation)
 {
     Pair pair;
     int32_t answer = DS_YES;
-    if (!pair_begin(&pair, self, other, false))
-        return NULL;
+    if (!pair_begin(&pair, self, other, false)) return NULL;
     if (self != other) {
         Py_BEGIN_ALLOW_THREADS
         answer = equal(use_handle(pair.first), use_handle(pair.second));
@@ -372,8 +346,7 @@ PyObject *sketch_sizeof(PyObject *object, PyObject *Py_UNUSED(unused))
         Py_END_ALLOW_THREADS
         use_end(&use);
     }
-    if (answer < 0 && answer != DS_NO_SKETCH)
-        return refuse(answer);
+    if (answer < 0 && answer != DS_NO_SKETCH) return refuse(answer);
     PyObject *own = PyObject_CallMethod((PyObject *)&PyBaseObject_Type, "__sizeof__", "O", object);
     PyObject *more = PyLong_FromSize_t(bytes);
     PyObject *all = own != NULL && more != NULL ? PyNumber_Add(own, more) : NULL;
@@ -382,7 +355,8 @@ PyObject *sketch_sizeof(PyObject *object, PyObject *Py_UNUSED(unused))
     return all;
 }
 
-const char sketch_close_doc[] = PyDoc_STR(
+const char sketch_close_doc[] =
+    PyDoc_STR(
 "close($self, /)\n--\n\n"
 "Free the memory. Calls that use the sketch then raise ValueError; a second `close` does nothing.");
 
@@ -420,7 +394,9 @@ PyDoc_STRVAR(error_doc,
 "InvalidArgument BadNumBits num_bits out of range\n");
 
 static struct PyModuleDef module = {
-    PyModuleDef_HEAD_INIT, .m_name = "datasketches_rattle._sketches", .m_size = -1,
+    PyModuleDef_HEAD_INIT,
+    .m_name = "datasketches_rattle._sketches",
+    .m_size = -1,
     .m_doc = "Sketches over a proved library for C.",
 };
 
@@ -444,11 +420,9 @@ PyMODINIT_FUNC PyInit__sketches(void)
 {
     PyObject *m = PyModule_Create(&module);
     PyObject *fields = Py_BuildValue("{sOsOsO}", "kind", Py_None, "fault", Py_None, "byte", Py_None);
-    if (m == NULL || fields == NULL)
-        goto failed;
+    if (m == NULL || fields == NULL) goto failed;
     sketch_error = PyErr_NewExceptionWithDoc("datasketches_rattle.SketchError", error_doc, NULL, fields);
-    if (sketch_error == NULL || PyModule_AddObjectRef(m, "SketchError", sketch_error) < 0)
-        goto failed;
+    if (sketch_error == NULL || PyModule_AddObjectRef(m, "SketchError", sketch_error) < 0) goto failed;
     if (!add_class(m, "BloomFilter", &filter_type) || !add_class(m, "CountMinSketch", &count_type) ||
         !add_class(m, "FrequentItemsSketch", &frequent_type) || !add_keyed_hash(m) ||
         PyModule_AddStringConstant(m, "__version__", ds_version()) < 0)

@@ -23,14 +23,14 @@ typedef struct Waiter Waiter;
 typedef struct {
     PyObject_HEAD
     ds_sketch handle;
-    bool changing; /* whether a long call changes the sketch */
-    bool frozen; /* whether the library does not change the sketch, since handles may share it */
-    size_t readers; /* the number of long calls that read the sketch */
+    bool changing;        /* whether a long call changes the sketch */
+    bool frozen;          /* whether the library does not change the sketch, since handles may share it */
+    size_t readers;       /* the number of long calls that read the sketch */
     Waiter *first, *last; /* the threads that wait for the sketch, in the order of their calls */
     uint64_t seed;
     uint32_t buckets;
     uint8_t hashes;
-    bool with_sign; /* of CountMinSketch: whether its weights are signed; of FrequentItemsSketch: whether its items are */
+    bool with_sign;  /* of CountMinSketch: whether its weights are signed; of FrequentItemsSketch: whether its items are */
     bool with_texts; /* of FrequentItemsSketch: whether its items are strings */
 } Sketch;
 
@@ -216,11 +216,11 @@ bool mapping_split(PyObject *mapping, PyObject **keys, PyObject **values);
 /* What items or weights are read from. */
 typedef struct {
     const char *call, *type; /* the names of the call and of the object's type, for errors */
-    PyObject *values; /* a list, tuple, set, buffer or other iterable; of categories their codes */
-    PyObject *missing; /* NULL, or an array of bool that is true for missing values */
-    PyObject *categories; /* NULL, or a list of the categories */
-    bool of_arrow; /* whether `values` exports a column of Arrow: then it is a capsule, or a tuple of two */
-    bool in_array; /* whether the results of a query are a numpy array */
+    PyObject *values;        /* a list, tuple, set, buffer or other iterable; of categories their codes */
+    PyObject *missing;       /* NULL, or an array of bool that is true for missing values */
+    PyObject *categories;    /* NULL, or a list of the categories */
+    bool of_arrow;           /* whether `values` exports a column of Arrow: then it is a capsule, or a tuple of two */
+    bool in_array;           /* whether the results of a query are a numpy array */
 } Source;
 
 /* Finds out what items are read from, or weights if `of_weights`. Sets an error, which names the call, for a table and for a
@@ -262,10 +262,10 @@ typedef enum {
     NUMBERS,
     STRINGS_32, /* Arrow's strings with offsets of 32 bits */
     STRINGS_64,
-    VIEWS, /* Arrow's strings in views of 16 bytes */
+    VIEWS,       /* Arrow's strings in views of 16 bytes */
     FIXED_BYTES, /* UTF-8 in a fixed number of bytes */
-    FIXED_WIDE, /* a fixed number of code points of 32 bits */
-    NOTHING /* all rows are missing */
+    FIXED_WIDE,  /* a fixed number of code points of 32 bits */
+    NOTHING      /* all rows are missing */
 } Layout;
 
 /* Arrow's C data interface. */
@@ -289,20 +289,20 @@ typedef struct ArrowArray {
 typedef struct {
     Layout layout;
     size_t first, count; /* the index of its first row among all, and the number of its rows */
-    const char *start; /* the first row's number, offset, view or string of a fixed size */
+    const char *start;   /* the first row's number, offset, view or string of a fixed size */
     Py_ssize_t stride, size;
     bool with_sign, swapped;
-    const uint8_t *validity; /* a bit for each row, which is 0 if the row is missing; NULL if no row is missing */
-    size_t bit; /* the bit of the first row */
-    const uint8_t *bytes; /* the strings behind the offsets */
-    uint64_t num_bytes; /* the last offset when the offsets were checked */
+    const uint8_t *validity;    /* a bit for each row, which is 0 if the row is missing; NULL if no row is missing */
+    size_t bit;                 /* the bit of the first row */
+    const uint8_t *bytes;       /* the strings behind the offsets */
+    uint64_t num_bytes;         /* the last offset when the offsets were checked */
     const void *const *buffers; /* the strings behind the views */
     const int64_t *sizes;
     size_t num_buffers;
     const Item *entries; /* NULL, or a dictionary's values; then the numbers are indices into them */
     size_t num_entries;
     bool gaps_by_code; /* whether the index -1 is a missing row */
-    bool has_gaps; /* whether `run_check` found that a row may be missing */
+    bool has_gaps;     /* whether `run_check` found that a row may be missing */
     Item *own_entries;
     ArrowArray array; /* to be released, unless its `release` is NULL */
 } Run;
@@ -335,19 +335,19 @@ struct Items {
     size_t count; /* with the missing ones */
     bool of_weights;
     bool weights_with_sign;
-    bool with_texts; /* whether some item may be a string */
+    bool with_texts;   /* whether some item may be a string */
     bool with_numbers; /* of a list or an iterator: whether some item is a number */
-    Item *items; /* NULL for runs */
+    Item *items;       /* NULL for runs */
     PyObject *tuple;
     Run *runs;
     size_t num_runs;
-    bool with_sign; /* whether the numbers of runs are signed */
+    bool with_sign;  /* whether the numbers of runs are signed */
     bool of_entries; /* whether the runs have dictionaries */
-    bool has_gaps; /* whether an item may be missing */
-    bool *missing; /* NULL, or a bool for each item */
+    bool has_gaps;   /* whether an item may be missing */
+    bool *missing;   /* NULL, or a bool for each item */
     Py_buffer view;
     PyObject *iterator; /* NULL if all items are read */
-    PyObject **held; /* the objects of the iterator's chunk */
+    PyObject **held;    /* the objects of the iterator's chunk */
     size_t num_held, room;
 };
 
@@ -374,14 +374,14 @@ bool below_top(const uint64_t *chunk, size_t count);
 
 /* Some items, without the missing ones, and their weights. */
 typedef struct {
-    size_t most; /* the maximum number of rows with numbers; of strings it is CHUNK at most */
-    size_t rows; /* the number of rows that were read */
-    size_t count; /* the number of items in them */
+    size_t most;       /* the maximum number of rows with numbers; of strings it is CHUNK at most */
+    size_t rows;       /* the number of rows that were read */
+    size_t count;      /* the number of items in them */
     uint64_t *numbers; /* `few`, or room for more */
     uint64_t few[CHUNK];
     uint64_t weights[CHUNK];
     ds_string strings[CHUNK]; /* if `with_texts`; the bytes of a number are NULL, and its length is the number */
-    uint8_t *room; /* for strings of a fixed size */
+    uint8_t *room;            /* for strings of a fixed size */
     size_t room_size;
 } Chunk;
 
@@ -442,15 +442,15 @@ int32_t weights_fit(const Items *items, const Weights *weights, uint64_t room);
 typedef struct {
     Sketch *self; /* NULL if the call uses no sketch */
     Use use;
-    ds_sketch *handle; /* that of the work on the items that were read */
+    ds_sketch *handle;   /* that of the work on the items that were read */
     const void *context; /* that of the question */
     const Items *items;
     PyThreadState *thread; /* while the interpreter's lock is released */
-    bool in_use; /* whether `use` has begun */
-    uint64_t due; /* the time of the next check for Ctrl-C, in nanoseconds, or 0 */
-    uint64_t began, took; /* start and duration of an iterator's chunk, in nanoseconds */
-    uint64_t turn; /* the time from which its chunks keep the interpreter's lock, or 0 */
-    size_t done; /* the number of items that were counted or inserted */
+    bool in_use;           /* whether `use` has begun */
+    uint64_t due;          /* the time of the next check for Ctrl-C, in nanoseconds, or 0 */
+    uint64_t began, took;  /* start and duration of an iterator's chunk, in nanoseconds */
+    uint64_t turn;         /* the time from which its chunks keep the interpreter's lock, or 0 */
+    size_t done;           /* the number of items that were counted or inserted */
 } Batch;
 
 /* Results of work besides the library's: STOPPED if an error is set, and CHANGED if a buffer changed after it was checked. */
@@ -465,8 +465,8 @@ typedef bool (*items_check)(const Sketch *self, const Items *items);
 /* How a sketch takes many items. `weights` is NULL if each item weighs 1. A function that returns an error adds to `done` the
  * number of items before it. */
 typedef struct {
-    items_check check; /* of all items, before the first is taken; or NULL */
-    uint64_t (*room)(Sketch *self); /* the maximum sum of weights that the sketch can take; or NULL */
+    items_check check;                     /* of all items, before the first is taken; or NULL */
+    uint64_t (*room)(Sketch *self);        /* the maximum sum of weights that the sketch can take; or NULL */
     size_t (*longest)(const Sketch *self); /* the maximum of numbers without weights in one call; or NULL for CHUNK */
     int32_t (*strings)(Batch *batch, const ds_string *strings, const uint64_t *weights, size_t count);
     int32_t (*numbers)(Batch *batch, const uint64_t *numbers, const uint64_t *weights, size_t count);
@@ -483,7 +483,7 @@ typedef struct {
     const char *kind;
     int width;
     const void *context; /* what the functions below read besides the sketch */
-    bool changes; /* whether the query also changes the sketch */
+    bool changes;        /* whether the query also changes the sketch */
     PyObject *(*object)(const Sketch *self, const void *answers, size_t index);
     items_check check;
     size_t (*longest)(const Sketch *self);
@@ -541,7 +541,9 @@ PyObject *frequent_update_lines(PyObject *object, PyObject *args, PyObject *keyw
 
 /* A method that takes keywords. */
 #define WITH_KEYWORDS(name, function) \
-    {name, (PyCFunction)(void (*)(void))function, METH_VARARGS | METH_KEYWORDS, function##_doc}
+    { \
+        name, (PyCFunction)(void (*)(void))function, METH_VARARGS | METH_KEYWORDS, function##_doc \
+    }
 
 /* --- frequent.c --- */
 
@@ -600,7 +602,9 @@ PyObject *frequent_suggest_max_map_size(PyObject *type, PyObject *args, PyObject
 
 /* A class method that takes keywords. */
 #define CLASS_METHOD(name, function) \
-    {name, (PyCFunction)(void (*)(void))function, METH_CLASS | METH_VARARGS | METH_KEYWORDS, function##_doc}
+    { \
+        name, (PyCFunction)(void (*)(void))function, METH_CLASS | METH_VARARGS | METH_KEYWORDS, function##_doc \
+    }
 
 /* --- keyed_hash.c --- */
 

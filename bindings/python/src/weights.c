@@ -6,10 +6,8 @@
 /* Returns whether the object is many weights, or -1 with an error set. */
 static int is_many(PyObject *object)
 {
-    if (is_single(object))
-        return 0;
-    if (PyObject_CheckBuffer(object) || Py_TYPE(object)->tp_iter != NULL || PySequence_Check(object))
-        return 1;
+    if (is_single(object)) return 0;
+    if (PyObject_CheckBuffer(object) || Py_TYPE(object)->tp_iter != NULL || PySequence_Check(object)) return 1;
     return is_arrow(object);
 }
 
@@ -33,24 +31,18 @@ static bool weights_open(const Source *source, Weights *weights)
 
 static bool differ(const Items *items, const Items *weights)
 {
-    if (items->iterator != NULL)
-        PyErr_Format(PyExc_ValueError, "there are %zu weights and more items", weights->count);
-    else if (weights->iterator != NULL)
-        PyErr_Format(PyExc_ValueError, "there are %zu items and more weights", items->count);
-    else
-        PyErr_Format(PyExc_ValueError, "there are %zu items and %zu weights", items->count, weights->count);
+    if (items->iterator != NULL) PyErr_Format(PyExc_ValueError, "there are %zu weights and more items", weights->count);
+    else if (weights->iterator != NULL) PyErr_Format(PyExc_ValueError, "there are %zu items and more weights", items->count);
+    else PyErr_Format(PyExc_ValueError, "there are %zu items and %zu weights", items->count, weights->count);
     return false;
 }
 
 /* Reads an iterator if the other argument is known as a whole. Reads at most one item more than the other has. */
 static bool read_beside(Items *items, Items *weights)
 {
-    if (items->iterator != NULL && weights->iterator != NULL)
-        return true;
-    if (items->iterator != NULL && !items_next(items, weights->count + 1))
-        return false;
-    if (weights->iterator != NULL && !items_next(weights, items->count + 1))
-        return false;
+    if (items->iterator != NULL && weights->iterator != NULL) return true;
+    if (items->iterator != NULL && !items_next(items, weights->count + 1)) return false;
+    if (weights->iterator != NULL && !items_next(weights, items->count + 1)) return false;
     return items->count == weights->count || differ(items, weights);
 }
 
@@ -68,14 +60,13 @@ static bool each_fits(const Items *items, const Weights *weights)
     for (size_t i = 0, count; may_not_hold(weights) && i < items->count; i += count) {
         count = items->count - i < CHUNK ? items->count - i : CHUNK;
         weights_chunk(weights, i, count, chunk);
-        if (below_top(chunk, count))
-            continue;
+        if (below_top(chunk, count)) continue;
         memset(present, true, count);
         items_present(items, i, count, present);
         items_present(&weights->items, i, count, present);
         for (size_t j = 0; j < count; j++)
-            if (present[j] && !number_fits("a weight", weights->with_sign, chunk[j],
-                                           weights->items.with_sign && chunk[j] > INT64_MAX))
+            if (present[j] &&
+                !number_fits("a weight", weights->with_sign, chunk[j], weights->items.with_sign && chunk[j] > INT64_MAX))
                 return false;
     }
     return true;
@@ -88,10 +79,8 @@ static bool open_sources(const Source *source, const Source *weight_source, Item
                      Py_TYPE(source->values)->tp_name);
         return false;
     }
-    if (!items_open(source, items))
-        return false;
-    if (!weights->each)
-        return true;
+    if (!items_open(source, items)) return false;
+    if (!weights->each) return true;
     return weights_open(weight_source, weights) && read_beside(items, &weights->items) && each_fits(items, weights);
 }
 
@@ -99,20 +88,16 @@ static bool open_sources(const Source *source, const Source *weight_source, Item
 static bool find_sources(PyObject *given, PyObject *given_weights, Source *source, Source *weight_source, Weights *weights)
 {
     int mapping = is_mapping(given);
-    if (mapping < 0)
-        return false;
+    if (mapping < 0) return false;
     if (mapping > 0) {
-        if (given_weights != NULL)
-            PyErr_SetString(PyExc_TypeError, "a mapping of items to weights takes no second argument");
+        if (given_weights != NULL) PyErr_SetString(PyExc_TypeError, "a mapping of items to weights takes no second argument");
         weights->each = given_weights == NULL && mapping_split(given, &source->values, &weight_source->values);
         return weights->each;
     }
     int many = given_weights != NULL ? is_many(given_weights) : 0;
-    if (many < 0)
-        return false;
+    if (many < 0) return false;
     weights->each = many > 0;
-    if (weights->each)
-        return source_of(given, "update", false, source) && weight_source_of(given_weights, weight_source);
+    if (weights->each) return source_of(given, "update", false, source) && weight_source_of(given_weights, weight_source);
     return (given_weights == NULL || number_of_kind(given_weights, "weight", weights->with_sign, &weights->same)) &&
            source_of(given, "update", false, source);
 }
@@ -156,25 +141,20 @@ bool items_of(PyObject *given, const char *call, Items *items, Weights *weights)
     *weights = (Weights){.same = 1};
     bool opened = source_of(given, call, false, &source) && open_sources(&source, NULL, items, weights);
     source_release(&source);
-    if (!opened)
-        items_release(items);
+    if (!opened) items_release(items);
     return opened;
 }
 
 bool update_next(Items *items, Weights *weights)
 {
     Items *others = &weights->items;
-    if (items->iterator == NULL)
-        return true;
-    if (!items_next(items, STREAM_CHUNK))
-        return false;
-    if (!weights->each)
-        return true;
-    if (!items_next(others, items->count < STREAM_CHUNK ? items->count + 1 : STREAM_CHUNK))
-        return false;
+    if (items->iterator == NULL) return true;
+    if (!items_next(items, STREAM_CHUNK)) return false;
+    if (!weights->each) return true;
+    if (!items_next(others, items->count < STREAM_CHUNK ? items->count + 1 : STREAM_CHUNK)) return false;
     if (items->count != others->count)
-        PyErr_SetString(PyExc_ValueError, items->count > others->count ? "there are more items than weights"
-                                                                       : "there are more weights than items");
+        PyErr_SetString(PyExc_ValueError,
+                        items->count > others->count ? "there are more items than weights" : "there are more weights than items");
     return items->count == others->count;
 }
 
@@ -193,10 +173,8 @@ static int32_t take_room(const Weights *weights, const uint64_t *chunk, const bo
 {
     for (size_t i = 0; i < count; i++) {
         uint64_t weight = present[i] ? distance(chunk[i], weights->with_sign) : 0;
-        if (present[i] && !weights_hold(weights, &chunk[i], 1))
-            return CHANGED;
-        if (weight > *room)
-            return DS_WEIGHT_OVERFLOW;
+        if (present[i] && !weights_hold(weights, &chunk[i], 1)) return CHANGED;
+        if (weight > *room) return DS_WEIGHT_OVERFLOW;
         *room -= weight;
     }
     return DS_OK;
@@ -207,15 +185,13 @@ int32_t weights_fit(const Items *items, const Weights *weights, uint64_t room)
     uint64_t chunk[CHUNK], same = distance(weights->same, weights->with_sign);
     bool present[CHUNK];
     int32_t answer = DS_OK;
-    if (!weights->each && (same == 0 || items->count <= room / same))
-        return DS_OK;
+    if (!weights->each && (same == 0 || items->count <= room / same)) return DS_OK;
     for (size_t i = 0, count; i < items->count && answer >= 0; i += count) {
         count = items->count - i < CHUNK ? items->count - i : CHUNK;
         weights_chunk(weights, i, count, chunk);
         memset(present, true, count);
         items_present(items, i, count, present);
-        if (weights->each)
-            items_present(&weights->items, i, count, present);
+        if (weights->each) items_present(&weights->items, i, count, present);
         answer = take_room(weights, chunk, present, count, &room);
     }
     return answer;

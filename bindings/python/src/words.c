@@ -35,13 +35,11 @@ static bool text_open(PyObject *given, const Method *method, Text *text)
         PyErr_Format(PyExc_TypeError, "%s takes a str or a buffer of bytes, not %.200s", method->name, Py_TYPE(given)->tp_name);
         return false;
     }
-    if (PyObject_GetBuffer(given, &text->view, PyBUF_ND | PyBUF_FORMAT) < 0)
-        return false;
+    if (PyObject_GetBuffer(given, &text->view, PyBUF_ND | PyBUF_FORMAT) < 0) return false;
     text->bytes = text->view.buf;
     text->length = (size_t)text->view.len;
     text->may_change = !is_constant(&text->view);
-    if (text->view.itemsize == 1)
-        return true;
+    if (text->view.itemsize == 1) return true;
     PyErr_Format(PyExc_TypeError, "%s takes a str or a buffer of bytes", method->name);
     return false;
 }
@@ -49,8 +47,7 @@ static bool text_open(PyObject *given, const Method *method, Text *text)
 static void text_release(Text *text)
 {
     PyMem_RawFree(text->copy);
-    if (text->view.obj != NULL)
-        PyBuffer_Release(&text->view);
+    if (text->view.obj != NULL) PyBuffer_Release(&text->view);
 }
 
 static bool is_space(uint8_t byte)
@@ -61,15 +58,13 @@ static bool is_space(uint8_t byte)
 /* Returns the end of the piece that begins at `from`: no word or line goes on after it. */
 static size_t piece_end(const Text *text, bool of_lines, size_t from)
 {
-    if (text->length - from <= PIECE)
-        return text->length;
+    if (text->length - from <= PIECE) return text->length;
     size_t end = from + PIECE;
     if (of_lines) {
         const uint8_t *last = memchr(text->bytes + end, '\n', text->length - end);
         return last != NULL ? (size_t)(last - text->bytes) + 1 : text->length;
     }
-    while (end < text->length && !is_space(text->bytes[end]))
-        end++;
+    while (end < text->length && !is_space(text->bytes[end])) end++;
     return end;
 }
 
@@ -78,10 +73,8 @@ static uint64_t count_front(const Text *text, bool of_lines, size_t length)
 {
     uint64_t count = 0;
     for (size_t i = 0; i < length; i++)
-        if (of_lines)
-            count += text->bytes[i] == '\n';
-        else
-            count += !is_space(text->bytes[i]) && (i == 0 || is_space(text->bytes[i - 1]));
+        if (of_lines) count += text->bytes[i] == '\n';
+        else count += !is_space(text->bytes[i]) && (i == 0 || is_space(text->bytes[i - 1]));
     return count;
 }
 
@@ -100,31 +93,24 @@ static uint64_t total_of(Sketch *self)
 {
     ds_count_min_status count = {0};
     ds_frequent_items_status frequent = {0};
-    if (is_count(self) && self->with_sign)
-        ds_count_min_i64_get_status(&self->handle, &count);
-    else if (is_count(self))
-        ds_count_min_u64_get_status(&self->handle, &count);
-    else if (!is_filter(self))
-        ds_frequent_items_string_get_status(&self->handle, &frequent);
+    if (is_count(self) && self->with_sign) ds_count_min_i64_get_status(&self->handle, &count);
+    else if (is_count(self)) ds_count_min_u64_get_status(&self->handle, &count);
+    else if (!is_filter(self)) ds_frequent_items_string_get_status(&self->handle, &frequent);
     return count.total_weight + frequent.total_weight;
 }
 
 static int32_t take_words(Sketch *self, const uint8_t *text, size_t length)
 {
-    if (is_filter(self))
-        return ds_bloom_insert_words(&self->handle, text, length);
-    if (!is_count(self))
-        return ds_frequent_items_string_update_words(&self->handle, text, length);
+    if (is_filter(self)) return ds_bloom_insert_words(&self->handle, text, length);
+    if (!is_count(self)) return ds_frequent_items_string_update_words(&self->handle, text, length);
     return self->with_sign ? ds_count_min_i64_update_words(&self->handle, text, length)
                            : ds_count_min_u64_update_words(&self->handle, text, length);
 }
 
 static int32_t take_lines(Sketch *self, const uint8_t *text, size_t length)
 {
-    if (is_filter(self))
-        return ds_bloom_insert_lines(&self->handle, text, length);
-    if (!is_count(self))
-        return ds_frequent_items_string_update_lines(&self->handle, text, length);
+    if (is_filter(self)) return ds_bloom_insert_lines(&self->handle, text, length);
+    if (!is_count(self)) return ds_frequent_items_string_update_lines(&self->handle, text, length);
     return self->with_sign ? ds_count_min_i64_update_lines(&self->handle, text, length)
                            : ds_count_min_u64_update_lines(&self->handle, text, length);
 }
@@ -136,8 +122,7 @@ static int32_t take_piece(Sketch *self, Text *text, bool of_lines, size_t from, 
     uint64_t before = total_of(self);
     if (text->may_change) {
         uint8_t *copy = PyMem_RawRealloc(text->copy, end - from);
-        if (copy == NULL)
-            return DS_NO_MEMORY;
+        if (copy == NULL) return DS_NO_MEMORY;
         text->copy = copy;
         memcpy(copy, piece, end - from);
         piece = copy;
@@ -162,14 +147,10 @@ static void refuse_piece(Sketch *self, Text *text, const Method *method, int32_t
                      method->of_lines ? "lines" : "words");
         return;
     }
-    if (answer == DS_INVALID_UTF8)
-        refuse_utf8(text, from, end);
-    else if (answer < 0)
-        refuse(answer);
-    if (is_filter(self))
-        text->done = count_front(text, method->of_lines, answer < 0 ? from : end);
-    if (text->done > 0)
-        note_taken(text->done);
+    if (answer == DS_INVALID_UTF8) refuse_utf8(text, from, end);
+    else if (answer < 0) refuse(answer);
+    if (is_filter(self)) text->done = count_front(text, method->of_lines, answer < 0 ? from : end);
+    if (text->done > 0) note_taken(text->done);
 }
 
 /* Takes all words or lines. Returns false, with an error set, if a piece is rejected or Ctrl-C ends the call. */
@@ -179,8 +160,7 @@ static bool take_text(Sketch *self, Text *text, const Method *method)
     for (size_t from = 0, end; from < text->length; from = end) {
         int32_t answer;
         end = piece_end(text, method->of_lines, from);
-        if (!use_begin(&use))
-            return false;
+        if (!use_begin(&use)) return false;
         Py_BEGIN_ALLOW_THREADS
         answer = take_piece(self, text, method->of_lines, from, end);
         Py_END_ALLOW_THREADS
@@ -200,8 +180,7 @@ static PyObject *used_of(PyObject *given, const Text *text, size_t whole)
     size_t used = text->length;
     if (PyUnicode_Check(given)) {
         used = (size_t)PyUnicode_GET_LENGTH(given);
-        for (size_t i = text->length; i < whole; i++)
-            used -= text->bytes[i] >> 6 != 2;
+        for (size_t i = text->length; i < whole; i++) used -= text->bytes[i] >> 6 != 2;
     }
     return PyLong_FromSize_t(used);
 }
@@ -213,34 +192,31 @@ static PyObject *take(PyObject *object, PyObject *args, PyObject *keywords, cons
     PyObject *given, *used = NULL;
     int final = 1;
     Text text = {0};
-    if (!PyArg_ParseTupleAndKeywords(args, keywords, "O|$p", names, &given, &final) || !sketch_ready(self))
-        return NULL;
+    if (!PyArg_ParseTupleAndKeywords(args, keywords, "O|$p", names, &given, &final) || !sketch_ready(self)) return NULL;
     if (!is_filter(self) && !is_count(self) && !self->with_texts)
         return PyErr_Format(PyExc_TypeError, "%s takes a sketch of strings: FrequentItemsSketch(.., item=str)", method->name);
     if (text_open(given, method, &text)) {
         size_t whole = text.length;
-        if (!final)
-            text.length = method->of_lines ? ds_finished_lines(text.bytes, whole) : ds_finished_words(text.bytes, whole);
+        if (!final) text.length = method->of_lines ? ds_finished_lines(text.bytes, whole) : ds_finished_words(text.bytes, whole);
         used = used_of(given, &text, whole);
-        if (used != NULL && !take_text(self, &text, method))
-            Py_CLEAR(used);
+        if (used != NULL && !take_text(self, &text, method)) Py_CLEAR(used);
     }
     text_release(&text);
     return used;
 }
 
 #define WORDS_ARE "A word is a longest run of bytes that are not space, tab, LF, FF or CR. "
-#define LINES_ARE \
-"A line ends with LF or CR LF, which do not belong to it. A last line without LF counts if it is not empty.\n\n"
+#define LINES_ARE "A line ends with LF or CR LF, which do not belong to it. A last line without LF counts if it is not empty.\n\n"
 #define HOW_MUCH(words) \
-"Return how much of `text` was used: `text[used:]` is\n" \
-"the rest. With `final=False` this is an unfinished last " words ", which goes before the next chunk of a stream. Otherwise\n" \
-"there is none.\n\n"
+    "Return how much of `text` was used: `text[used:]` is\n" \
+    "the rest. With `final=False` this is an unfinished last " words ", which goes before the next chunk of a stream. Otherwise\n" \
+    "there is none.\n\n"
 #define ERRORS_ARE(words) \
-"Raise 'InvalidUtf8' if some bytes are not UTF-8, with the offset of the first as `byte`. A buffer is read in pieces of about\n" \
-"1 MiB. " words " before an error may be counted: a note of the error has their number.\n\n"
+    "Raise 'InvalidUtf8' if some bytes are not UTF-8, with the offset of the first as `byte`. A buffer is read in pieces of about\n" \
+    "1 MiB. " words " before an error may be counted: a note of the error has their number.\n\n"
 
-const char filter_insert_words_doc[] = PyDoc_STR(
+const char filter_insert_words_doc[] =
+    PyDoc_STR(
 "insert_words($self, text, /, *, final=True)\n--\n\n"
 "Insert each word of a str, or of a buffer of UTF-8 bytes, such as bytes or an mmap.\n\n"
 WORDS_ARE HOW_MUCH("word") ERRORS_ARE("Words")
@@ -251,7 +227,8 @@ WORDS_ARE HOW_MUCH("word") ERRORS_ARE("Words")
 ">>> 'not' in seen, 'apple' in seen\n"
 "(True, False)\n");
 
-const char filter_insert_lines_doc[] = PyDoc_STR(
+const char filter_insert_lines_doc[] =
+    PyDoc_STR(
 "insert_lines($self, text, /, *, final=True)\n--\n\n"
 "Insert each line of a str, or of a buffer of UTF-8 bytes, such as bytes or an mmap.\n\n"
 LINES_ARE HOW_MUCH("line") ERRORS_ARE("Lines")
