@@ -40,7 +40,7 @@ EXACT = "SELECT string, count(*) FROM events {} GROUP BY string ORDER BY 2 DESC 
 LARGEST = "SELECT item, estimate FROM frequent_rows((SELECT {})) ORDER BY 2 DESC LIMIT 10"
 SKETCH = LARGEST.format("frequent_strings_agg(string, 1, 4096) FROM events")
 JOIN = "SELECT count(*), sum(id) FROM orders JOIN chosen USING (customer)"
-FILTER = " WHERE contains((SELECT bloom_filter_agg(customer, {}, 0.01) FROM chosen), customer)"
+FILTER = " WHERE sketch_contains((SELECT bloom_filter_agg(customer, {}, 0.01) FROM chosen), customer)"
 UNION = LARGEST.format("frequent_strings_union(strings) FROM days")
 GROUPED = "SELECT count(s) FROM (SELECT number % {} AS g, {} AS s FROM events GROUP BY 1) AS groups"
 

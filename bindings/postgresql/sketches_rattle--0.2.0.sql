@@ -107,18 +107,18 @@ CREATE OPERATOR CLASS frequent_strings_ops DEFAULT FOR TYPE frequent_strings USI
 CREATE OPERATOR CLASS frequent_strings_ops DEFAULT FOR TYPE frequent_strings USING btree AS
     OPERATOR 1 <, OPERATOR 2 <=, OPERATOR 3 =, OPERATOR 4 >=, OPERATOR 5 >, FUNCTION 1 frequent_strings_cmp(frequent_strings, frequent_strings);
 
-CREATE FUNCTION lower_bound(sketch frequent_strings, item text) RETURNS bigint
+CREATE FUNCTION sketch_lower_bound(sketch frequent_strings, item text) RETURNS bigint
     LANGUAGE C IMMUTABLE STRICT PARALLEL SAFE AS 'MODULE_PATHNAME', 'frequent_strings_lower_bound';
-CREATE FUNCTION estimate(sketch frequent_strings, item text) RETURNS bigint
+CREATE FUNCTION sketch_estimate(sketch frequent_strings, item text) RETURNS bigint
     LANGUAGE C IMMUTABLE STRICT PARALLEL SAFE AS 'MODULE_PATHNAME', 'frequent_strings_estimate';
-CREATE FUNCTION upper_bound(sketch frequent_strings, item text) RETURNS bigint
+CREATE FUNCTION sketch_upper_bound(sketch frequent_strings, item text) RETURNS bigint
     LANGUAGE C IMMUTABLE STRICT PARALLEL SAFE AS 'MODULE_PATHNAME', 'frequent_strings_upper_bound';
-CREATE FUNCTION bounds(sketch frequent_strings, item text, OUT lower_bound bigint, OUT estimate bigint, OUT upper_bound bigint)
+CREATE FUNCTION sketch_bounds(sketch frequent_strings, item text, OUT lower_bound bigint, OUT estimate bigint, OUT upper_bound bigint)
     LANGUAGE C IMMUTABLE STRICT PARALLEL SAFE AS 'MODULE_PATHNAME', 'frequent_strings_bounds';
 CREATE FUNCTION frequent_rows(sketch frequent_strings, mode text DEFAULT 'no_false_negatives', threshold bigint DEFAULT 0,
     OUT item text, OUT estimate bigint, OUT lower_bound bigint, OUT upper_bound bigint) RETURNS SETOF record
     LANGUAGE C STABLE STRICT PARALLEL SAFE ROWS 100 AS 'MODULE_PATHNAME', 'frequent_strings_rows';
-CREATE FUNCTION status(sketch frequent_strings, OUT total_weight bigint, OUT maximum_error bigint, OUT num_active_items bigint,
+CREATE FUNCTION sketch_status(sketch frequent_strings, OUT total_weight bigint, OUT maximum_error bigint, OUT num_active_items bigint,
     OUT maximum_map_capacity bigint, OUT current_map_capacity bigint, OUT max_map_size bigint)
     LANGUAGE C IMMUTABLE STRICT PARALLEL SAFE AS 'MODULE_PATHNAME', 'frequent_strings_status';
 
@@ -218,18 +218,18 @@ CREATE OPERATOR CLASS frequent_bigints_ops DEFAULT FOR TYPE frequent_bigints USI
 CREATE OPERATOR CLASS frequent_bigints_ops DEFAULT FOR TYPE frequent_bigints USING btree AS
     OPERATOR 1 <, OPERATOR 2 <=, OPERATOR 3 =, OPERATOR 4 >=, OPERATOR 5 >, FUNCTION 1 frequent_bigints_cmp(frequent_bigints, frequent_bigints);
 
-CREATE FUNCTION lower_bound(sketch frequent_bigints, item bigint) RETURNS bigint
+CREATE FUNCTION sketch_lower_bound(sketch frequent_bigints, item bigint) RETURNS bigint
     LANGUAGE C IMMUTABLE STRICT PARALLEL SAFE AS 'MODULE_PATHNAME', 'frequent_bigints_lower_bound';
-CREATE FUNCTION estimate(sketch frequent_bigints, item bigint) RETURNS bigint
+CREATE FUNCTION sketch_estimate(sketch frequent_bigints, item bigint) RETURNS bigint
     LANGUAGE C IMMUTABLE STRICT PARALLEL SAFE AS 'MODULE_PATHNAME', 'frequent_bigints_estimate';
-CREATE FUNCTION upper_bound(sketch frequent_bigints, item bigint) RETURNS bigint
+CREATE FUNCTION sketch_upper_bound(sketch frequent_bigints, item bigint) RETURNS bigint
     LANGUAGE C IMMUTABLE STRICT PARALLEL SAFE AS 'MODULE_PATHNAME', 'frequent_bigints_upper_bound';
-CREATE FUNCTION bounds(sketch frequent_bigints, item bigint, OUT lower_bound bigint, OUT estimate bigint, OUT upper_bound bigint)
+CREATE FUNCTION sketch_bounds(sketch frequent_bigints, item bigint, OUT lower_bound bigint, OUT estimate bigint, OUT upper_bound bigint)
     LANGUAGE C IMMUTABLE STRICT PARALLEL SAFE AS 'MODULE_PATHNAME', 'frequent_bigints_bounds';
 CREATE FUNCTION frequent_rows(sketch frequent_bigints, mode text DEFAULT 'no_false_negatives', threshold bigint DEFAULT 0,
     OUT item bigint, OUT estimate bigint, OUT lower_bound bigint, OUT upper_bound bigint) RETURNS SETOF record
     LANGUAGE C STABLE STRICT PARALLEL SAFE ROWS 100 AS 'MODULE_PATHNAME', 'frequent_bigints_rows';
-CREATE FUNCTION status(sketch frequent_bigints, OUT total_weight bigint, OUT maximum_error bigint, OUT num_active_items bigint,
+CREATE FUNCTION sketch_status(sketch frequent_bigints, OUT total_weight bigint, OUT maximum_error bigint, OUT num_active_items bigint,
     OUT maximum_map_capacity bigint, OUT current_map_capacity bigint, OUT max_map_size bigint)
     LANGUAGE C IMMUTABLE STRICT PARALLEL SAFE AS 'MODULE_PATHNAME', 'frequent_bigints_status';
 
@@ -329,15 +329,15 @@ CREATE OPERATOR CLASS count_min_ops DEFAULT FOR TYPE count_min USING hash AS
 CREATE OPERATOR CLASS count_min_ops DEFAULT FOR TYPE count_min USING btree AS
     OPERATOR 1 <, OPERATOR 2 <=, OPERATOR 3 =, OPERATOR 4 >=, OPERATOR 5 >, FUNCTION 1 count_min_cmp(count_min, count_min);
 
-CREATE FUNCTION estimate(sketch count_min, item text) RETURNS bigint
+CREATE FUNCTION sketch_estimate(sketch count_min, item text) RETURNS bigint
     LANGUAGE C IMMUTABLE STRICT PARALLEL SAFE AS 'MODULE_PATHNAME', 'count_min_estimate_string';
-CREATE FUNCTION upper_bound(sketch count_min, item text) RETURNS bigint
+CREATE FUNCTION sketch_upper_bound(sketch count_min, item text) RETURNS bigint
     LANGUAGE C IMMUTABLE STRICT PARALLEL SAFE AS 'MODULE_PATHNAME', 'count_min_upper_bound_string';
-CREATE FUNCTION estimate(sketch count_min, item bigint) RETURNS bigint
+CREATE FUNCTION sketch_estimate(sketch count_min, item bigint) RETURNS bigint
     LANGUAGE C IMMUTABLE STRICT PARALLEL SAFE AS 'MODULE_PATHNAME', 'count_min_estimate_bigint';
-CREATE FUNCTION upper_bound(sketch count_min, item bigint) RETURNS bigint
+CREATE FUNCTION sketch_upper_bound(sketch count_min, item bigint) RETURNS bigint
     LANGUAGE C IMMUTABLE STRICT PARALLEL SAFE AS 'MODULE_PATHNAME', 'count_min_upper_bound_bigint';
-CREATE FUNCTION status(sketch count_min, OUT total_weight bigint, OUT num_hashes integer, OUT num_buckets bigint,
+CREATE FUNCTION sketch_status(sketch count_min, OUT total_weight bigint, OUT num_hashes integer, OUT num_buckets bigint,
     OUT items text)
     LANGUAGE C IMMUTABLE STRICT PARALLEL SAFE AS 'MODULE_PATHNAME', 'count_min_status';
 
@@ -437,15 +437,15 @@ CREATE OPERATOR CLASS signed_count_min_ops DEFAULT FOR TYPE signed_count_min USI
 CREATE OPERATOR CLASS signed_count_min_ops DEFAULT FOR TYPE signed_count_min USING btree AS
     OPERATOR 1 <, OPERATOR 2 <=, OPERATOR 3 =, OPERATOR 4 >=, OPERATOR 5 >, FUNCTION 1 signed_count_min_cmp(signed_count_min, signed_count_min);
 
-CREATE FUNCTION estimate(sketch signed_count_min, item text) RETURNS bigint
+CREATE FUNCTION sketch_estimate(sketch signed_count_min, item text) RETURNS bigint
     LANGUAGE C IMMUTABLE STRICT PARALLEL SAFE AS 'MODULE_PATHNAME', 'signed_count_min_estimate_string';
-CREATE FUNCTION upper_bound(sketch signed_count_min, item text) RETURNS bigint
+CREATE FUNCTION sketch_upper_bound(sketch signed_count_min, item text) RETURNS bigint
     LANGUAGE C IMMUTABLE STRICT PARALLEL SAFE AS 'MODULE_PATHNAME', 'signed_count_min_upper_bound_string';
-CREATE FUNCTION estimate(sketch signed_count_min, item bigint) RETURNS bigint
+CREATE FUNCTION sketch_estimate(sketch signed_count_min, item bigint) RETURNS bigint
     LANGUAGE C IMMUTABLE STRICT PARALLEL SAFE AS 'MODULE_PATHNAME', 'signed_count_min_estimate_bigint';
-CREATE FUNCTION upper_bound(sketch signed_count_min, item bigint) RETURNS bigint
+CREATE FUNCTION sketch_upper_bound(sketch signed_count_min, item bigint) RETURNS bigint
     LANGUAGE C IMMUTABLE STRICT PARALLEL SAFE AS 'MODULE_PATHNAME', 'signed_count_min_upper_bound_bigint';
-CREATE FUNCTION status(sketch signed_count_min, OUT total_weight bigint, OUT num_hashes integer, OUT num_buckets bigint,
+CREATE FUNCTION sketch_status(sketch signed_count_min, OUT total_weight bigint, OUT num_hashes integer, OUT num_buckets bigint,
     OUT items text)
     LANGUAGE C IMMUTABLE STRICT PARALLEL SAFE AS 'MODULE_PATHNAME', 'signed_count_min_status';
 
@@ -548,13 +548,13 @@ CREATE OPERATOR CLASS bloom_filter_ops DEFAULT FOR TYPE bloom_filter USING hash 
 CREATE OPERATOR CLASS bloom_filter_ops DEFAULT FOR TYPE bloom_filter USING btree AS
     OPERATOR 1 <, OPERATOR 2 <=, OPERATOR 3 =, OPERATOR 4 >=, OPERATOR 5 >, FUNCTION 1 bloom_filter_cmp(bloom_filter, bloom_filter);
 
-CREATE FUNCTION contains_support(internal) RETURNS internal
+CREATE FUNCTION sketch_contains_support(internal) RETURNS internal
     LANGUAGE C IMMUTABLE STRICT PARALLEL SAFE AS 'MODULE_PATHNAME', 'bloom_filter_contains_support';
-CREATE FUNCTION contains(filter bloom_filter, item text) RETURNS boolean
-    LANGUAGE C IMMUTABLE STRICT PARALLEL SAFE SUPPORT contains_support AS 'MODULE_PATHNAME', 'bloom_filter_contains_string';
-CREATE FUNCTION contains(filter bloom_filter, item bigint) RETURNS boolean
-    LANGUAGE C IMMUTABLE STRICT PARALLEL SAFE SUPPORT contains_support AS 'MODULE_PATHNAME', 'bloom_filter_contains_bigint';
-CREATE FUNCTION status(filter bloom_filter, OUT bits_used bigint, OUT capacity bigint, OUT num_hashes integer, OUT seed numeric,
+CREATE FUNCTION sketch_contains(filter bloom_filter, item text) RETURNS boolean
+    LANGUAGE C IMMUTABLE STRICT PARALLEL SAFE SUPPORT sketch_contains_support AS 'MODULE_PATHNAME', 'bloom_filter_contains_string';
+CREATE FUNCTION sketch_contains(filter bloom_filter, item bigint) RETURNS boolean
+    LANGUAGE C IMMUTABLE STRICT PARALLEL SAFE SUPPORT sketch_contains_support AS 'MODULE_PATHNAME', 'bloom_filter_contains_bigint';
+CREATE FUNCTION sketch_status(filter bloom_filter, OUT bits_used bigint, OUT capacity bigint, OUT num_hashes integer, OUT seed numeric,
     OUT items text)
     LANGUAGE C IMMUTABLE STRICT PARALLEL SAFE AS 'MODULE_PATHNAME', 'bloom_filter_status';
 
@@ -596,7 +596,7 @@ BEGIN
             ('sketch_combine', 'merges two states of an aggregate'),
             ('sketch_serial', 'writes the state of an aggregate for another process'),
             ('sketch_deserial', 'reads the state of an aggregate of another process'),
-            ('contains_support', 'estimates for the planner how many rows a filter keeps'))
+            ('sketch_contains_support', 'estimates for the planner how many rows a filter keeps'))
         SELECT DISTINCT ON (member.classid, member.objid) 'ROUTINE ' || objid::regprocedure AS name, text
         FROM member JOIN pg_proc ON classid = 'pg_proc'::regclass AND objid = pg_proc.oid
             JOIN said ON proname = of OR proname LIKE '%\_' || replace(of, '_', '\_')

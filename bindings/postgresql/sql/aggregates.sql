@@ -13,40 +13,40 @@ ORDER BY f.item;
 SELECT count(*) AS items, bool_and(f.estimate = e.rows) AS exact
 FROM (SELECT frequent_bigints_agg(visitor, 1, 128) AS s FROM visits) AS a, frequent_rows(a.s) AS f
 JOIN (SELECT visitor, count(*) AS rows FROM visits GROUP BY visitor) AS e ON e.visitor = f.item;
-SELECT count(*) AS items, bool_and(estimate(s.counts, page) = e.total) AS exact
+SELECT count(*) AS items, bool_and(sketch_estimate(s.counts, page) = e.total) AS exact
 FROM (SELECT count_min_agg(page, seconds, 5, 1024) AS counts FROM visits) AS s,
     (SELECT page, sum(seconds) AS total FROM visits GROUP BY page) AS e;
-SELECT count(*) AS items, bool_and(estimate(s.counts, visitor) = e.total) AS exact
+SELECT count(*) AS items, bool_and(sketch_estimate(s.counts, visitor) = e.total) AS exact
 FROM (SELECT signed_count_min_agg(visitor, seconds, 5, 4096) AS counts FROM visits) AS s,
     (SELECT visitor, sum(seconds) AS total FROM visits GROUP BY visitor) AS e;
 
 -- An estimate is the least cell of an item. So weights below 0 of other items can only make it less.
-SELECT count(*) AS items, bool_and(estimate(s.counts, visitor) BETWEEN -2100 AND e.total) AS below
+SELECT count(*) AS items, bool_and(sketch_estimate(s.counts, visitor) BETWEEN -2100 AND e.total) AS below
 FROM (SELECT signed_count_min_agg(visitor, -seconds, 5, 4096) AS counts FROM visits) AS s,
     (SELECT visitor, -sum(seconds) AS total FROM visits GROUP BY visitor) AS e;
-SELECT bool_and(contains(s.pages, page)) AS pages, bool_and(contains(s.visitors, visitor)) AS visitors
+SELECT bool_and(sketch_contains(s.pages, page)) AS pages, bool_and(sketch_contains(s.visitors, visitor)) AS visitors
 FROM visits, (SELECT bloom_filter_agg(page, 100, 0.01) AS pages, bloom_filter_agg(visitor, 100, 0.01) AS visitors FROM visits) AS s;
 
 -- Many items: the bounds of each key hold, and differ by at most the error.
 CREATE TABLE many AS SELECT (1000000 / (i + 10))::bigint AS item, 'item ' || 1000000 / (i + 10) AS string, i % 4 AS weight
 FROM generate_series(1, 100000) AS i;
-SELECT bool_and(e.rows BETWEEN lower_bound(s.sketch, e.item) AND upper_bound(s.sketch, e.item)) AS within,
-    bool_and(upper_bound(s.sketch, e.item) - lower_bound(s.sketch, e.item) <= (status(s.sketch)).maximum_error) AS narrow,
-    max((status(s.sketch)).total_weight) AS total
+SELECT bool_and(e.rows BETWEEN sketch_lower_bound(s.sketch, e.item) AND sketch_upper_bound(s.sketch, e.item)) AS within,
+    bool_and(sketch_upper_bound(s.sketch, e.item) - sketch_lower_bound(s.sketch, e.item) <= (sketch_status(s.sketch)).maximum_error) AS narrow,
+    max((sketch_status(s.sketch)).total_weight) AS total
 FROM (SELECT frequent_bigints_agg(item, 1, 256) AS sketch FROM many) AS s,
     (SELECT item, count(*) AS rows FROM many GROUP BY item) AS e;
-SELECT bool_and(e.total BETWEEN lower_bound(s.sketch, e.string) AND upper_bound(s.sketch, e.string)) AS within,
-    bool_and(upper_bound(s.sketch, e.string) - lower_bound(s.sketch, e.string) <= (status(s.sketch)).maximum_error) AS narrow,
-    max((status(s.sketch)).total_weight) AS total
+SELECT bool_and(e.total BETWEEN sketch_lower_bound(s.sketch, e.string) AND sketch_upper_bound(s.sketch, e.string)) AS within,
+    bool_and(sketch_upper_bound(s.sketch, e.string) - sketch_lower_bound(s.sketch, e.string) <= (sketch_status(s.sketch)).maximum_error) AS narrow,
+    max((sketch_status(s.sketch)).total_weight) AS total
 FROM (SELECT frequent_strings_agg(string, weight, 256) AS sketch FROM many) AS s,
     (SELECT string, sum(weight) AS total FROM many GROUP BY string) AS e;
-SELECT bool_and(estimate(s.sketch, e.item) BETWEEN e.total AND 150000) AS above, max((status(s.sketch)).total_weight) AS total
+SELECT bool_and(sketch_estimate(s.sketch, e.item) BETWEEN e.total AND 150000) AS above, max((sketch_status(s.sketch)).total_weight) AS total
 FROM (SELECT count_min_agg(item, weight, 3, 100) AS sketch FROM many) AS s,
     (SELECT item, sum(weight) AS total FROM many GROUP BY item) AS e;
 
 -- Rows whose item or weight is null are ignored. Without rows the result is null.
-SELECT (status(frequent_strings_agg(item))).total_weight AS strings,
-    (status(frequent_strings_agg(item, weight))).total_weight AS weights
+SELECT (sketch_status(frequent_strings_agg(item))).total_weight AS strings,
+    (sketch_status(frequent_strings_agg(item, weight))).total_weight AS weights
 FROM (VALUES ('a', 1), (NULL, 2), ('b', NULL), ('c', 4)) AS v(item, weight);
 SELECT frequent_strings_agg(item) IS NULL AS strings, frequent_bigints_agg(item::bigint) IS NULL AS bigints,
     count_min_agg(item, 1, 3, 64) IS NULL AS counts, signed_count_min_agg(item, 1, 3, 64) IS NULL AS signed_counts,
@@ -55,10 +55,10 @@ FROM (VALUES (NULL::text)) AS v(item);
 SELECT count_min_agg(visitor, 1, 3, 64) IS NULL AS counts FROM visits WHERE false;
 
 -- Groups, filters of rows, and windows.
-SELECT seconds, (status(frequent_bigints_agg(visitor))).total_weight AS rows,
-    (status(frequent_bigints_agg(visitor) FILTER (WHERE visitor < 10))).num_active_items AS below_ten
+SELECT seconds, (sketch_status(frequent_bigints_agg(visitor))).total_weight AS rows,
+    (sketch_status(frequent_bigints_agg(visitor) FILTER (WHERE visitor < 10))).num_active_items AS below_ten
 FROM visits GROUP BY seconds ORDER BY seconds;
-SELECT i, (status(frequent_bigints_agg(i % 2) OVER (ORDER BY i))).total_weight AS so_far FROM generate_series(1, 4) AS i;
+SELECT i, (sketch_status(frequent_bigints_agg(i % 2) OVER (ORDER BY i))).total_weight AS so_far FROM generate_series(1, 4) AS i;
 
 -- Unions of sketches of groups are sketches of all rows.
 SELECT count(*) AS items, bool_and(f.estimate = e.rows) AS exact

@@ -3,12 +3,12 @@
 -- Weights.
 SELECT frequent_strings_agg('a', -1);
 SELECT count_min_agg(1, -1, 3, 64);
-SELECT estimate(signed_count_min_agg(1, -1, 3, 64), 1);
+SELECT sketch_estimate(signed_count_min_agg(1, -1, 3, 64), 1);
 SELECT frequent_bigints_agg(i, 9223372036854775807) FROM generate_series(1, 3) AS i;
 SELECT count_min_agg(i, 9223372036854775807, 3, 64) FROM generate_series(1, 3) AS i;
 SELECT signed_count_min_agg(i, -9223372036854775807, 3, 64) FROM generate_series(1, 2) AS i;
 SELECT signed_count_min_agg(1, (-9223372036854775807) - 1, 3, 64);
-SELECT status(frequent_bigints_agg(i, 9223372036854775807)) FROM generate_series(1, 2) AS i;
+SELECT sketch_status(frequent_bigints_agg(i, 9223372036854775807)) FROM generate_series(1, 2) AS i;
 SELECT frequent_strings_agg('a', 1.5);
 
 -- Images: too short, of another kind, of another version, and with a number of set bits that is wrong.
@@ -32,13 +32,13 @@ SELECT sketch_deserial('\x00', NULL) IS NULL AS is_null;
 -- A sketch compares strings by their bytes.
 CREATE COLLATION same_letters (provider = icu, locale = 'und-u-ks-level1', deterministic = false);
 SELECT frequent_strings_agg('a' COLLATE same_letters);
-SELECT contains(bloom_filter_agg('a', 64, 3), 'A' COLLATE same_letters);
-SELECT estimate(frequent_strings_agg('a' COLLATE "C"), 'a' COLLATE "POSIX");
+SELECT sketch_contains(bloom_filter_agg('a', 64, 3), 'A' COLLATE same_letters);
+SELECT sketch_estimate(frequent_strings_agg('a' COLLATE "C"), 'a' COLLATE "POSIX");
 
 -- An error leaves the function as it was before.
 CREATE FUNCTION tried(filter bloom_filter, item bigint) RETURNS text LANGUAGE plpgsql AS $$
 BEGIN
-    RETURN contains(filter, item);
+    RETURN sketch_contains(filter, item);
 EXCEPTION WHEN SQLSTATE 'SK002' THEN
     RETURN SQLERRM;
 END $$;

@@ -23,7 +23,7 @@ SELECT frequent_strings_agg(string) AS strings, frequent_bigints_agg(number, wei
 FROM facts;
 SELECT p.counts = s.counts AS counts, p.signed_counts = s.signed_counts AS signed_counts, p.filter = s.filter AS filter
 FROM parallel AS p, serial AS s;
-SELECT bool_and(estimate(p.strings, string) = e.rows AND estimate(p.bigints, number) = e.total) AS exact, count(*) AS items
+SELECT bool_and(sketch_estimate(p.strings, string) = e.rows AND sketch_estimate(p.bigints, number) = e.total) AS exact, count(*) AS items
 FROM parallel AS p, (SELECT string, number, count(*) AS rows, sum(weight) AS total FROM facts GROUP BY string, number) AS e;
 
 -- The bounds of each key hold for what workers filled and purged.
@@ -32,8 +32,8 @@ CREATE TABLE spread AS SELECT i * i % (i % 5000 + 1) AS number FROM generate_ser
 ANALYZE spread;
 WITH s AS MATERIALIZED (SELECT frequent_bigints_agg(number, 1, 64) AS sketch FROM spread),
     e AS MATERIALIZED (SELECT number, count(*) AS rows FROM spread GROUP BY number)
-SELECT bool_and(rows BETWEEN lower_bound(sketch, number) AND upper_bound(sketch, number)) AS within,
-    max((status(sketch)).total_weight) AS total, max((status(sketch)).maximum_error) > 0 AS has_error
+SELECT bool_and(rows BETWEEN sketch_lower_bound(sketch, number) AND sketch_upper_bound(sketch, number)) AS within,
+    max((sketch_status(sketch)).total_weight) AS total, max((sketch_status(sketch)).maximum_error) > 0 AS has_error
 FROM s, e;
 
 -- Groups, and unions of stored sketches, in workers.
@@ -43,7 +43,7 @@ FROM spread GROUP BY number % 1000;
 ANALYZE stored;
 EXPLAIN (COSTS off) SELECT bloom_filter_union(filter), frequent_bigints_union(bigints) FROM stored;
 SELECT bloom_filter_union(filter) = (SELECT bloom_filter_agg(number, 5000, 4) FROM spread) AS filter,
-    (status(frequent_bigints_union(bigints))).total_weight
+    (sketch_status(frequent_bigints_union(bigints))).total_weight
 FROM stored;
 
 -- Sizes that differ between rows of workers are an error too.

@@ -6,16 +6,16 @@ SELECT i / 100, frequent_strings_agg('page ' || i % 100), frequent_bigints_agg(i
 FROM generate_series(100, 399) AS i GROUP BY i / 100;
 
 -- Bounds, estimates and rows.
-SELECT day, lower_bound(pages, 'page 7'), estimate(pages, 'page 7'), upper_bound(pages, 'page 7'), bounds(pages, 'no page')
+SELECT day, sketch_lower_bound(pages, 'page 7'), sketch_estimate(pages, 'page 7'), sketch_upper_bound(pages, 'page 7'), sketch_bounds(pages, 'no page')
 FROM days ORDER BY day;
-SELECT day, lower_bound(visitors, 207), estimate(visitors, 207), upper_bound(visitors, 207), bounds(visitors, 207)
+SELECT day, sketch_lower_bound(visitors, 207), sketch_estimate(visitors, 207), sketch_upper_bound(visitors, 207), sketch_bounds(visitors, 207)
 FROM days ORDER BY day;
-SELECT day, (bounds(pages, 'page 7')).*, (bounds(visitors, day * 100)).upper_bound FROM days ORDER BY day;
-SELECT day, estimate(seconds, 'page 7'), upper_bound(seconds, 'page 7') - estimate(seconds, 'page 7') AS margin,
-    floor(2.718281828459045 * (status(seconds)).total_weight / 1024) AS margin_by_formula,
-    estimate(refunds, 207), upper_bound(refunds, 207) >= estimate(refunds, 207) AS above
+SELECT day, (sketch_bounds(pages, 'page 7')).*, (sketch_bounds(visitors, day * 100)).upper_bound FROM days ORDER BY day;
+SELECT day, sketch_estimate(seconds, 'page 7'), sketch_upper_bound(seconds, 'page 7') - sketch_estimate(seconds, 'page 7') AS margin,
+    floor(2.718281828459045 * (sketch_status(seconds)).total_weight / 1024) AS margin_by_formula,
+    sketch_estimate(refunds, 207), sketch_upper_bound(refunds, 207) >= sketch_estimate(refunds, 207) AS above
 FROM days ORDER BY day;
-SELECT day, contains(seen, 107) AS is_first, contains(seen, 207) AS is_second, contains(seen, 307) AS is_third
+SELECT day, sketch_contains(seen, 107) AS is_first, sketch_contains(seen, 207) AS is_second, sketch_contains(seen, 307) AS is_third
 FROM days ORDER BY day;
 
 -- Rows come in descending order of estimates.
@@ -33,30 +33,30 @@ SELECT count(*) FROM frequent_rows(NULL::frequent_strings);
 CREATE TABLE stream AS SELECT (i % (i % 37 + 1))::bigint AS item FROM generate_series(1, 20000) AS i;
 CREATE TABLE small AS SELECT frequent_bigints_agg(item, 1, 16) AS sketch FROM stream;
 CREATE VIEW exact AS SELECT item, count(*) AS rows FROM stream GROUP BY item;
-SELECT (status(sketch)).maximum_error > 0 AS has_error, (status(sketch)).num_active_items <= 12 AS has_few FROM small;
+SELECT (sketch_status(sketch)).maximum_error > 0 AS has_error, (sketch_status(sketch)).num_active_items <= 12 AS has_few FROM small;
 SELECT bool_and(e.item IN (SELECT (frequent_rows(sketch, 'no_false_negatives')).item FROM small)) AS all_found
-FROM exact AS e WHERE e.rows > (SELECT (status(sketch)).maximum_error FROM small);
-SELECT coalesce(bool_and(e.rows > (status(s.sketch)).maximum_error), true) AS all_frequent
+FROM exact AS e WHERE e.rows > (SELECT (sketch_status(sketch)).maximum_error FROM small);
+SELECT coalesce(bool_and(e.rows > (sketch_status(s.sketch)).maximum_error), true) AS all_frequent
 FROM small AS s, frequent_rows(s.sketch, 'no_false_positives') AS f JOIN exact AS e ON e.item = f.item;
 
 -- Status. A filter of 100 items, 10 hashes and 1472 bits has about 1472 * (1 - exp(-1000 / 1472)) = 726 set bits.
-SELECT (status(strings)).*, (status(bigints)).num_active_items FROM words;
-SELECT day, (status(seconds)).*, (status(refunds)).total_weight FROM days ORDER BY day;
-SELECT day, (status(seen)).capacity, (status(seen)).num_hashes, (status(seen)).bits_used BETWEEN 650 AND 800 AS has_bits,
-    (status(seen)).seed, (status(seen)).items FROM days ORDER BY day;
+SELECT (sketch_status(strings)).*, (sketch_status(bigints)).num_active_items FROM words;
+SELECT day, (sketch_status(seconds)).*, (sketch_status(refunds)).total_weight FROM days ORDER BY day;
+SELECT day, (sketch_status(seen)).capacity, (sketch_status(seen)).num_hashes, (sketch_status(seen)).bits_used BETWEEN 650 AND 800 AS has_bits,
+    (sketch_status(seen)).seed, (sketch_status(seen)).items FROM days ORDER BY day;
 
 -- A question has items of the sketch's type.
 \set VERBOSITY sqlstate
-SELECT contains(seen, 'page 7') FROM days;
-SELECT estimate(seconds, 7) FROM days;
-SELECT estimate(refunds, 'page 7') FROM days;
-SELECT estimate(pages, 7) FROM days;
+SELECT sketch_contains(seen, 'page 7') FROM days;
+SELECT sketch_estimate(seconds, 7) FROM days;
+SELECT sketch_estimate(refunds, 'page 7') FROM days;
+SELECT sketch_estimate(pages, 7) FROM days;
 SELECT frequent_rows(strings, 'all') FROM words;
 SELECT frequent_rows(strings, 'no_false_positives', -1) FROM words;
 \set VERBOSITY default
-SELECT contains(bloom_filter_from_image(sketch_image(seen)), 207), contains(bloom_filter_from_image(sketch_image(seen)), '207')
+SELECT sketch_contains(bloom_filter_from_image(sketch_image(seen)), 207), sketch_contains(bloom_filter_from_image(sketch_image(seen)), '207')
 FROM days WHERE day = 2;
-SELECT contains(seen, NULL::bigint) IS NULL AS no_item, contains(NULL, 7) IS NULL AS no_filter FROM days WHERE day = 2;
+SELECT sketch_contains(seen, NULL::bigint) IS NULL AS no_item, sketch_contains(NULL, 7) IS NULL AS no_filter FROM days WHERE day = 2;
 
 -- A function that keeps sketches from row to row uses the sketch of its row: in a nested loop over more sketches than are kept, and
 -- for parameters.
@@ -65,10 +65,10 @@ SELECT part, bloom_filter_agg(i, 20000, 5) AS filter, count_min_agg(i, part + 1,
 FROM generate_series(0, 999) AS i, LATERAL (SELECT i % 40 AS part) AS p GROUP BY part;
 SET enable_hashjoin = off;
 SET enable_mergejoin = off;
-SELECT count(*) AS pairs, bool_and(contains(f.filter, i)) FILTER (WHERE i % 40 = f.part) AS all_found,
-    bool_and(estimate(f.counts, i) >= f.part + 1) FILTER (WHERE i % 40 = f.part) AS all_counted,
-    count(*) FILTER (WHERE contains(f.filter, i) AND i % 40 <> f.part) < 390 AS few_false_positives,
-    count(*) FILTER (WHERE estimate(f.counts, i) > 0 AND i % 40 <> f.part) < 390 AS few_others_counted
+SELECT count(*) AS pairs, bool_and(sketch_contains(f.filter, i)) FILTER (WHERE i % 40 = f.part) AS all_found,
+    bool_and(sketch_estimate(f.counts, i) >= f.part + 1) FILTER (WHERE i % 40 = f.part) AS all_counted,
+    count(*) FILTER (WHERE sketch_contains(f.filter, i) AND i % 40 <> f.part) < 390 AS few_false_positives,
+    count(*) FILTER (WHERE sketch_estimate(f.counts, i) > 0 AND i % 40 <> f.part) < 390 AS few_others_counted
 FROM generate_series(0::bigint, 999) AS i, filters AS f;
 RESET enable_hashjoin;
 RESET enable_mergejoin;
@@ -81,7 +81,7 @@ BEGIN
     FOR round IN 1 .. 3 LOOP
         FOR number, filter IN SELECT f.part, f.filter FROM filters AS f ORDER BY part LOOP
             FOR i IN 0 .. 9 LOOP
-                IF NOT contains(filter, 40 * ((10 * round + i) % 25) + number) THEN wrong := wrong + 1; END IF;
+                IF NOT sketch_contains(filter, 40 * ((10 * round + i) % 25) + number) THEN wrong := wrong + 1; END IF;
             END LOOP;
         END LOOP;
     END LOOP;
@@ -89,4 +89,4 @@ BEGIN
 END $$;
 WITH built AS MATERIALIZED (SELECT bloom_filter_agg(i * 2, 50000, 0.001) AS even FROM generate_series(1, 50000) AS i)
 SELECT count(*) FILTER (WHERE i % 2 = 0) AS even, count(*) FILTER (WHERE i % 2 = 1) < 150 AS few_odd
-FROM generate_series(1, 100000) AS i WHERE contains((SELECT even FROM built), i);
+FROM generate_series(1, 100000) AS i WHERE sketch_contains((SELECT even FROM built), i);

@@ -6,15 +6,15 @@ FROM (VALUES ('low', 1, 60), ('high', 41, 100), ('all', 1, 100)) AS v(name, firs
 GROUP BY name;
 
 -- The union of two sketches.
-SELECT (status(a.strings | b.strings)).total_weight, (status(a.bigints | b.bigints)).num_active_items,
-    estimate(a.strings | b.strings, 'item 50'), estimate(a.bigints | b.bigints, 1), estimate(a.counts | b.counts, 50),
-    estimate(a.signed_counts | b.signed_counts, 50), a.filter | b.filter = c.filter AS is_all,
+SELECT (sketch_status(a.strings | b.strings)).total_weight, (sketch_status(a.bigints | b.bigints)).num_active_items,
+    sketch_estimate(a.strings | b.strings, 'item 50'), sketch_estimate(a.bigints | b.bigints, 1), sketch_estimate(a.counts | b.counts, 50),
+    sketch_estimate(a.signed_counts | b.signed_counts, 50), a.filter | b.filter = c.filter AS is_all,
     sketch_union(a.filter, b.filter) = a.filter | b.filter AS is_union
 FROM sets AS a, sets AS b, sets AS c WHERE a.name = 'low' AND b.name = 'high' AND c.name = 'all';
 
 -- The intersection of two filters contains what both contain.
-SELECT bool_and(contains(a.filter & b.filter, i)) AS contained,
-    bool_and(contains(sketch_intersection(a.filter, b.filter), i)) AS by_name
+SELECT bool_and(sketch_contains(a.filter & b.filter, i)) AS contained,
+    bool_and(sketch_contains(sketch_intersection(a.filter, b.filter), i)) AS by_name
 FROM sets AS a, sets AS b, generate_series(41, 60) AS i WHERE a.name = 'low' AND b.name = 'high';
 
 -- Filters and counts are equal if their states are.
@@ -30,11 +30,11 @@ FROM sets;
 SELECT a.name, b.name FROM sets AS a JOIN sets AS b ON a.filter = b.filter AND a.name < b.name ORDER BY a.name;
 
 -- A union of filters of strings and of bigints has both. Their intersection has neither.
-SELECT (status(strings | bigints)).items, contains(strings | bigints, 'a') AS string, contains(strings | bigints, 2) AS bigint,
-    (status((strings | bigints) & strings)).items AS intersection
+SELECT (sketch_status(strings | bigints)).items, sketch_contains(strings | bigints, 'a') AS string, sketch_contains(strings | bigints, 2) AS bigint,
+    (sketch_status((strings | bigints) & strings)).items AS intersection
 FROM (SELECT bloom_filter_agg(string, 1000, 5) AS strings, bloom_filter_agg(number, 1000, 5) AS bigints
     FROM (VALUES ('a', 1), ('b', 2)) AS v(string, number)) AS f;
-SELECT (status(strings | bigints)).items, (status(strings | bigints)).total_weight
+SELECT (sketch_status(strings | bigints)).items, (sketch_status(strings | bigints)).total_weight
 FROM (SELECT count_min_agg(string, 1, 3, 64) AS strings, count_min_agg(number, 1, 3, 64) AS bigints
     FROM (VALUES ('a', 1), ('b', 2)) AS v(string, number)) AS f;
 

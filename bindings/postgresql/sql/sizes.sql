@@ -1,26 +1,26 @@
 -- Sizes from an error target are those of the other interfaces.
-SELECT (status(bloom_filter_agg(i, 1000000, 0.01))).capacity, (status(bloom_filter_agg(i, 1000000, 0.01))).num_hashes
+SELECT (sketch_status(bloom_filter_agg(i, 1000000, 0.01))).capacity, (sketch_status(bloom_filter_agg(i, 1000000, 0.01))).num_hashes
 FROM generate_series(1, 2) AS i;
-SELECT (status(bloom_filter_agg('key ' || i, 1000, 0.01))).capacity FROM generate_series(1, 2) AS i;
-SELECT (status(count_min_agg(i, 1, 0.001, 0.98))).num_buckets, (status(count_min_agg(i, 1, 0.001, 0.98))).num_hashes
+SELECT (sketch_status(bloom_filter_agg('key ' || i, 1000, 0.01))).capacity FROM generate_series(1, 2) AS i;
+SELECT (sketch_status(count_min_agg(i, 1, 0.001, 0.98))).num_buckets, (sketch_status(count_min_agg(i, 1, 0.001, 0.98))).num_hashes
 FROM generate_series(1, 2) AS i;
-SELECT (status(signed_count_min_agg('key ' || i, 1, 0.001, 0.98))).num_buckets,
-    (status(signed_count_min_agg('key ' || i, 1, 0.001, 0.98))).num_hashes
+SELECT (sketch_status(signed_count_min_agg('key ' || i, 1, 0.001, 0.98))).num_buckets,
+    (sketch_status(signed_count_min_agg('key ' || i, 1, 0.001, 0.98))).num_hashes
 FROM generate_series(1, 2) AS i;
-SELECT (status(frequent_strings_agg('key ' || i, 1, 0.01))).max_map_size AS strings,
-    (status(frequent_bigints_agg(i, 1, 0.01))).max_map_size AS bigints
+SELECT (sketch_status(frequent_strings_agg('key ' || i, 1, 0.01))).max_map_size AS strings,
+    (sketch_status(frequent_bigints_agg(i, 1, 0.01))).max_map_size AS bigints
 FROM generate_series(1, 2) AS i;
 
 -- The error is within its target.
 CREATE TABLE skewed AS SELECT (i * i) % (i % 1000 + 1) AS item FROM generate_series(1::bigint, 50000) AS i;
-SELECT (status(frequent_bigints_agg(item, 1, 0.01))).maximum_error <= 0.01 * count(*) AS within FROM skewed;
+SELECT (sketch_status(frequent_bigints_agg(item, 1, 0.01))).maximum_error <= 0.01 * count(*) AS within FROM skewed;
 SELECT count(*) < 0.02 * 10000 AS few_false_positives
 FROM generate_series(100001::bigint, 110000) AS i
-WHERE contains((SELECT bloom_filter_agg(j, 10000, 0.01) FROM generate_series(1::bigint, 10000) AS j), i);
+WHERE sketch_contains((SELECT bloom_filter_agg(j, 10000, 0.01) FROM generate_series(1::bigint, 10000) AS j), i);
 
 -- By default frequent items have 1024 slots.
-SELECT (status(frequent_strings_agg('a'))).max_map_size, (status(frequent_bigints_agg(1))).maximum_map_capacity;
-SELECT (status(frequent_strings_agg('a', 1, 8))).max_map_size, (status(frequent_bigints_agg(1, 1, 65536))).maximum_map_capacity;
+SELECT (sketch_status(frequent_strings_agg('a'))).max_map_size, (sketch_status(frequent_bigints_agg(1))).maximum_map_capacity;
+SELECT (sketch_status(frequent_strings_agg('a', 1, 8))).max_map_size, (sketch_status(frequent_bigints_agg(1, 1, 65536))).maximum_map_capacity;
 
 -- Sizes are checked.
 \set VERBOSITY sqlstate
@@ -52,33 +52,33 @@ SELECT count_min_agg(i, 1, 3, 64 + i) FROM generate_series(1, 2) AS i;
 SELECT signed_count_min_agg(i, 1, 3 + i, 64) FROM generate_series(1, 2) AS i;
 SELECT bloom_filter_agg(i, 1000, 0.1 / i) FROM generate_series(1, 2) AS i;
 SELECT bloom_filter_agg(i, CASE i WHEN 1 THEN 64 END, 3) FROM generate_series(1, 2) AS i;
-SELECT i, (status(bloom_filter_agg(i, 64 * i, 3))).capacity FROM generate_series(1, 2) AS i GROUP BY i ORDER BY i;
+SELECT i, (sketch_status(bloom_filter_agg(i, 64 * i, 3))).capacity FROM generate_series(1, 2) AS i GROUP BY i ORDER BY i;
 
 -- A sketch is within the limits, with its strings.
 SET sketches_rattle.max_image_bytes = '64kB';
 SELECT bloom_filter_agg(1, 1000000, 3);
 SELECT count_min_agg(1, 1, 5, 10000);
 SELECT frequent_bigints_agg(1, 1, 4096);
-SELECT (status(frequent_strings_agg(repeat('x', 1000) || i))).num_active_items FROM generate_series(1, 10) AS i;
+SELECT (sketch_status(frequent_strings_agg(repeat('x', 1000) || i))).num_active_items FROM generate_series(1, 10) AS i;
 SELECT frequent_strings_agg(repeat('x', 1000) || i) FROM generate_series(1, 100) AS i;
-SELECT (status(frequent_strings_agg(repeat('x', 1000) || i % 3))).num_active_items FROM generate_series(1, 1000) AS i;
+SELECT (sketch_status(frequent_strings_agg(repeat('x', 1000) || i % 3))).num_active_items FROM generate_series(1, 1000) AS i;
 RESET sketches_rattle.max_image_bytes;
 CREATE TABLE long AS SELECT frequent_strings_agg(repeat('x', 1000) || i) AS strings, bloom_filter_agg(i, 1000000, 3) AS filter
 FROM generate_series(1, 100) AS i;
-SELECT (status(strings)).num_active_items, contains(filter, 7) FROM long;
+SELECT (sketch_status(strings)).num_active_items, sketch_contains(filter, 7) FROM long;
 SET sketches_rattle.max_image_bytes = '64kB';
-SELECT status(strings) FROM long;
+SELECT sketch_status(strings) FROM long;
 SELECT strings::text::frequent_strings FROM long;
 SELECT frequent_strings_from_image(sketch_image(strings)) FROM long;
 SELECT filter | filter FROM long;
 RESET sketches_rattle.max_image_bytes;
-SELECT (status(frequent_bigints_agg(1, 1, 262144))).max_map_size;
+SELECT (sketch_status(frequent_bigints_agg(1, 1, 262144))).max_map_size;
 SELECT frequent_bigints_agg(1, 1, 524288);
 SET sketches_rattle.max_frequent_bytes = '16MB';
-SELECT (status(frequent_bigints_agg(1, 1, 524288))).max_map_size;
+SELECT (sketch_status(frequent_bigints_agg(1, 1, 524288))).max_map_size;
 SET sketches_rattle.max_frequent_bytes = '64kB';
-SELECT status(strings) FROM long;
-SELECT contains(filter | filter, 7) FROM long;
+SELECT sketch_status(strings) FROM long;
+SELECT sketch_contains(filter | filter, 7) FROM long;
 RESET sketches_rattle.max_frequent_bytes;
 SET sketches_rattle.max_image_bytes = 0;
 SET sketches_rattle.max_image_bytes = '2GB';

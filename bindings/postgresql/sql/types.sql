@@ -33,20 +33,20 @@ SELECT sketch_image(strings) = substr(strings::bytea, 13) AND sketch_image(bigin
     AND sketch_image(counts) = substr(counts::bytea, 13) AND sketch_image(signed_counts) = substr(signed_counts::bytea, 13)
     AND sketch_image(filter) = substr(filter::bytea, 13) AS are_images
 FROM sketches;
-SELECT bounds(frequent_strings_from_image(sketch_image(strings)), 'item 3') AS strings,
-    bounds(frequent_bigints_from_image(sketch_image(bigints)), 3) AS bigints,
+SELECT sketch_bounds(frequent_strings_from_image(sketch_image(strings)), 'item 3') AS strings,
+    sketch_bounds(frequent_bigints_from_image(sketch_image(bigints)), 3) AS bigints,
     count_min_from_image(sketch_image(counts)) = counts AS counts,
     signed_count_min_from_image(sketch_image(signed_counts)) = signed_counts AS signed_counts,
     bloom_filter_from_image(sketch_image(filter)) = filter AS filter
 FROM sketches;
 
 -- The image of a filter or of counts does not say the type of its items.
-SELECT (status(counts)).items, (status(count_min_from_image(sketch_image(counts)))).items,
-    (status(signed_counts)).items, (status(filter)).items, (status(bloom_filter_from_image(sketch_image(filter)))).items
+SELECT (sketch_status(counts)).items, (sketch_status(count_min_from_image(sketch_image(counts)))).items,
+    (sketch_status(signed_counts)).items, (sketch_status(filter)).items, (sketch_status(bloom_filter_from_image(sketch_image(filter)))).items
 FROM sketches;
 
 -- An image that was written by hand: 3 longs, version 1, family 21, empty, 3 hashes, seed 9001, 1 word.
-SELECT status(bloom_filter_from_image('\x030115040300000029230000000000000100000000000000'));
+SELECT sketch_status(bloom_filter_from_image('\x030115040300000029230000000000000100000000000000'));
 
 -- A sketch is of one type only.
 \set VERBOSITY sqlstate

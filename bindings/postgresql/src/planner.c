@@ -1,4 +1,4 @@
-/* The planner's estimate of the rows that pass `contains(filter, item)`.
+/* The planner's estimate of the rows that pass `sketch_contains(filter, item)`.
  *
  * If the filter is known when the query is planned, `contains` is evaluated for the most common values of the item's column and
  * for the values of its histogram. If there are too few, the filter's number of items is compared with the column's distinct

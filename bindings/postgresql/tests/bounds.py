@@ -41,21 +41,21 @@ def launched(plan):
 
 def frequent(tests, ask, run, sketches, name, item, weight):
     """Checks the clauses of `docs/GUARANTEES.md` for a sketch of frequent items."""
-    status = ask(f"SELECT (status({name})).* FROM {sketches}")[0]
+    status = ask(f"SELECT (sketch_status({name})).* FROM {sketches}")[0]
     total, error, active, capacity, _, size = status
     exact = ask(f"SELECT sum({weight}), count(*) FROM exact")[0]
     tests.check(f"{run}, {name}: the total", total == exact[0], status)
     tests.check(f"{run}, {name}: its size", active <= capacity == size * 3 // 4, status)
     tests.check(f"{run}, {name}: its error", 3 * size * error <= 8 * total if size <= 1024 else 512 * error <= total, status)
     tests.check(f"{run}, {name}: exact if all items fit", (error == 0) == (exact[1] <= capacity), (status, exact))
-    wrong = ask(f"""SELECT count(*) FROM {sketches} AS s, exact AS e, bounds(s.{name}, e.{item}) AS b
+    wrong = ask(f"""SELECT count(*) FROM {sketches} AS s, exact AS e, sketch_bounds(s.{name}, e.{item}) AS b
         WHERE NOT (b.lower_bound <= e.{weight} AND e.{weight} <= b.upper_bound
             AND b.estimate BETWEEN b.lower_bound AND b.upper_bound AND b.upper_bound = b.lower_bound + {error}
-            AND lower_bound(s.{name}, e.{item}) = b.lower_bound
-            AND upper_bound(s.{name}, e.{item}) = b.upper_bound AND estimate(s.{name}, e.{item}) = b.estimate)""")[0][0]
+            AND sketch_lower_bound(s.{name}, e.{item}) = b.lower_bound
+            AND sketch_upper_bound(s.{name}, e.{item}) = b.upper_bound AND sketch_estimate(s.{name}, e.{item}) = b.estimate)""")[0][0]
     tests.check(f"{run}, {name}: the bounds enclose each weight", wrong == 0, wrong)
     missed = "'none'" if item == "string" else "-1"
-    none = ask(f"SELECT (bounds({name}, {missed})).* FROM {sketches}")[0]
+    none = ask(f"SELECT (sketch_bounds({name}, {missed})).* FROM {sketches}")[0]
     tests.check(f"{run}, {name}: an item that never came", none[0] == 0 and none[2] <= error, none)
     for threshold in [0, total // 1000, total // 50]:
         rows = f"FROM {sketches} AS s, LATERAL frequent_rows(s.{name}, '%s', {threshold}) AS f"
@@ -73,19 +73,19 @@ def compare(tests, ask, run, sketches):
         frequent(tests, ask, run, sketches, name, item, weight)
     total, keys = ask("SELECT sum(weight), count(*) FROM exact")[0]
     for name, item in COUNTS:
-        below, above, far = ask(f"""SELECT count(*) FILTER (WHERE estimate(s.{name}, e.{item}) < e.weight),
-                count(*) FILTER (WHERE estimate(s.{name}, e.{item}) > {total}),
-                count(*) FILTER (WHERE estimate(s.{name}, e.{item}) - e.weight > {total} * exp(1.0) / 500)
+        below, above, far = ask(f"""SELECT count(*) FILTER (WHERE sketch_estimate(s.{name}, e.{item}) < e.weight),
+                count(*) FILTER (WHERE sketch_estimate(s.{name}, e.{item}) > {total}),
+                count(*) FILTER (WHERE sketch_estimate(s.{name}, e.{item}) - e.weight > {total} * exp(1.0) / 500)
             FROM {sketches} AS s, exact AS e""")[0]
         tests.check(f"{run}, {name}: own weight <= estimate <= total", (below, above) == (0, 0), (below, above))
         tests.check(f"{run}, {name}: few estimates are far above", far <= 2 * keys * 0.0184, (far, keys))
     nothing = ask(f"SELECT count(*) FROM {sketches} AS s, exact AS e WHERE e.number < 300 "
-                  "AND estimate(s.signed_bigints | s.minus_bigints, e.number) <> 0")[0][0]
+                  "AND sketch_estimate(s.signed_bigints | s.minus_bigints, e.number) <> 0")[0][0]
     tests.check(f"{run}: weights and their negatives cancel", nothing == 0, nothing)
     for name, item in FILTERS:
         absent = "'no ' || i" if item == "string" else "-i"
-        missed, false = ask(f"""SELECT (SELECT count(*) FROM exact AS e WHERE NOT contains(s.{name}, e.{item})),
-            (SELECT count(*) FROM generate_series(1, 20000) AS i WHERE contains(s.{name}, {absent})) FROM {sketches} AS s""")[0]
+        missed, false = ask(f"""SELECT (SELECT count(*) FROM exact AS e WHERE NOT sketch_contains(s.{name}, e.{item})),
+            (SELECT count(*) FROM generate_series(1, 20000) AS i WHERE sketch_contains(s.{name}, {absent})) FROM {sketches} AS s""")[0]
         tests.check(f"{run}, {name}: no item is missed", missed == 0, missed)
         tests.check(f"{run}, {name}: few false positives", false <= 20000 * 0.02, false)
 
@@ -138,8 +138,8 @@ def unlike_sizes(tests, ask):
     for item, small, large in [("string", "strings_64", "strings_4096"), ("number", "bigints_64", "bigints_65536")]:
         for name, union, size in [("small first", f"{small} | {large}", 64), ("large first", f"{large} | {small}", None)]:
             total, error, sized, wrong = ask(f"""
-                SELECT (status(s)).total_weight, (status(s)).maximum_error, (status(s)).max_map_size,
-                    count(*) FILTER (WHERE NOT 2 * weight BETWEEN lower_bound(s, {item}) AND upper_bound(s, {item}))
+                SELECT (sketch_status(s)).total_weight, (sketch_status(s)).maximum_error, (sketch_status(s)).max_map_size,
+                    count(*) FILTER (WHERE NOT 2 * weight BETWEEN sketch_lower_bound(s, {item}) AND sketch_upper_bound(s, {item}))
                 FROM (SELECT {union} AS s FROM sketches_serial OFFSET 0) AS merged, exact GROUP BY 1, 2, 3""")[0]
             first = large if size is None else small
             tests.check(f"unlike sizes of {item}, {name}: bounds", wrong == 0, wrong)
@@ -158,11 +158,11 @@ def groups(tests, ask, cursor):
         table = "groups_" + run.replace(" ", "_")
         cursor.execute(f"{settings}; {query.format(table)}")
         cursor.execute("RESET enable_sort; RESET enable_hashagg; RESET work_mem")
-        found = ask(f"""SELECT count(DISTINCT g), count(*), count(*) FILTER (WHERE NOT e.weight BETWEEN lower_bound(bigints, number)
-                    AND upper_bound(bigints, number)), count(*) FILTER (WHERE NOT e.weight BETWEEN lower_bound(strings, string)
-                    AND upper_bound(strings, string)), count(*) FILTER (WHERE estimate(counts, number) < e.weight),
-                count(*) FILTER (WHERE NOT contains(filter, string)) FROM {table} JOIN exact AS e ON g = number % 1000""")[0]
+        found = ask(f"""SELECT count(DISTINCT g), count(*), count(*) FILTER (WHERE NOT e.weight BETWEEN sketch_lower_bound(bigints, number)
+                    AND sketch_upper_bound(bigints, number)), count(*) FILTER (WHERE NOT e.weight BETWEEN sketch_lower_bound(strings, string)
+                    AND sketch_upper_bound(strings, string)), count(*) FILTER (WHERE sketch_estimate(counts, number) < e.weight),
+                count(*) FILTER (WHERE NOT sketch_contains(filter, string)) FROM {table} JOIN exact AS e ON g = number % 1000""")[0]
         keys = ask("SELECT count(DISTINCT number % 1000), count(*) FROM exact")[0]
         tests.check(f"groups {run}: bounds of each key", found == (*keys, 0, 0, 0, 0), (found, keys))
-        totals = ask(f"SELECT sum((status(bigints)).total_weight) = (SELECT sum(weight) FROM exact) FROM {table}")[0][0]
+        totals = ask(f"SELECT sum((sketch_status(bigints)).total_weight) = (SELECT sum(weight) FROM exact) FROM {table}")[0][0]
         tests.check(f"groups {run}: totals", totals is True)

@@ -8,8 +8,8 @@ SHORT = {"frequent_strings": "frequent_strings_agg('item ' || j, j, 64)", "frequ
          "count_min": "count_min_agg(j, j, 2, 16)", "signed_count_min": "signed_count_min_agg('item ' || j, -j, 2, 16)",
          "bloom_filter": "bloom_filter_agg(j, 2048, 5)"}
 # What makes a query read the sketch itself.
-READS = {"frequent_strings": "lower_bound(sketch, 'a')", "frequent_bigints": "lower_bound(sketch, 1)",
-         "count_min": "(status(sketch)).items", "signed_count_min": "estimate(sketch, 'a')", "bloom_filter": "contains(sketch, 1)"}
+READS = {"frequent_strings": "sketch_lower_bound(sketch, 'a')", "frequent_bigints": "sketch_lower_bound(sketch, 1)",
+         "count_min": "(sketch_status(sketch)).items", "signed_count_min": "sketch_estimate(sketch, 'a')", "bloom_filter": "sketch_contains(sketch, 1)"}
 
 
 def damaged_bytes(tests):
@@ -55,7 +55,7 @@ def damaged_bytes(tests):
                 tests.check(f"damaged {name}: another version", "version" in message, message)
             tests.check("filters stored apart are damaged", len(apart) > 10, len(apart))
             for number in range(1, 61):
-                code = code_of(cursor, f"SELECT contains(sketch, {number * 10000 + 7}) FROM apart WHERE id = {number}")
+                code = code_of(cursor, f"SELECT sketch_contains(sketch, {number * 10000 + 7}) FROM apart WHERE id = {number}")
                 wanted = "XX001" if number in apart else None
                 tests.check(f"a filter stored apart, row {number}", code == wanted, code)
         tests.check("the server ran on", "was terminated by signal" not in on.log(), on.log()[-2000:])

@@ -31,11 +31,11 @@ LONG = {
     "unions of strings": "SELECT frequent_strings_union(strings) FROM many, generate_series(1, 100000)",
     "unions of filters": "SELECT bloom_filter_union(filter) FROM many, generate_series(1, 100000)",
     "unions of two": "SELECT count(a.bigints | b.bigints) FROM many AS a, many AS b",
-    "queries": "SELECT count(*) FROM many, generate_series(1::bigint, 1000000) AS i WHERE contains(filter, i)",
+    "queries": "SELECT count(*) FROM many, generate_series(1::bigint, 1000000) AS i WHERE sketch_contains(filter, i)",
     "reports": "SELECT count(*) FROM many, generate_series(1, 100000), frequent_rows(strings)",
     "workers": "SELECT frequent_strings_agg(string || j, 1, 65536) FROM rows, generate_series(1, 1000) AS j",
 }
-ANSWER = "SELECT (status(frequent_strings_agg(string))).total_weight FROM rows"
+ANSWER = "SELECT (sketch_status(frequent_strings_agg(string))).total_weight FROM rows"
 WORKERS = {"max_parallel_workers_per_gather": 3, "parallel_setup_cost": 0, "parallel_tuple_cost": 0,
            "min_parallel_table_scan_size": 0}
 
@@ -180,14 +180,14 @@ def out_of_memory(tests):
     statements = {
         "a filter": "SELECT length(sketch_image(bloom_filter_agg(i, 160000000, 5))) FROM generate_series(1::bigint, 9) AS i",
         "counts": "SELECT length(sketch_image(count_min_agg(i, 1, 5, 500000))) FROM generate_series(1::bigint, 9) AS i",
-        "frequent bigints": "SELECT (status(frequent_bigints_agg(i, 1, 1048576))).total_weight FROM rows",
-        "frequent strings": "SELECT (status(frequent_strings_agg(string || 'long' || i, 1, 262144))).total_weight "
+        "frequent bigints": "SELECT (sketch_status(frequent_bigints_agg(i, 1, 1048576))).total_weight FROM rows",
+        "frequent strings": "SELECT (sketch_status(frequent_strings_agg(string || 'long' || i, 1, 262144))).total_weight "
                             "FROM rows WHERE i <= 100000",
-        "a union": "SELECT status(bloom_filter_union(filter)) FROM large",
-        "a union of two": "SELECT status(filter | filter) FROM large",
+        "a union": "SELECT sketch_status(bloom_filter_union(filter)) FROM large",
+        "a union of two": "SELECT sketch_status(filter | filter) FROM large",
         "a text": "SELECT length(filter::text) FROM large",
-        "a sketch of a text": "SELECT status(filter::text::bloom_filter) FROM large",
-        "a query": "SELECT count(*) FROM large WHERE contains(filter, 7::bigint)",
+        "a sketch of a text": "SELECT sketch_status(filter::text::bloom_filter) FROM large",
+        "a query": "SELECT count(*) FROM large WHERE sketch_contains(filter, 7::bigint)",
     }
     with tests.main.session() as session, session.cursor() as cursor:
         cursor.execute("CREATE TABLE large AS SELECT bloom_filter_agg(i, 160000000, 5) AS filter "
@@ -198,7 +198,7 @@ def out_of_memory(tests):
             cursor.execute(statement)
             wanted = cursor.fetchall()
         with tests.main.session(**settings) as session, session.cursor() as cursor:
-            cursor.execute("SELECT pg_backend_pid(), estimate(count_min_agg(1, 1, 1, 9), 1)")
+            cursor.execute("SELECT pg_backend_pid(), sketch_estimate(count_min_agg(1, 1, 1, 9), 1)")
             process = cursor.fetchone()[0]
             codes, answers = [], []
             for room in [1, 4, 8, 12, 16, 20, 24, 32, 40, 48, 64, 100, 200, 400]:

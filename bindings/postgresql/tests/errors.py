@@ -10,7 +10,7 @@ ZERO_BYTE = ("04010a0303000000" "0100000000000000" "0500000000000000" "000000000
 # A statement for each error of the page but those that other files of tests cause.
 ERRORS = {
     "SK001": "SELECT filter::bytea::count_min FROM one",
-    "SK002": "SELECT contains(filter, 7) FROM one",
+    "SK002": "SELECT sketch_contains(filter, 7) FROM one",
     "SK003": "SELECT bloom_filter_agg(i, 64 * i, 3) FROM generate_series(1, 2) AS i",
     "SK016": "SELECT filter | bloom_filter_agg('b', 128, 3) FROM one GROUP BY filter::text, filter",
     "SK022": "SELECT bloom_filter_from_image('')",

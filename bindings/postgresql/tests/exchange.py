@@ -39,10 +39,10 @@ def interfaces(tests):
 
         def answers(table):
             """Returns what SQL answers for 200 items, of which half were added."""
-            cursor.execute(f"""SELECT i, lower_bound(strings, 'item-' || i), upper_bound(strings, 'item-' || i),
-                lower_bound(bigints, i), upper_bound(bigints, i), estimate(counts, 'item-' || i), estimate(signed_counts, i),
-                contains(filter, i)::integer,
-                estimate(signed_strings, 'item-' || i), contains(filter_strings, 'item-' || i)::integer
+            cursor.execute(f"""SELECT i, sketch_lower_bound(strings, 'item-' || i), sketch_upper_bound(strings, 'item-' || i),
+                sketch_lower_bound(bigints, i), sketch_upper_bound(bigints, i), sketch_estimate(counts, 'item-' || i), sketch_estimate(signed_counts, i),
+                sketch_contains(filter, i)::integer,
+                sketch_estimate(signed_strings, 'item-' || i), sketch_contains(filter_strings, 'item-' || i)::integer
                 FROM {table}, generate_series(0::bigint, 199) AS i ORDER BY i""")
             return cursor.fetchall()
 
@@ -61,7 +61,7 @@ def interfaces(tests):
             for column, low, high in [("strings", 1, 2), ("bigints", 3, 4)]:
                 within = all(row[low] <= weight <= row[high] for row, weight in zip(rows, weights))
                 tests.check(f"{name}: bounds of {column}", within)
-                cursor.execute(f"SELECT (status({column})).total_weight, (status({column})).max_map_size FROM {name}")
+                cursor.execute(f"SELECT (sketch_status({column})).total_weight, (sketch_status({column})).max_map_size FROM {name}")
                 tests.check(f"{name}: the status of {column}", cursor.fetchone() == (5050, 64))
             return rows
 

@@ -128,25 +128,25 @@ SKETCHES = {name: stored(name, 1 if name in OF_STRINGS else 2, image) for name, 
 # Queries of each sketch, for which {} stands, and their rows.
 QUERIES = {
     "frequent_strings": [
-        ("(status({})).*", (12, 2, 3, 768, 6, 1024)),
-        ("(bounds({}, 'ab')).*", (5, 7, 7)), ("(bounds({}, 'é€😀')).*", (3, 5, 5)), ("(bounds({}, '')).*", (1, 3, 3)),
-        ("(bounds({}, 'b')).*", (0, 0, 2)),
+        ("(sketch_status({})).*", (12, 2, 3, 768, 6, 1024)),
+        ("(sketch_bounds({}, 'ab')).*", (5, 7, 7)), ("(sketch_bounds({}, 'é€😀')).*", (3, 5, 5)), ("(sketch_bounds({}, '')).*", (1, 3, 3)),
+        ("(sketch_bounds({}, 'b')).*", (0, 0, 2)),
     ],
     "frequent_bigints": [
-        ("(status({})).*", (9, 0, 2, 768, 6, 1024)),
-        ("(bounds({}, -7)).*", (5, 5, 5)), ("(bounds({}, 4611686018427387904)).*", (4, 4, 4)), ("(bounds({}, 0)).*", (0, 0, 0)),
+        ("(sketch_status({})).*", (9, 0, 2, 768, 6, 1024)),
+        ("(sketch_bounds({}, -7)).*", (5, 5, 5)), ("(sketch_bounds({}, 4611686018427387904)).*", (4, 4, 4)), ("(sketch_bounds({}, 0)).*", (0, 0, 0)),
     ],
     "count_min": [
-        ("(status({})).*", (9, 3, 97, "strings")),
-        ("estimate({0}, 'ab'), estimate({0}, 'é€😀'), estimate({0}, ''), estimate({0}, 'b')", (5, 3, 1, 0)),
+        ("(sketch_status({})).*", (9, 3, 97, "strings")),
+        ("sketch_estimate({0}, 'ab'), sketch_estimate({0}, 'é€😀'), sketch_estimate({0}, ''), sketch_estimate({0}, 'b')", (5, 3, 1, 0)),
     ],
     "signed_count_min": [
-        ("(status({})).*", (9, 3, 97, "bigints")),
-        ("estimate({0}, -7), estimate({0}, 4611686018427387904), estimate({0}, 0)", (5, -4, 0)),
+        ("(sketch_status({})).*", (9, 3, 97, "bigints")),
+        ("sketch_estimate({0}, -7), sketch_estimate({0}, 4611686018427387904), sketch_estimate({0}, 0)", (5, -4, 0)),
     ],
     "bloom_filter": [
-        ("contains({0}, 'ab'), contains({0}, 'é€😀'), contains({0}, ''), contains({0}, 'b')", (True, True, True, False)),
-        ("(status({0})).capacity, (status({0})).num_hashes, (status({0})).seed, (status({0})).items", (1280, 5, 9001, "strings")),
+        ("sketch_contains({0}, 'ab'), sketch_contains({0}, 'é€😀'), sketch_contains({0}, ''), sketch_contains({0}, 'b')", (True, True, True, False)),
+        ("(sketch_status({0})).capacity, (sketch_status({0})).num_hashes, (sketch_status({0})).seed, (sketch_status({0})).items", (1280, 5, 9001, "strings")),
     ],
 }
 

@@ -16,9 +16,9 @@ CALLS = ["SELECT frequent_strings_agg(x) FROM {table}", "SELECT frequent_strings
          "SELECT bloom_filter_agg(x, 640, 5) FROM {table}", "SELECT bloom_filter_agg(x, 640, 5) OVER () FROM {table}",
          "SELECT bloom_filter_agg(x, 640, 5 ORDER BY x) FROM {table}",
          "SELECT bloom_filter_agg(x, 640, 5) FILTER (WHERE x IS NOT NULL) FROM {table} GROUP BY x",
-         "SELECT contains((SELECT bloom_filter_agg('good', 640, 5)), x) FROM {table}",
-         "SELECT estimate((SELECT count_min_agg('good', 1, 3, 50)), x) FROM {table}",
-         "SELECT bounds((SELECT frequent_strings_agg('good')), x) FROM {table}"]
+         "SELECT sketch_contains((SELECT bloom_filter_agg('good', 640, 5)), x) FROM {table}",
+         "SELECT sketch_estimate((SELECT count_min_agg('good', 1, 3, 50)), x) FROM {table}",
+         "SELECT sketch_bounds((SELECT frequent_strings_agg('good')), x) FROM {table}"]
 
 
 def types(tests):

@@ -26,7 +26,7 @@ def small_images(tests):
                        f"CREATE TEMP TABLE short AS SELECT bloom_filter_from_image('\\x{image}') AS filter FROM generate_series(1, 64)")
         cursor.execute("SELECT max(length(filter::bytea)) FROM short")
         tests.check("the rows are short", cursor.fetchone()[0] < 64)
-        error = error_of(cursor, "SELECT status(bloom_filter_union(filter)) FROM short")
+        error = error_of(cursor, "SELECT sketch_status(bloom_filter_union(filter)) FROM short")
         tests.check("a union of short rows takes the memory of few of them", error is None, error)
 
 
@@ -35,7 +35,7 @@ def kept_by_use(tests):
     with tests.main.session() as session, session.cursor() as cursor:
         cursor.execute("CREATE TEMP TABLE large AS SELECT j, frequent_bigints_agg(i * 6 + j, 1, 131072) AS sketch "
                        "FROM generate_series(0::bigint, 5) AS j, generate_series(1::bigint, 90000) AS i GROUP BY j")
-        asked = ("SELECT sum((SELECT sum(estimate(sketch, k)) FROM large)) FROM generate_series(1::bigint, 300) AS k")
+        asked = ("SELECT sum((SELECT sum(sketch_estimate(sketch, k)) FROM large)) FROM generate_series(1::bigint, 300) AS k")
         seconds = {}
         for memory in ("4MB", "64MB"):
             cursor.execute(f"SET work_mem = '{memory}'")
@@ -53,7 +53,7 @@ def planned(tests):
                        "CREATE TEMP TABLE keys AS SELECT i FROM generate_series(1::bigint, 1000) AS i; ANALYZE keys;"
                        "CREATE FUNCTION pg_temp.made() RETURNS bloom_filter LANGUAGE plpgsql VOLATILE AS "
                        "$$ BEGIN RETURN (SELECT filter FROM one); END $$;"
-                       "PREPARE asked (bloom_filter) AS SELECT FROM keys WHERE contains($1, i); SET plan_cache_mode = force_custom_plan")
+                       "PREPARE asked (bloom_filter) AS SELECT FROM keys WHERE sketch_contains($1, i); SET plan_cache_mode = force_custom_plan")
 
         def rows():
             cursor.execute("EXPLAIN (COSTS ON) EXECUTE asked(pg_temp.made())")
@@ -78,7 +78,7 @@ def administrators(tests):
             tests.check(f"a user cannot set {setting}", code == "42501", code)
         cursor.execute("SET sketches_rattle.max_image_bytes = '1GB'; SET sketches_rattle.max_frequent_bytes = '1GB'")
         for statement in (LARGE.format(bits=5 * 8 * MB), "frequent_bigints_agg(1, 1, 262144)", "count_min_agg(1, 1, 5, 200000)"):
-            error = error_of(cursor, f"SELECT status({statement})")
+            error = error_of(cursor, f"SELECT sketch_status({statement})")
             tests.check(f"a user's sketch keeps to the superuser's limit: {statement}",
                         error is not None and error[0] == "54000" and "sketches_rattle.max_user_bytes" in error[1]
                         and str(4 * MB) in error[1], error)
@@ -98,7 +98,7 @@ def administrators(tests):
     with tests.main.session() as session, session.cursor() as cursor:
         cursor.execute("SET ROLE user_of_sketches; SET sketches_rattle.max_user_bytes = '1GB';"
                        "SET sketches_rattle.max_image_bytes = '1GB'")
-        error = error_of(cursor, f"SELECT status({LARGE.format(bits=5 * 8 * MB)})")
+        error = error_of(cursor, f"SELECT sketch_status({LARGE.format(bits=5 * 8 * MB)})")
         tests.check("a user cannot set it before the library is loaded", error is not None and error[0] == "54000", error)
         cursor.execute("RESET ROLE")
         cursor.execute("ALTER SYSTEM RESET sketches_rattle.max_user_bytes")
@@ -114,18 +114,18 @@ def settings(tests):
             tests.check(f"{setting} is up to 1 GB", error is None, error)
         cursor.execute("RESET ALL; SET sketches_rattle.max_image_bytes = '1MB'")
         for statement in (LARGE.format(bits=16 * MB), "count_min_agg(1, 1, 5, 200000)", "frequent_bigints_agg(1, 1, 65536)"):
-            error = error_of(cursor, f"SELECT status({statement})")
+            error = error_of(cursor, f"SELECT sketch_status({statement})")
             tests.check(f"the message names the limit and its value: {statement}", error is not None and error[0] == "54000"
                         and "sketches_rattle.max_image_bytes" in error[1] and str(MB) in error[1], error)
         cursor.execute("RESET ALL")
-        error = error_of(cursor, "SELECT status(frequent_bigints_agg(1, 1, 1048576))")
+        error = error_of(cursor, "SELECT sketch_status(frequent_bigints_agg(1, 1, 1048576))")
         tests.check("the message names the limit of frequent items", error is not None and error[0] == "54000"
                     and "sketches_rattle.max_frequent_bytes" in error[1] and str(8 * MB) in error[1], error)
     for value in ("lots", "3", "-1"):
         with tests.main.session() as session, session.cursor() as cursor:
             cursor.execute(f"SET sketches_rattle.max_image_bytes = '{value}'")
-            error = error_of(cursor, "SELECT status(bloom_filter_agg(1::bigint, 64, 3))")
+            error = error_of(cursor, "SELECT sketch_status(bloom_filter_agg(1::bigint, 64, 3))")
             tests.check(f"a bad value that was set before the library is loaded: {value}",
                         error is not None and error[0] == "22023" and "max_image_bytes" in error[1], error)
             cursor.execute("SET sketches_rattle.max_image_bytes = '2MB'")
-            tests.check("a good value after it", code_of(cursor, "SELECT status(bloom_filter_agg(1::bigint, 64, 3))") is None)
+            tests.check("a good value after it", code_of(cursor, "SELECT sketch_status(bloom_filter_agg(1::bigint, 64, 3))") is None)

@@ -55,7 +55,7 @@ def dump_and_restore(tests):
         with tests.main.session(f"restored_{name}") as session, session.cursor() as cursor:
             after = everything(cursor)
             tests.check(f"a dump ({name}) keeps each sketch", after == before)
-            cursor.execute("SELECT lower_bound(strings, 'é€😀 8'), upper_bound(bigints, -7), contains(filter, 10::bigint) "
+            cursor.execute("SELECT sketch_lower_bound(strings, 'é€😀 8'), sketch_upper_bound(bigints, -7), sketch_contains(filter, 10::bigint) "
                            "FROM sketches WHERE size = 10")
             tests.check(f"answers after a dump ({name})", cursor.fetchone() == (2, 7, True))
             cursor.execute("SET enable_seqscan = off; SELECT count(*) FROM sketches AS s WHERE filter = "
@@ -99,7 +99,7 @@ def encodings(tests):
     """Databases in LATIN1 and SQL_ASCII: the same images, and errors for what has no meaning there."""
     images = {}
     query = """SELECT sketch_image(bloom_filter_agg(x, 640, 5)), sketch_image(count_min_agg(x, 3, 3, 50)),
-        frequent_strings_agg(x)::text, contains(bloom_filter_agg(x, 640, 5), 'Köln') FROM (VALUES ('é'), ('Köln'), ('a')) AS v(x)"""
+        frequent_strings_agg(x)::text, sketch_contains(bloom_filter_agg(x, 640, 5), 'Köln') FROM (VALUES ('é'), ('Köln'), ('a')) AS v(x)"""
     for name in ["UTF8", "LATIN1", "SQL_ASCII"]:
         with database(tests.main, f"in_{name.lower()}", "-E", name, "-T", "template0", "--locale=C") as session:
             with session.cursor() as cursor:
@@ -125,13 +125,13 @@ def encodings(tests):
     with tests.main.session("in_latin1") as session, session.cursor() as cursor:
         code = code_of(cursor, f"SELECT * FROM frequent_rows('{of_japan}'::frequent_strings)")
         tests.check("an item without a place in LATIN1", code == "22P05", code)
-        cursor.execute(f"SELECT (status('{of_japan}'::frequent_strings)).total_weight, "
-                       f"contains('{filter_of_japan}'::bloom_filter, 'é')")
+        cursor.execute(f"SELECT (sketch_status('{of_japan}'::frequent_strings)).total_weight, "
+                       f"sketch_contains('{filter_of_japan}'::bloom_filter, 'é')")
         tests.check("the rest of such a sketch", cursor.fetchone() == (1, False))
     with tests.main.session("in_sql_ascii", encoding="SQL_ASCII") as session, session.cursor() as cursor:
         for statement in ["SELECT frequent_strings_agg(E'\\xff')", "SELECT bloom_filter_agg(E'a\\xc3', 640, 5)",
                           "SELECT count_min_agg(E'\\xed\\xa0\\x80', 1, 3, 50)",
-                          "SELECT contains(bloom_filter_agg('a', 640, 5), E'\\xff')"]:
+                          "SELECT sketch_contains(bloom_filter_agg('a', 640, 5), E'\\xff')"]:
             code = code_of(cursor, statement)
             tests.check(f"SQL_ASCII: {statement}", code == "22021", code)
 
@@ -144,17 +144,17 @@ def collations(tests):
                        "CREATE TABLE loose (w text COLLATE ignores_case); INSERT INTO loose SELECT * FROM words")
         same = set()
         for collation in ['"C"', '"de-x-icu"', '"en-x-icu"', '"C.utf8"', '"default"', "ucs_basic"]:
-            cursor.execute(f"SELECT bloom_filter_agg(w, 640, 5)::text, (status(frequent_strings_agg(w))).num_active_items, "
+            cursor.execute(f"SELECT bloom_filter_agg(w, 640, 5)::text, (sketch_status(frequent_strings_agg(w))).num_active_items, "
                            f"sketch_image(count_min_agg(w, 1, 3, 50)) FROM (SELECT w COLLATE {collation} AS w FROM words) AS t")
             same.add(tuple(bytes(value) if isinstance(value, memoryview) else value for value in cursor.fetchone()))
         tests.check("the same sketches under all deterministic collations", len(same) == 1 and next(iter(same))[1] == 5, same)
         stored = "(SELECT {}(w{}) FROM words)"
         for statement in ["SELECT frequent_strings_agg(w) FROM loose", "SELECT bloom_filter_agg(w, 640, 5) FROM loose",
                           "SELECT count_min_agg(w, 1, 3, 50) FROM loose", "SELECT signed_count_min_agg(w, 1, 3, 50) FROM loose",
-                          f"SELECT contains({stored.format('bloom_filter_agg', ', 640, 5')}, w) FROM loose",
-                          f"SELECT lower_bound({stored.format('frequent_strings_agg', '')}, w) FROM loose",
-                          f"SELECT bounds({stored.format('frequent_strings_agg', '')}, w) FROM loose",
-                          f"SELECT estimate({stored.format('count_min_agg', ', 1, 3, 50')}, w) FROM loose"]:
+                          f"SELECT sketch_contains({stored.format('bloom_filter_agg', ', 640, 5')}, w) FROM loose",
+                          f"SELECT sketch_lower_bound({stored.format('frequent_strings_agg', '')}, w) FROM loose",
+                          f"SELECT sketch_bounds({stored.format('frequent_strings_agg', '')}, w) FROM loose",
+                          f"SELECT sketch_estimate({stored.format('count_min_agg', ', 1, 3, 50')}, w) FROM loose"]:
             code = code_of(cursor, statement)
             tests.check(f"a collation that ignores case: {statement}", code == "0A000", code)
             statement = statement.replace("FROM loose", "FROM (SELECT w COLLATE \"C\" AS w FROM loose) AS t")
@@ -171,7 +171,7 @@ def owned(tests):
                        "SELECT bloom_filter_agg(1, 64, 3) AS filter")
         tests.check("an extension in use is not dropped", code_of(cursor, "DROP EXTENSION sketches_rattle") == "2BP01")
         cursor.execute("RESET ROLE; ALTER EXTENSION sketches_rattle SET SCHEMA kept; SET ROLE plain")
-        cursor.execute("SELECT kept.contains(filter, 1) FROM kept.sketches")
+        cursor.execute("SELECT kept.sketch_contains(filter, 1) FROM kept.sketches")
         tests.check("an extension in another schema", cursor.fetchone() == (True,))
         cursor.execute("DROP TABLE kept.sketches; DROP EXTENSION sketches_rattle")
         cursor.execute("SELECT count(*) FROM pg_type WHERE typname IN ('bloom_filter', '_bloom_filter')")
