@@ -58,7 +58,7 @@ SELECT sketch_contains(bloom_filter_from_image(sketch_image(seen)), 207), sketch
 FROM days WHERE day = 2;
 SELECT sketch_contains(seen, NULL::bigint) IS NULL AS no_item, sketch_contains(NULL, 7) IS NULL AS no_filter FROM days WHERE day = 2;
 
--- A function that keeps sketches from row to row uses the sketch of its row: in a nested loop over more sketches than are kept, and
+-- A function that keeps sketches from row to row uses the sketch of its row: in a nested loop over more sketches than are kept at first, and
 -- for parameters.
 CREATE TABLE filters AS
 SELECT part, bloom_filter_agg(i, 20000, 5) AS filter, count_min_agg(i, part + 1, 2, 2000) AS counts

@@ -6,6 +6,7 @@
 
 #include "access/tupdesc.h"
 #include "fmgr.h"
+#include "lib/ilist.h"
 #include "mb/pg_wchar.h"
 #if PG_VERSION_NUM >= 160000
 #include "varatt.h"
@@ -30,6 +31,9 @@ extern int max_statement_kilobytes;
 
 /* Makes the library allocate from memory contexts: each call from the context that is current then. */
 void set_allocator(void);
+
+/* Returns the bytes that all sketches together take, without their stored forms. */
+size_t total_bytes(void);
 
 /* Returns the bytes that all sketches together would have taken when a request was refused for that, and forgets them. Returns 0 if
  * none was refused. */
@@ -183,8 +187,10 @@ void check_equality(FunctionCallInfo fcinfo, int number);
 
 /* A sketch that a function keeps from row to row. `handle` has it only if `is_loaded`. */
 typedef struct Kept {
-    MemoryContext context;
-    size_t bytes; /* of the context */
+    MemoryContext context; /* of its own */
+    size_t bytes;          /* of the context */
+    dlist_node by_use;
+    uint64 hash; /* of the key */
     const void *address;
     size_t key_bytes;
     void *key;

@@ -5,49 +5,47 @@
  * that would jump through the library. */
 #include "extension.h"
 
+#include "nodes/memnodes.h"
 #include "utils/memutils.h"
 
-/* The bytes that sketches hold in a context. It lies in the context, whose end takes them off. */
+/* The bytes that sketches hold in a context. It lies in the context, whose end takes them off, and is found by its callback. */
 typedef struct Account {
     MemoryContext context;
     size_t bytes;
-    struct Account *next;
     MemoryContextCallback at_end;
 } Account;
 
-static Account *accounts;
+static Account *last; /* the one that was used last, or null if its context ended */
 static size_t total;
 static size_t refused;
 
 /* Takes off what sketches held in a context that ends. */
 static void close_account(void *argument)
 {
-    Account *account = argument, **place = &accounts;
-    while (*place != account) place = &(*place)->next;
-    *place = account->next;
+    Account *account = argument;
+    if (last == account) last = NULL;
     total -= account->bytes;
 }
 
-/* Returns the account of a context, or null if there is no memory for one. The one that was used last comes first. */
+/* Returns the account of a context, or null if there is no memory for one. */
 static Account *account_of(MemoryContext context)
 {
-    Account **place = &accounts, *account;
-    while (*place != NULL && (*place)->context != context) place = &(*place)->next;
-    account = *place;
-    if (account != NULL) {
-        *place = account->next;
+    MemoryContextCallback *callback = context->reset_cbs;
+    if (last != NULL && last->context == context) return last;
+    while (callback != NULL && callback->func != close_account) callback = callback->next;
+    if (callback != NULL) {
+        last = callback->arg;
     } else {
-        account = MemoryContextAllocExtended(context, sizeof *account, MCXT_ALLOC_NO_OOM);
+        Account *account = MemoryContextAllocExtended(context, sizeof *account, MCXT_ALLOC_NO_OOM);
         if (account == NULL) return NULL;
         account->context = context;
         account->bytes = 0;
         account->at_end.func = close_account;
         account->at_end.arg = account;
         MemoryContextRegisterResetCallback(context, &account->at_end);
+        last = account;
     }
-    account->next = accounts;
-    accounts = account;
-    return account;
+    return last;
 }
 
 /* Returns the account of a context if all sketches may take `more` bytes, or null. */
@@ -118,6 +116,11 @@ void set_allocator(void)
 {
     static const ds_allocator contexts = {allocate, reallocate, deallocate, NULL};
     check_result(ds_set_allocator(&contexts));
+}
+
+size_t total_bytes(void)
+{
+    return total;
 }
 
 size_t take_refused(void)

@@ -2,8 +2,9 @@
  *
  * A sketch is known again by the bytes of its datum: those of a pointer to a toasted value, or of the value itself. So the last
  * sketches of a function are detoasted and verified once. There are many, since a nested loop may bring all sketches of a table in
- * turn. If a sketch comes again that was forgotten for lack of room, the function gets room for it too: otherwise a loop over
- * slightly more sketches than there is room for would read each of them at each row. */
+ * turn. A sketch is forgotten if there are too many, or if they take too much. If it comes again, the function may keep one more,
+ * and gets room for it: otherwise a loop over slightly more sketches than are kept would read each of them at each row. If there
+ * is no more room, most of the loop's sketches stay, and only the others are read at each row. */
 #include "extension.h"
 
 #include "access/detoast.h"
@@ -13,39 +14,85 @@
 #include "miscadmin.h"
 #include "utils/memutils.h"
 
-/* All but the last sketch take at most this many bytes, or `work_mem` if it is more. With those that came again after they were
- * forgotten they take at most `MOST_KEPT_BYTES`, and an eighth of what a statement may take. */
-#define MAX_KEPT 32
-#define KEPT_BYTES ((size_t) 16 * 1024 * 1024)
-#define MOST_KEPT_BYTES ((size_t) 256 * 1024 * 1024)
+/* All but the last sketch are at most this many and take at most these bytes, or `work_mem` if it is more. */
+#define USUAL_SKETCHES 32
+#define USUAL_BYTES ((size_t) 16 * 1024 * 1024)
+
+/* With those that came again they take at most these bytes, and at most a quarter of what a statement may take. */
+#define MAX_BYTES ((size_t) 256 * 1024 * 1024)
+
+/* If there is no more room, a sketch that comes again is the next to be forgotten, but for each 8th one. That one stays, so that a
+ * later loop over other sketches gets its own kept. (The bimodal insertion of Qureshi et al. 2007.) */
+#define TURNS 8
 
 /* A longer key is compared in full only if it lies at another address than before. */
 #define SHORT_KEY 1024
 #define ENDS 64
 
-/* A sketch that was forgotten: a hash of its key, and what it took. */
+/* A sketch that was forgotten: the hash of its key, and what it took. A later one with the same remainder replaces it. */
 typedef struct Forgotten {
     uint64 hash;
     size_t bytes;
 } Forgotten;
 
-/* A function's sketches, in a ring: the next sketch replaces the one after the last. */
+#define NUM_FORGOTTEN 4096
+
+/* A table of kept sketches by the hashes of their keys. */
+typedef struct Place {
+    uint64 hash;
+    Kept *kept;
+    char status;
+} Place;
+
+#define SH_PREFIX places
+#define SH_ELEMENT_TYPE Place
+#define SH_KEY_TYPE uint64
+#define SH_KEY hash
+#define SH_HASH_KEY(table, key) ((uint32) (key))
+#define SH_EQUAL(table, one, other) ((one) == (other))
+#define SH_SCOPE static inline
+#define SH_DECLARE
+#define SH_DEFINE
+#include "lib/simplehash.h"
+
+/* A function's sketches, of which no two keys have one hash. */
 typedef struct Cache {
-    Kept kept[MAX_KEPT];
-    Forgotten forgotten[MAX_KEPT]; /* the last one of each place */
-    int last; /* the one that was used last */
+    Kept *last;           /* the one that was used last, or null if it was forgotten */
+    dlist_head by_use;    /* the next one to be forgotten comes last */
+    Kept *spare;          /* empty, or null */
+    places_hash *places;
+    Forgotten *forgotten; /* by remainders of hashes, or null before the first */
+    uint32 max_sketches;
+    uint32 turn;
     size_t bytes;
-    size_t more_room; /* for sketches that came again */
+    size_t more_bytes;    /* beyond the usual, for sketches that came again */
     TupleDesc row;
+    MemoryContextCallback at_end;
 } Cache;
+
+/* The bytes of all sketches that functions keep, with their stored forms. */
+static size_t all_bytes;
+
+/* Takes off what a function kept, when its expression ends. */
+static void end_cache(void *argument)
+{
+    all_bytes -= ((Cache *) argument)->bytes;
+}
 
 /* Returns the function's cache, which lives as long as the expression. */
 static Cache *cache_of(FunctionCallInfo fcinfo)
 {
     Cache *cache = fcinfo->flinfo->fn_extra;
     if (unlikely(cache == NULL)) {
+        MemoryContext context = fcinfo->flinfo->fn_mcxt;
         check_equality(fcinfo, 1);
-        cache = MemoryContextAllocZero(fcinfo->flinfo->fn_mcxt, sizeof(Cache));
+        cache = MemoryContextAllocZero(context, sizeof(Cache));
+        dlist_init(&cache->by_use);
+        cache->places = places_create(context, USUAL_SKETCHES, NULL);
+        cache->max_sketches = USUAL_SKETCHES;
+        cache->at_end.func = end_cache;
+        cache->at_end.arg = cache;
+        MemoryContextRegisterResetCallback(context, &cache->at_end);
         fcinfo->flinfo->fn_extra = cache;
     }
     return cache;
@@ -62,73 +109,133 @@ static inline bool is_key(const Kept *kept, const void *datum, size_t bytes)
            memcmp((const char *) kept->key + bytes - ENDS, (const char *) datum + bytes - ENDS, ENDS) == 0;
 }
 
-/* Returns a hash of a key's ends. */
+/* Returns a hash of a key's first bytes, which have its checksum, and of its length. */
 static uint64 hash_of(const void *key, size_t bytes)
 {
-    size_t end = Min(bytes, ENDS);
-    return hash_bytes_extended(key, (int) end, bytes) ^ hash_bytes_extended((const unsigned char *) key + bytes - end, (int) end, 1);
-}
-
-/* Forgets a kept sketch, if there is one. */
-static void forget(Cache *cache, Kept *kept)
-{
-    if (kept->key_bytes != 0)
-        cache->forgotten[kept - cache->kept] = (Forgotten) {hash_of(kept->key, kept->key_bytes), kept->bytes};
-    if (kept->context != NULL) MemoryContextReset(kept->context);
-    cache->bytes -= kept->bytes;
-    kept->bytes = kept->key_bytes = 0;
-    kept->is_loaded = false;
-    kept->handle = (ds_sketch) DS_NONE;
-}
-
-/* Gets more room if a sketch comes again that was forgotten. */
-static void remember(Cache *cache, const void *key, size_t bytes)
-{
-    uint64 hash = hash_of(key, bytes);
-    for (int i = 0; i < MAX_KEPT; i++) {
-        Forgotten *one = &cache->forgotten[i];
-        if (one->bytes == 0 || one->hash != hash) continue;
-        cache->more_room = Min(cache->more_room + one->bytes, MOST_KEPT_BYTES);
-        one->bytes = 0;
-    }
-}
-
-/* Forgets sketches from a place on until another one of `bytes` bytes fits. */
-static void make_room(Cache *cache, int place, size_t bytes)
-{
-    size_t usual = Max(KEPT_BYTES, (size_t) work_mem * 1024);
-    size_t most = Min(MOST_KEPT_BYTES, (size_t) max_statement_kilobytes * (1024 / 8));
-    size_t limit = Max(usual, Min(usual + cache->more_room, most));
-    forget(cache, &cache->kept[place]);
-    for (int i = 1; i < MAX_KEPT && cache->bytes + bytes > limit; i++) forget(cache, &cache->kept[(place + i) % MAX_KEPT]);
+    return hash_bytes_extended(key, (int) Min(bytes, ENDS), bytes);
 }
 
 /* Counts the bytes of a kept sketch. */
 static void count_bytes(Cache *cache, Kept *kept)
 {
-    cache->bytes -= kept->bytes;
-    kept->bytes = MemoryContextMemAllocated(kept->context, false);
-    cache->bytes += kept->bytes;
+    size_t bytes = MemoryContextMemAllocated(kept->context, false);
+    cache->bytes += bytes - kept->bytes;
+    all_bytes += bytes - kept->bytes;
+    kept->bytes = bytes;
 }
 
-/* Keeps a sketch in a place. After an error nothing is kept there. */
-static Kept *keep(FunctionCallInfo fcinfo, Cache *cache, int place, struct varlena *datum, size_t bytes, Kind kind)
+/* Forgets a kept sketch. Leaves an empty `Kept` for the next one. */
+static void forget(FunctionCallInfo fcinfo, Cache *cache, Kept *kept)
 {
-    Kept *kept = &cache->kept[place];
+    if (cache->forgotten == NULL)
+        cache->forgotten = MemoryContextAllocZero(fcinfo->flinfo->fn_mcxt, NUM_FORGOTTEN * sizeof(Forgotten));
+    cache->forgotten[kept->hash % NUM_FORGOTTEN] = (Forgotten) {kept->hash, kept->bytes};
+    if (cache->last == kept) cache->last = NULL;
+    places_delete(cache->places, kept->hash);
+    dlist_delete(&kept->by_use);
+    cache->bytes -= kept->bytes;
+    all_bytes -= kept->bytes;
+    if (cache->spare == NULL) {
+        MemoryContextReset(kept->context);
+        cache->spare = kept;
+    } else {
+        MemoryContextDelete(kept->context);
+        pfree(kept);
+    }
+}
+
+/* Returns the bytes that a function may keep without sketches that came again. */
+static size_t usual_bytes(void)
+{
+    return Max(USUAL_BYTES, (size_t) work_mem * 1024);
+}
+
+/* Returns the bytes that all sketches of a statement may take. */
+static size_t statement_bytes(void)
+{
+    return (size_t) max_statement_kilobytes * 1024;
+}
+
+/* Returns the bytes that a function may keep now. */
+static size_t room(const Cache *cache)
+{
+    size_t usual = usual_bytes();
+    return Max(usual, Min(usual + cache->more_bytes, Min(MAX_BYTES, statement_bytes() / 4)));
+}
+
+/* Gets a place and room for a sketch that comes again after it was forgotten. Returns false if it comes again and there is no more
+ * room: half of what a statement may take is left to other sketches. */
+static bool grow(Cache *cache, uint64 hash)
+{
+    Forgotten *forgotten = cache->forgotten == NULL ? NULL : &cache->forgotten[hash % NUM_FORGOTTEN];
+    if (forgotten == NULL || forgotten->bytes == 0 || forgotten->hash != hash) return true;
+    if (cache->places->members >= cache->max_sketches) cache->max_sketches++;
+    if (Max(total_bytes(), all_bytes) >= statement_bytes() / 2 || room(cache) < usual_bytes() + cache->more_bytes) return false;
+    cache->more_bytes += forgotten->bytes;
+    forgotten->bytes = 0;
+    return true;
+}
+
+/* Forgets sketches until another one of `bytes` bytes fits. */
+static void make_room(FunctionCallInfo fcinfo, Cache *cache, size_t bytes)
+{
+    size_t limit = room(cache);
+    while (!dlist_is_empty(&cache->by_use) && (cache->bytes + bytes > limit || cache->places->members >= cache->max_sketches))
+        forget(fcinfo, cache, dlist_tail_element(Kept, by_use, &cache->by_use));
+}
+
+/* Returns an empty `Kept`. Frees what an error left in its context. */
+static Kept *spare(FunctionCallInfo fcinfo, Cache *cache)
+{
+    MemoryContext context = fcinfo->flinfo->fn_mcxt;
+    if (cache->spare == NULL) cache->spare = MemoryContextAllocZero(context, sizeof(Kept));
+    if (cache->spare->context == NULL)
+        cache->spare->context = AllocSetContextCreate(context, "kept sketch", ALLOCSET_SMALL_SIZES);
+    MemoryContextReset(cache->spare->context);
+    *cache->spare = (Kept) {.context = cache->spare->context};
+    return cache->spare;
+}
+
+/* Keeps a sketch. After an error it is not kept. */
+static Kept *keep(FunctionCallInfo fcinfo, Cache *cache, uint64 hash, struct varlena *datum, size_t bytes, Kind kind)
+{
+    bool stays = grow(cache, hash) || cache->turn++ % TURNS == 0, found;
     MemoryContext before;
-    remember(cache, datum, bytes);
-    make_room(cache, place, toast_raw_datum_size(PointerGetDatum(datum)));
-    if (kept->context == NULL)
-        kept->context = AllocSetContextCreate(fcinfo->flinfo->fn_mcxt, "kept sketch", ALLOCSET_SMALL_SIZES);
+    Kept *kept;
+    make_room(fcinfo, cache, toast_raw_datum_size(PointerGetDatum(datum)));
+    kept = spare(fcinfo, cache);
     before = MemoryContextSwitchTo(kept->context);
     kept->key = palloc_extended(bytes, MCXT_ALLOC_HUGE);
     memcpy(kept->key, datum, bytes);
     kept->sketch = detoast_sketch(PointerGetDatum(kept->key), kind);
     MemoryContextSwitchTo(before);
-    count_bytes(cache, kept);
+    kept->hash = hash;
     kept->address = datum;
     kept->key_bytes = bytes;
-    cache->last = place;
+    places_insert(cache->places, hash, &found)->kept = kept;
+    cache->spare = NULL;
+    if (stays) dlist_push_head(&cache->by_use, &kept->by_use);
+    else dlist_push_tail(&cache->by_use, &kept->by_use);
+    count_bytes(cache, kept);
+    cache->last = kept;
+    return kept;
+}
+
+/* Returns the kept sketch of a datum that is not the last one's, or keeps it. In a loop, the next one is the one that was not used
+ * for the longest time. */
+static Kept *look_up(FunctionCallInfo fcinfo, Cache *cache, struct varlena *datum, size_t bytes, Kind kind)
+{
+    Kept *kept = dlist_is_empty(&cache->by_use) ? NULL : dlist_tail_element(Kept, by_use, &cache->by_use);
+    if (kept == NULL || !is_key(kept, datum, bytes)) {
+        uint64 hash = hash_of(datum, bytes);
+        Place *place = places_lookup(cache->places, hash);
+        if (place != NULL && !is_key(place->kept, datum, bytes)) forget(fcinfo, cache, place->kept), place = NULL;
+        if (place == NULL) return keep(fcinfo, cache, hash, datum, bytes, kind);
+        kept = place->kept;
+    }
+    kept->address = datum;
+    dlist_move_head(&cache->by_use, &kept->by_use);
+    cache->last = kept;
     return kept;
 }
 
@@ -140,16 +247,11 @@ Kept *kept_argument(FunctionCallInfo fcinfo, Kind kind)
     /* A pointer to memory is no key. */
     if (VARATT_IS_EXTERNAL(datum) && !VARATT_IS_EXTERNAL_ONDISK(datum)) datum = PG_DETOAST_DATUM(PointerGetDatum(datum));
     bytes = VARSIZE_ANY(datum);
-    for (int i = 0; i < MAX_KEPT; i++) {
-        int place = (cache->last + i) % MAX_KEPT;
-        Kept *kept = &cache->kept[place];
-        if (is_key(kept, datum, bytes)) {
-            kept->address = datum;
-            cache->last = place;
-            return kept;
-        }
+    if (likely(cache->last != NULL && is_key(cache->last, datum, bytes))) {
+        cache->last->address = datum;
+        return cache->last;
     }
-    return keep(fcinfo, cache, (cache->last + 1) % MAX_KEPT, datum, bytes, kind);
+    return look_up(fcinfo, cache, datum, bytes, kind);
 }
 
 Kept *kept_handle(FunctionCallInfo fcinfo, Kind kind)

@@ -31,19 +31,56 @@ def small_images(tests):
 
 
 def kept_by_use(tests):
-    """Six sketches that slightly exceed the usual room of a function are not read again at each row."""
-    with tests.main.session() as session, session.cursor() as cursor:
-        cursor.execute("CREATE TEMP TABLE large AS SELECT j, frequent_bigints_agg(i * 6 + j, 1, 131072) AS sketch "
-                       "FROM generate_series(0::bigint, 5) AS j, generate_series(1::bigint, 90000) AS i GROUP BY j")
-        asked = ("SELECT sum((SELECT sum(sketch_estimate(sketch, k)) FROM large)) FROM generate_series(1::bigint, 300) AS k")
-        seconds = {}
-        for memory in ("4MB", "64MB"):
-            cursor.execute(f"SET work_mem = '{memory}'")
-            began = time.monotonic()
-            cursor.execute(asked)
-            seconds[memory] = time.monotonic() - began
-            tests.check(f"each key is in one of the sketches: {memory}", cursor.fetchone()[0] == 295)
-        tests.check("the usual room is enough", seconds["4MB"] < 5 * seconds["64MB"] + 1, seconds)
+    """Sketches that slightly exceed what a function keeps at first, in bytes or in number, are not read again at each row."""
+    loops = [("6 large sketches", 6, 90000, 131072, 300), ("40 large sketches", 40, 90000, 131072, 300),
+             ("100 small sketches", 100, 12, 16, 20000)]
+    for name, count, items, slots, keys in loops:
+        with tests.main.session() as session, session.cursor() as cursor:
+            cursor.execute(f"CREATE TEMP TABLE loop AS SELECT j, frequent_bigints_agg(i * {count} + j, 1, {slots}) AS sketch "
+                           f"FROM generate_series(0::bigint, {count - 1}) AS j, generate_series(1::bigint, {items}) AS i GROUP BY j;"
+                           "SET statement_timeout = '60s'")
+            seconds = {}
+            for memory, table in (("4MB", "loop"), ("512MB", "(SELECT * FROM loop LIMIT 32) AS few")):
+                cursor.execute(f"SET work_mem = '{memory}'")
+                began = time.monotonic()
+                error = error_of(cursor, f"SELECT sum((SELECT sum(sketch_estimate(sketch, k)) FROM {table})) "
+                                         f"FROM generate_series({count}::bigint, {count + keys - 1}) AS k")
+                seconds[memory] = time.monotonic() - began
+                if table == "loop":
+                    found = cursor.fetchone()[0] if error is None else error
+                    tests.check(f"each key is in one of {name}", found == min(keys, count * items), found)
+            tests.check(f"the usual room is enough for {name}", seconds["4MB"] < 5 * seconds["512MB"] + 1, seconds)
+
+
+def toast_blocks(cursor):
+    """Returns how many blocks of values that are stored apart the session has read from its table `loop`."""
+    cursor.execute("SELECT pg_stat_force_next_flush()")
+    cursor.execute("SELECT toast_blks_read + toast_blks_hit FROM pg_statio_all_tables WHERE relid = 'loop'::regclass")
+    return cursor.fetchone()[0]
+
+
+def kept_in_part(tests):
+    """Sketches that take more than there is room for: a part of them is kept, and the others are read again at each row."""
+    with tests.main.session(max_parallel_workers_per_gather=0) as session, session.cursor() as cursor:
+        cursor.execute("CREATE TEMP TABLE loop (sketch count_min); ALTER TABLE loop ALTER sketch SET STORAGE external;"
+                       "INSERT INTO loop SELECT count_min_agg(j, 1, 5, 100000 + j) FROM generate_series(1, 6) AS j GROUP BY j;"
+                       "SET sketches_rattle.max_statement_memory = '256MB'")
+        calls = ", ".join(f"sum(sketch_estimate(sketch, k + {number}))" for number in range(20))
+        error = error_of(cursor, f"SELECT {calls} FROM generate_series(1, 3) AS k, loop")
+        tests.check("many calls keep to the memory of a statement", error is None, error)
+        row = cursor.fetchone() if error is None else ()
+        tests.check("each call finds its keys", list(row) == [max(0, min(3, 6 - number)) for number in range(20)], row)
+        # Twelve filters of 2 MB each, of which 16 MB have room for seven.
+        cursor.execute("DROP TABLE loop; CREATE TEMP TABLE loop AS SELECT j, bloom_filter_agg(j, 16000000, 5) AS filter "
+                       "FROM generate_series(1, 12) AS j GROUP BY j; SET sketches_rattle.max_statement_memory = '64MB'")
+        asked = "SELECT sum((SELECT count(*) FROM loop WHERE sketch_contains(filter, k))) FROM generate_series(1, {}) AS k"
+        blocks = []
+        for keys in (1, 30):
+            before = toast_blocks(cursor)
+            cursor.execute(asked.format(keys))
+            tests.check(f"{keys} keys are found", cursor.fetchone() == (min(keys, 12),))
+            blocks.append(toast_blocks(cursor) - before)
+        tests.check("a third of the reads of filters or more are spared", 12 * 200 < blocks[0] and blocks[1] < 30 * blocks[0] * 2 / 3, blocks)
 
 
 def planned(tests):
