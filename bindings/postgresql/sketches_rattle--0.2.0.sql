@@ -258,7 +258,7 @@ CREATE CAST (count_min AS bytea) WITH FUNCTION count_min_to_bytea(count_min);
 CREATE CAST (bytea AS count_min) WITH FUNCTION count_min_from_bytea(bytea);
 CREATE FUNCTION sketch_image(sketch count_min) RETURNS bytea
     LANGUAGE C IMMUTABLE STRICT PARALLEL SAFE AS 'MODULE_PATHNAME', 'sketch_image';
-CREATE FUNCTION count_min_from_image(image bytea) RETURNS count_min
+CREATE FUNCTION count_min_from_image(image bytea, seed numeric DEFAULT 9001) RETURNS count_min
     LANGUAGE C IMMUTABLE STRICT PARALLEL SAFE AS 'MODULE_PATHNAME', 'count_min_from_image';
 
 CREATE FUNCTION count_min_final(internal) RETURNS count_min
@@ -338,7 +338,7 @@ CREATE FUNCTION sketch_estimate(sketch count_min, item bigint) RETURNS bigint
 CREATE FUNCTION sketch_upper_bound(sketch count_min, item bigint) RETURNS bigint
     LANGUAGE C IMMUTABLE STRICT PARALLEL SAFE AS 'MODULE_PATHNAME', 'count_min_upper_bound_bigint';
 CREATE FUNCTION sketch_status(sketch count_min, OUT total_weight bigint, OUT num_hashes integer, OUT num_buckets bigint,
-    OUT items text)
+    OUT seed numeric, OUT items text)
     LANGUAGE C IMMUTABLE STRICT PARALLEL SAFE AS 'MODULE_PATHNAME', 'count_min_status';
 
 -- signed_count_min: estimates of weights of strings or bigints, with weights that may be below 0 (Count-Min).
@@ -366,7 +366,7 @@ CREATE CAST (signed_count_min AS bytea) WITH FUNCTION signed_count_min_to_bytea(
 CREATE CAST (bytea AS signed_count_min) WITH FUNCTION signed_count_min_from_bytea(bytea);
 CREATE FUNCTION sketch_image(sketch signed_count_min) RETURNS bytea
     LANGUAGE C IMMUTABLE STRICT PARALLEL SAFE AS 'MODULE_PATHNAME', 'sketch_image';
-CREATE FUNCTION signed_count_min_from_image(image bytea) RETURNS signed_count_min
+CREATE FUNCTION signed_count_min_from_image(image bytea, seed numeric DEFAULT 9001) RETURNS signed_count_min
     LANGUAGE C IMMUTABLE STRICT PARALLEL SAFE AS 'MODULE_PATHNAME', 'signed_count_min_from_image';
 
 CREATE FUNCTION signed_count_min_final(internal) RETURNS signed_count_min
@@ -446,7 +446,7 @@ CREATE FUNCTION sketch_estimate(sketch signed_count_min, item bigint) RETURNS bi
 CREATE FUNCTION sketch_upper_bound(sketch signed_count_min, item bigint) RETURNS bigint
     LANGUAGE C IMMUTABLE STRICT PARALLEL SAFE AS 'MODULE_PATHNAME', 'signed_count_min_upper_bound_bigint';
 CREATE FUNCTION sketch_status(sketch signed_count_min, OUT total_weight bigint, OUT num_hashes integer, OUT num_buckets bigint,
-    OUT items text)
+    OUT seed numeric, OUT items text)
     LANGUAGE C IMMUTABLE STRICT PARALLEL SAFE AS 'MODULE_PATHNAME', 'signed_count_min_status';
 
 -- bloom_filter: a set of strings or bigints, with false positives (Bloom filter).

@@ -28,10 +28,10 @@ SELECT frequent_strings_send(strings) = strings::bytea AND frequent_bigints_send
     substr(signed_counts::bytea, 1, 6) AS signed_counts, substr(filter::bytea, 1, 6) AS filter
 FROM sketches;
 
--- An image is what follows the header of 12 bytes. The other interfaces read and write it.
-SELECT sketch_image(strings) = substr(strings::bytea, 13) AND sketch_image(bigints) = substr(bigints::bytea, 13)
-    AND sketch_image(counts) = substr(counts::bytea, 13) AND sketch_image(signed_counts) = substr(signed_counts::bytea, 13)
-    AND sketch_image(filter) = substr(filter::bytea, 13) AS are_images
+-- An image is what follows the header of 20 bytes. The other interfaces read and write it.
+SELECT sketch_image(strings) = substr(strings::bytea, 21) AND sketch_image(bigints) = substr(bigints::bytea, 21)
+    AND sketch_image(counts) = substr(counts::bytea, 21) AND sketch_image(signed_counts) = substr(signed_counts::bytea, 21)
+    AND sketch_image(filter) = substr(filter::bytea, 21) AS are_images
 FROM sketches;
 SELECT sketch_bounds(frequent_strings_from_image(sketch_image(strings)), 'item 3') AS strings,
     sketch_bounds(frequent_bigints_from_image(sketch_image(bigints)), 3) AS bigints,

@@ -32,6 +32,7 @@ typedef struct State {
     size_t unchecked;    /* the bytes of strings that came after the limit was checked */
     const void *image;
     size_t image_bytes;
+    uint64 seed;         /* of the image */
 } State;
 
 /* What a worker passes on: a state as a bytea, which may lie at any multiple of 4 bytes. */
@@ -41,6 +42,7 @@ typedef struct Message {
     uint8 items;
     uint8 zero[2];
     uint8 sizes[2 * sizeof(Datum)];
+    uint8 seed[sizeof(uint64)];
     uint8 image[FLEXIBLE_ARRAY_MEMBER];
 } Message;
 
@@ -350,16 +352,16 @@ static void flush(State *state)
 }
 
 /* Reads an image into a state that has no sketch, or else into its batch. */
-static void add_image(State *state, const void *image, size_t bytes, size_t max_bytes)
+static void add_image(State *state, const void *image, size_t bytes, uint64 seed, size_t max_bytes)
 {
     MemoryContext before = MemoryContextSwitchTo(state->context);
     if (!state->has_sketch) {
-        read_image(state->kind, &state->handle, image, bytes, max_bytes);
+        read_image(state->kind, &state->handle, image, bytes, seed, max_bytes);
         state->has_sketch = true;
     } else {
         Batch *batch = state->batch;
         if (batch == NULL) batch = state->batch = palloc0(sizeof(Batch));
-        read_image(state->kind, &batch->handles[batch->count], image, bytes, max_bytes);
+        read_image(state->kind, &batch->handles[batch->count], image, bytes, seed, max_bytes);
         batch->bytes += bytes_of(&batch->handles[batch->count]);
         batch->count++;
         if (batch->count == MAX_IN_BATCH || batch->bytes >= BYTES_IN_BATCH) flush(state);
@@ -375,7 +377,7 @@ static Datum add_sketch(FunctionCallInfo fcinfo, Kind kind)
     if (PG_ARGISNULL(1)) return state_result(fcinfo, state);
     sketch = detoast_sketch(PG_GETARG_DATUM(1), kind);
     if (state == NULL) state = new_state(fcinfo, kind, sketch->items);
-    add_image(state, sketch->image, IMAGE_BYTES(sketch), limit_of(kind));
+    add_image(state, sketch->image, IMAGE_BYTES(sketch), seed_of(sketch), limit_of(kind));
     state->items |= sketch->items;
     PG_FREE_IF_COPY(sketch, 1);
     PG_RETURN_POINTER(state);
@@ -415,13 +417,16 @@ Datum state_serial(PG_FUNCTION_ARGS)
 {
     State *state = (State *) PG_GETARG_POINTER(0);
     Message *message;
+    uint64 seed;
     aggregate_context(fcinfo);
     flush(state);
+    seed = handle_seed(state->kind, &state->handle);
     message = (Message *) write_image(state->kind, &state->handle, offsetof(Message, image));
     message->kind = state->kind;
     message->items = state->items;
     memset(message->zero, 0, sizeof message->zero);
     memcpy(message->sizes, state->sizes, sizeof message->sizes);
+    memcpy(message->seed, &seed, sizeof message->seed);
     PG_RETURN_BYTEA_P(message);
 }
 
@@ -437,6 +442,7 @@ Datum state_deserial(PG_FUNCTION_ARGS)
     state->kind = message->kind;
     state->items = message->items;
     memcpy(state->sizes, message->sizes, sizeof state->sizes);
+    memcpy(&state->seed, message->seed, sizeof state->seed);
     state->image = message->image;
     state->image_bytes = VARSIZE(message) - offsetof(Message, image);
     PG_RETURN_POINTER(state);
@@ -457,7 +463,7 @@ Datum state_combine(PG_FUNCTION_ARGS)
     }
     if (state->kind != other->kind) elog(ERROR, "states of different kinds were combined");
     if (memcmp(state->sizes, other->sizes, sizeof state->sizes) != 0) raise_sizes();
-    add_image(state, other->image, other->image_bytes, SIZE_MAX);
+    add_image(state, other->image, other->image_bytes, other->seed, SIZE_MAX);
     state->items |= other->items;
     PG_RETURN_POINTER(state);
 }

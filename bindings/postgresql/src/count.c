@@ -1,8 +1,6 @@
 /* Queries of Count-Min sketches: estimates, upper bounds and status. */
 #include "extension.h"
 
-#include "utils/builtins.h"
-
 /* Returns the sketch of the call, with a handle. It may have items of this type. */
 static ds_sketch *counts(FunctionCallInfo fcinfo, Kind kind, uint8 items)
 {
@@ -72,14 +70,15 @@ static Datum status_of(FunctionCallInfo fcinfo, Kind kind)
 {
     Kept *kept = kept_handle(fcinfo, kind);
     ds_count_min_status status = {0};
-    bool nulls[4] = {false, false, false, false};
-    Datum values[4];
+    bool nulls[5] = {false, false, false, false, false};
+    Datum values[5];
     if (kind == COUNT_MIN) check_result(ds_count_min_u64_get_status(&kept->handle, &status));
     else check_result(ds_count_min_i64_get_status(&kept->handle, &status));
     values[0] = Int64GetDatum(as_bigint(status.total_weight));
     values[1] = Int32GetDatum((int32) status.num_hashes);
     values[2] = Int64GetDatum((int64) status.num_buckets);
-    values[3] = items_name(kept->sketch);
+    values[3] = seed_value(status.seed);
+    values[4] = items_name(kept->sketch);
     return kept_row(fcinfo, values, nulls);
 }
 

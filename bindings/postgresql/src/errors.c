@@ -12,7 +12,7 @@
  * | 22003 | a weight is below 0, a total weight or a result is out of range |
  * | 22004 | a size is null |
  * | 22021 | a string is not UTF-8, or has a zero byte |
- * | 22023 | a size, a fraction, a threshold or a mode is out of range |
+ * | 22023 | a size, a fraction, a threshold, a mode or a seed is out of range, or the hash of the seed is 0 |
  * | 22P02, 22P03 | the text or the binary form is damaged |
  * | 0A000 | the collation of strings is nondeterministic, or the equality of their type is not that of bytes |
  * | 22P05 | a string of a sketch has a character that is not in the database's encoding |
@@ -41,6 +41,7 @@ static const struct {
     {DS_BAD_NUM_BITS, ERRCODE_INVALID_PARAMETER_VALUE},
     {DS_BAD_NUM_HASHES, ERRCODE_INVALID_PARAMETER_VALUE},
     {DS_BAD_NUM_BUCKETS, ERRCODE_INVALID_PARAMETER_VALUE},
+    {DS_ZERO_SEED_HASH, ERRCODE_INVALID_PARAMETER_VALUE},
     {DS_MAP_SIZE_NOT_POWER_OF_TWO, ERRCODE_INVALID_PARAMETER_VALUE},
     {DS_MAP_SIZE_TOO_SMALL, ERRCODE_INVALID_PARAMETER_VALUE},
     {DS_MAP_SIZE_TOO_LARGE, ERRCODE_INVALID_PARAMETER_VALUE},

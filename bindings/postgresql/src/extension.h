@@ -17,7 +17,7 @@
 /* A bigint, a number with fraction and a pointer each fit a Datum: the library is built for 64 bits. */
 StaticAssertDecl(SIZEOF_DATUM == 8, "a Datum has 64 bits");
 
-/* The seed under which filters and counts hash: the library's default. */
+/* The seed under which filters and counts hash unless an image has another: the library's default. */
 #define DEFAULT_SEED 9001
 #define DEFAULT_MAX_MAP_SIZE 1024
 
@@ -91,11 +91,20 @@ typedef struct Sketch {
     uint8 kind;
     uint8 items;
     uint8 zero[2];
+    uint8 seed[8];     /* of Count-Min, whose image has only a hash of it, and 0 otherwise; lowest byte first */
     uint8 checksum[4]; /* the CRC-32C of the bytes from `format` up to here, and of the image; lowest byte first */
     uint8 image[FLEXIBLE_ARRAY_MEMBER];
 } Sketch;
 
 #define IMAGE_BYTES(sketch) (VARSIZE(sketch) - offsetof(Sketch, image))
+
+/* Returns the number that a stored sketch has as its seed. */
+static inline uint64 seed_of(const Sketch *sketch)
+{
+    uint64 seed = 0;
+    for (int i = 0; i < 8; i++) seed |= (uint64) sketch->seed[i] << 8 * i;
+    return seed;
+}
 
 /* The most bytes that a sketch may take, by the formula of `ds_memory_bytes`, which counts strings. Frequent items keep to both
  * limits. No interrupt is checked during a call of the library. Calls of frequent items take longer than others, and the default
@@ -122,11 +131,15 @@ static inline void check_bytes(Kind kind, uint64 bytes)
     if (bytes > limit_of(kind)) raise_limit(kind, bytes);
 }
 
-/* Reads an image into a handle that has no sketch, in the current context. `max_bytes` limits what the sketch takes. */
-void read_image(Kind kind, ds_sketch *handle, const void *image, size_t length, size_t max_bytes);
+/* Reads an image into a handle that has no sketch, in the current context. The seed is that of Count-Min, and not read for other
+ * kinds. `max_bytes` limits what the sketch takes. */
+void read_image(Kind kind, ds_sketch *handle, const void *image, size_t length, uint64 seed, size_t max_bytes);
 
 /* Returns the bytes that a handle's sketch takes. */
 size_t bytes_of(ds_sketch *handle);
+
+/* Returns the seed of a handle's sketch if it is one of Count-Min, or 0. */
+uint64 handle_seed(Kind kind, ds_sketch *handle);
 
 /* Writes the image of a handle's sketch after `header` bytes, which the caller fills. Returns the whole as a new varlena. */
 struct varlena *write_image(Kind kind, ds_sketch *handle, size_t header);
@@ -169,6 +182,9 @@ void check_items(const Sketch *sketch, uint8 items);
 
 /* Returns the types of a sketch's items as a text: 'strings', 'bigints' or 'strings or bigints'. */
 Datum items_name(const Sketch *sketch);
+
+/* Returns a seed as a numeric. */
+Datum seed_value(uint64 seed);
 
 /* --- image_items.c --- */
 

@@ -1,8 +1,6 @@
 /* Queries of Bloom filters. `contains` reads the image in place. */
 #include "extension.h"
 
-#include "utils/builtins.h"
-
 PG_FUNCTION_INFO_V1(bloom_filter_contains_string);
 
 /* Returns whether a filter contains a string. */
@@ -39,13 +37,11 @@ Datum bloom_filter_status(PG_FUNCTION_ARGS)
     ds_bloom_status status = {0};
     bool nulls[5] = {false, false, false, false, false};
     Datum values[5];
-    char seed[32];
     check_result(ds_bloom_get_status(&kept->handle, &status));
-    snprintf(seed, sizeof seed, UINT64_FORMAT, status.seed);
     values[0] = Int64GetDatum(as_bigint(status.bits_used));
     values[1] = Int64GetDatum(as_bigint(status.capacity));
     values[2] = Int32GetDatum((int32) status.num_hashes);
-    values[3] = DirectFunctionCall3(numeric_in, CStringGetDatum(seed), ObjectIdGetDatum(InvalidOid), Int32GetDatum(-1));
+    values[3] = seed_value(status.seed);
     values[4] = items_name(kept->sketch);
     return kept_row(fcinfo, values, nulls);
 }

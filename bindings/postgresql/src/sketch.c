@@ -1,6 +1,8 @@
 /* Stored sketches: the calls of each kind, the header with its checksum, and the text, binary and bytea forms. */
 #include "extension.h"
 
+#include <ctype.h>
+
 #include "common/base64.h"
 #include "common/hashfn.h"
 #include "libpq/pqformat.h"
@@ -13,13 +15,13 @@
 /* --- The calls of each kind. --- */
 
 /* Returns the library's result of reading an image. */
-static int32_t deserialize(Kind kind, ds_sketch *handle, const uint8_t *image, size_t length, size_t max_bytes)
+static int32_t deserialize(Kind kind, ds_sketch *handle, const uint8_t *image, size_t length, uint64 seed, size_t max_bytes)
 {
     switch (kind) {
     case FREQUENT_STRINGS: return ds_frequent_items_string_deserialize(handle, image, length, max_bytes);
     case FREQUENT_BIGINTS: return ds_frequent_items_i64_deserialize(handle, image, length, max_bytes);
-    case COUNT_MIN: return ds_count_min_u64_deserialize(handle, image, length, DEFAULT_SEED, max_bytes);
-    case SIGNED_COUNT_MIN: return ds_count_min_i64_deserialize(handle, image, length, DEFAULT_SEED, max_bytes);
+    case COUNT_MIN: return ds_count_min_u64_deserialize(handle, image, length, seed, max_bytes);
+    case SIGNED_COUNT_MIN: return ds_count_min_i64_deserialize(handle, image, length, seed, max_bytes);
     case BLOOM_FILTER: return ds_bloom_deserialize(handle, image, length, max_bytes);
     }
     return DS_WRONG_KIND;
@@ -63,11 +65,11 @@ int32_t merge_all(Kind kind, ds_sketch *handle, ds_sketch *others, size_t count)
     return DS_WRONG_KIND;
 }
 
-void read_image(Kind kind, ds_sketch *handle, const void *image, size_t length, size_t max_bytes)
+void read_image(Kind kind, ds_sketch *handle, const void *image, size_t length, uint64 seed, size_t max_bytes)
 {
     int32_t result;
     if (kind == FREQUENT_STRINGS) check_zero_bytes(image, length);
-    result = deserialize(kind, handle, image, length, max_bytes);
+    result = deserialize(kind, handle, image, length, seed, max_bytes);
     if (result == DS_TABLE_TOO_LARGE && max_bytes == limit_of(kind)) raise_limit(kind, 0);
     check_result(result);
     CHECK_FOR_INTERRUPTS();
@@ -109,7 +111,7 @@ static pg_crc32c checksum_of(const Sketch *sketch)
 }
 
 /* Writes the header of a sketch whose image is written. */
-static Sketch *finish(struct varlena *whole, Kind kind, uint8 items)
+static Sketch *finish(struct varlena *whole, Kind kind, uint8 items, uint64 seed)
 {
     Sketch *sketch = (Sketch *) whole;
     pg_crc32c crc;
@@ -117,6 +119,7 @@ static Sketch *finish(struct varlena *whole, Kind kind, uint8 items)
     sketch->kind = kind;
     sketch->items = items;
     memset(sketch->zero, 0, sizeof sketch->zero);
+    for (int i = 0; i < 8; i++) sketch->seed[i] = seed >> 8 * i & 0xff;
     crc = checksum_of(sketch);
     for (int i = 0; i < 4; i++) sketch->checksum[i] = crc >> 8 * i & 0xff;
     return sketch;
@@ -129,6 +132,7 @@ static bool has_header(const Sketch *sketch, Kind kind)
     if (VARSIZE(sketch) < offsetof(Sketch, image)) return false;
     if (memcmp(sketch->format, format, sizeof format) != 0 || sketch->kind != kind) return false;
     if (sketch->zero[0] != 0 || sketch->zero[1] != 0) return false;
+    if (kind != COUNT_MIN && kind != SIGNED_COUNT_MIN && seed_of(sketch) != 0) return false;
     if (has_both) return sketch->items >= STRINGS && sketch->items <= (STRINGS | BIGINTS);
     return sketch->items == (kind == FREQUENT_STRINGS ? STRINGS : BIGINTS);
 }
@@ -163,7 +167,7 @@ Sketch *detoast_sketch(Datum datum, Kind kind)
 
 void load(Sketch *sketch, ds_sketch *handle)
 {
-    read_image(sketch->kind, handle, sketch->image, IMAGE_BYTES(sketch), limit_of(sketch->kind));
+    read_image(sketch->kind, handle, sketch->image, IMAGE_BYTES(sketch), seed_of(sketch), limit_of(sketch->kind));
 }
 
 size_t bytes_of(ds_sketch *handle)
@@ -171,6 +175,14 @@ size_t bytes_of(ds_sketch *handle)
     size_t bytes = 0;
     check_result(ds_memory_bytes(handle, &bytes));
     return bytes;
+}
+
+uint64 handle_seed(Kind kind, ds_sketch *handle)
+{
+    ds_count_min_status status = {0};
+    if (kind == COUNT_MIN) check_result(ds_count_min_u64_get_status(handle, &status));
+    if (kind == SIGNED_COUNT_MIN) check_result(ds_count_min_i64_get_status(handle, &status));
+    return status.seed;
 }
 
 /* The bytes are those that `deserialize` counts, which adds 4 for the length of each string. */
@@ -185,7 +197,7 @@ void check_limit(Kind kind, ds_sketch *handle)
 Sketch *store(Kind kind, uint8 items, ds_sketch *handle)
 {
     check_limit(kind, handle);
-    return finish(write_image(kind, handle, offsetof(Sketch, image)), kind, items);
+    return finish(write_image(kind, handle, offsetof(Sketch, image)), kind, items, handle_seed(kind, handle));
 }
 
 /* --- Forms. --- */
@@ -193,18 +205,18 @@ Sketch *store(Kind kind, uint8 items, ds_sketch *handle)
 /* Returns a stored sketch from an image that may be untrusted. Frequent items keep the bytes of the image, since the order of
  * items changes when an image is written again. Filters and counts get the bytes that the library writes, so equal ones have
  * equal images. */
-static Sketch *import_image(Kind kind, uint8 items, const void *image, size_t length)
+static Sketch *import_image(Kind kind, uint8 items, const void *image, size_t length, uint64 seed)
 {
     ds_sketch handle = DS_NONE;
     Sketch *sketch;
     if (kind == FREQUENT_BIGINTS) check_bigints(image, length);
-    read_image(kind, &handle, image, length, limit_of(kind));
+    read_image(kind, &handle, image, length, seed, limit_of(kind));
     sketch = store(kind, items, &handle);
     ds_free(&handle);
     if (kind != FREQUENT_STRINGS && kind != FREQUENT_BIGINTS) return sketch;
     if (IMAGE_BYTES(sketch) != length) return sketch;
     memcpy(sketch->image, image, length);
-    return finish((struct varlena *) sketch, kind, items);
+    return finish((struct varlena *) sketch, kind, items, 0);
 }
 
 /* Returns a stored sketch from the bytes after a sketch's length, which may be untrusted. `damaged` is the SQLSTATE of an error. */
@@ -218,7 +230,7 @@ static Sketch *import(Kind kind, const void *bytes, size_t length, int damaged)
     if (has_other_version(sketch)) raise_version(sketch->format[3], format[3]);
     if (!has_header(sketch, kind)) raise_kind("the value is not a sketch of this type");
     if (!has_checksum(sketch)) ereport(ERROR, (errcode(damaged), errmsg("the sketch is damaged: its checksum is wrong")));
-    imported = import_image(kind, sketch->items, sketch->image, IMAGE_BYTES(sketch));
+    imported = import_image(kind, sketch->items, sketch->image, IMAGE_BYTES(sketch), seed_of(sketch));
     pfree(sketch);
     return imported;
 }
@@ -320,13 +332,36 @@ Datum sketch_image(PG_FUNCTION_ARGS)
     PG_RETURN_BYTEA_P(bytea_of(sketch->image, IMAGE_BYTES(sketch)));
 }
 
+/* Returns the seed in an argument of type numeric. */
+static uint64 seed_argument(FunctionCallInfo fcinfo, int number)
+{
+    Datum given = PG_GETARG_DATUM(number), whole = DirectFunctionCall2(numeric_trunc, given, Int32GetDatum(0));
+    char *digits = DatumGetCString(DirectFunctionCall1(numeric_out, whole)), *end;
+    uint64 seed;
+    errno = 0;
+    seed = strtou64(digits, &end, 10);
+    if (!isdigit((unsigned char) digits[0]) || *end != '\0' || errno != 0 ||
+        !DatumGetBool(DirectFunctionCall2(numeric_eq, given, whole)))
+        raise_argument("the seed must be a whole number from 0 to 18446744073709551615");
+    pfree(digits);
+    return seed;
+}
+
+Datum seed_value(uint64 seed)
+{
+    char digits[32];
+    snprintf(digits, sizeof digits, UINT64_FORMAT, seed);
+    return DirectFunctionCall3(numeric_in, CStringGetDatum(digits), ObjectIdGetDatum(InvalidOid), Int32GetDatum(-1));
+}
+
 /* Returns a sketch from an image, which may be untrusted. An image of a filter or of counts does not say the type of its items,
- * so the sketch may have both. */
+ * so the sketch may have both. An image of Count-Min does not say its seed, which is the second argument. */
 static Datum type_from_image(FunctionCallInfo fcinfo, Kind kind)
 {
     bytea *image = PG_GETARG_BYTEA_PP(0);
     uint8 items = kind == FREQUENT_STRINGS ? STRINGS : kind == FREQUENT_BIGINTS ? BIGINTS : STRINGS | BIGINTS;
-    PG_RETURN_POINTER(import_image(kind, items, VARDATA_ANY(image), VARSIZE_ANY_EXHDR(image)));
+    uint64 seed = PG_NARGS() > 1 ? seed_argument(fcinfo, 1) : 0;
+    PG_RETURN_POINTER(import_image(kind, items, VARDATA_ANY(image), VARSIZE_ANY_EXHDR(image), seed));
 }
 
 #define FUNCTION(name, call, kind) \
@@ -417,14 +452,15 @@ Datum bloom_filter_intersection(PG_FUNCTION_ARGS)
     PG_RETURN_POINTER(sketch);
 }
 
-/* Compares the images of two sketches: below 0, 0 or above 0. Filters and counts have images as the library writes them, so equal
- * images mean equal states. Equal frequent items may have unequal images. */
+/* Compares the images of two sketches, and then the seeds of Count-Min: below 0, 0 or above 0. Filters and counts have images as
+ * the library writes them, so equal images and seeds mean equal states. Equal frequent items may have unequal images. */
 static int compared(FunctionCallInfo fcinfo)
 {
     Sketch *left = any_sketch(fcinfo), *right = detoast_sketch(PG_GETARG_DATUM(1), left->kind);
     size_t first = IMAGE_BYTES(left), second = IMAGE_BYTES(right);
     int order = memcmp(left->image, right->image, Min(first, second));
     if (order == 0) order = (first > second) - (first < second);
+    if (order == 0) order = memcmp(left->seed, right->seed, sizeof left->seed);
     PG_FREE_IF_COPY(left, 0);
     PG_FREE_IF_COPY(right, 1);
     return order;

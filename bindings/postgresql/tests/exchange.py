@@ -1,9 +1,13 @@
 """The same sketches in SQL, Python, C and the program: each reads the others' images, and answers as they do."""
+import io
+import itertools
 import os
 import subprocess
 import sys
 
+import golden
 import server
+from ends import WORKERS, code_of
 
 BINDINGS = os.path.dirname(os.path.dirname(server.HERE))
 MAKE = """
@@ -149,3 +153,78 @@ def interfaces(tests):
                     tests.check(f"an image of {column} as {name}", False)
                 except server.psycopg2.Error as error:
                     tests.check(f"an image of {column} as {name}", error.pgcode == "SK023", error)
+
+
+def seeds(tests):
+    """Images of Count-Min of any seed, from Python: the stored sketch keeps the seed in each of its forms and in workers."""
+    sys.path.insert(0, tests.built)
+    import datasketches_rattle as ds
+
+    weights = {"ab": 5, "é€😀": 3, "": 1}
+    with tests.main.session(**WORKERS) as session, session.cursor() as cursor:
+        for name, seed in itertools.product(["count_min", "signed_count_min"], [0, 7, 2**64 - 1]):
+            sketch = ds.CountMinSketch(3, 97, seed, signed=name == "signed_count_min")
+            for item, weight in weights.items():
+                sketch.update(item, weight)
+            image = sketch.serialize()
+            tests.check(f"{name}, seed {seed}: the image of Python", image == golden.count_min(weights, 3, 97, seed))
+            cursor.execute(f"CREATE TEMP TABLE seeded AS SELECT {name}_from_image(%s, {seed}) AS sketch", (image,))
+            stored = golden.stored(name, 3, image, seed=seed)
+
+            def holds(what):
+                cursor.execute("SELECT (sketch_status(sketch)).*, sketch_image(sketch), sketch::bytea, "
+                               f"{', '.join(f'sketch_estimate(sketch, {chr(39)}{item}{chr(39)})' for item in weights)} FROM seeded")
+                row = [bytes(value) if isinstance(value, memoryview) else value for value in cursor.fetchone()]
+                tests.check(f"{name}, seed {seed}: {what}",
+                            row == [9, 3, 97, seed, "strings or bigints", image, stored, *weights.values()], row)
+
+            holds("its numbers, forms and estimates")
+            for form in ("text", "bytea"):
+                cursor.execute(f"UPDATE seeded SET sketch = sketch::{form}::{name}")
+                holds(f"after the form {form}")
+            file = io.BytesIO()
+            cursor.copy_expert("COPY seeded TO STDOUT (FORMAT binary)", file)
+            file.seek(0)
+            cursor.execute("TRUNCATE seeded")
+            cursor.copy_expert("COPY seeded FROM STDIN (FORMAT binary)", file)
+            holds("after the binary form")
+
+            # Unions: by two, of a group, and of a group whose workers each pass a sketch on.
+            cursor.execute("CREATE TABLE many_seeded WITH (parallel_workers = 2) AS "
+                           "SELECT sketch FROM seeded, generate_series(1, 5000); ANALYZE many_seeded")
+            union = f"SELECT {name}_union(sketch) AS s FROM many_seeded"
+            cursor.execute(f"EXPLAIN {union}")
+            tests.check("the plan of a union has workers", any("Workers Planned" in row[0] for row in cursor.fetchall()))
+            for what, query, wanted in [("by two", "SELECT sketch | sketch AS s FROM seeded", 10), ("of workers", union, 25000),
+                                        ("of a group", f"SELECT {name}_union(sketch) AS s FROM seeded, generate_series(1, 9)", 45)]:
+                cursor.execute(f"SELECT (sketch_status(s)).seed, sketch_estimate(s, 'ab') FROM ({query}) AS t")
+                tests.check(f"{name}, seed {seed}: a union {what}", cursor.fetchone() == (seed, wanted))
+            other = f"(SELECT {name}_agg('ab', 1, 3, 97))"
+            for query in [f"SELECT sketch | {other} FROM seeded",
+                          f"SELECT {name}_union(s) FROM (SELECT sketch FROM seeded UNION ALL {other}) AS t(s)"]:
+                code = code_of(cursor, query)
+                tests.check(f"{name}, seed {seed}: a union with another seed: {query}", code == "SK016", code)
+
+            # A seed that is not that of the image, and numbers that are no seed.
+            read = f"SELECT {name}_from_image(%s"
+            for given, wanted in [("", "SK028"), (f", {seed ^ 1}", "SK028"), (", -1", "22023"), (", 18446744073709551616", "22023"),
+                                  (", 1e30", "22023"), (", 7.5", "22023"), (", 'NaN'", "22023"), (", 'Infinity'", "22023"),
+                                  (", '-Infinity'", "22023"), (f", {seed}.0", None)]:
+                code = code_of(cursor, cursor.mogrify(read, (image,)).decode() + f"{given})")
+                tests.check(f"{name}, seed {seed}: an image with the seed{given}", code == wanted, code)
+            cursor.execute("DROP TABLE seeded, many_seeded")
+
+        # Another seed of the same hash reads the same image as another sketch. A seed whose hash is 0 has no sketches.
+        twin = next(seed for seed in itertools.count() if seed != 9001 and golden.seed_hash(seed) == golden.seed_hash(9001))
+        image = golden.count_min({"ab": 5}, 3, 97)
+        cursor.execute("CREATE TEMP TABLE twins AS SELECT count_min_from_image(%s) AS a, count_min_from_image(%s, %s) AS b",
+                       (image, image, twin))
+        cursor.execute("SELECT sketch_image(a) = sketch_image(b), a = b, a <> b, (a < b) <> (a > b), a = a, "
+                       "(SELECT count(DISTINCT s) FROM (VALUES (a), (b), (a)) AS v(s)) FROM twins")
+        row = cursor.fetchone()
+        tests.check("sketches of equal images and unequal seeds are not equal", row == (True, False, True, True, True, 2), row)
+        code = code_of(cursor, "SELECT a | b FROM twins")
+        tests.check("nor have they a union", code == "SK016", code)
+        none = next(seed for seed in itertools.count() if golden.seed_hash(seed) == 0)
+        code = code_of(cursor, cursor.mogrify("SELECT count_min_from_image(%s, %s)", (image, none)).decode())
+        tests.check("a seed whose hash is 0", code == "22023", code)

@@ -83,6 +83,11 @@ def frequent(counters, total, error):
     return head + b"".join(struct.pack("<Q", counters[item]) for item in items) + tail
 
 
+def seed_hash(seed):
+    """Returns the hash of a seed that an image of Count-Min has."""
+    return murmur3(struct.pack("<Q", seed), 0) % (1 << 16)
+
+
 def count_min(weights, hashes, buckets, seed=9001):
     """Returns the image of a Count-Min sketch."""
     cells = [0] * (hashes * buckets)
@@ -90,7 +95,7 @@ def count_min(weights, hashes, buckets, seed=9001):
         for row in range(hashes):
             cells[row * buckets + murmur3(fed(item), murmur3(struct.pack("<Q", row), seed)) % buckets] += weight
     total = sum(abs(weight) for weight in weights.values())
-    head = struct.pack("<BBBBIIBHB", 2, 1, 18, 0, 0, buckets, hashes, murmur3(struct.pack("<Q", seed), 0) % (1 << 16), 0)
+    head = struct.pack("<BBBBIIBHB", 2, 1, 18, 0, 0, buckets, hashes, seed_hash(seed), 0)
     return head + struct.pack("<q", total) + b"".join(struct.pack("<q", cell) for cell in cells)
 
 
@@ -109,9 +114,12 @@ def bloom(items, words, hashes, seed=9001):
 KINDS = {"frequent_strings": 1, "frequent_bigints": 2, "count_min": 3, "signed_count_min": 4, "bloom_filter": 5}
 
 
-def stored(name, items, image, version=1):
-    """Returns a stored sketch: the header, with the types of items (1 for strings, 2 for bigints, 3 for both), and the image."""
-    header = b"SKR" + bytes([version, KINDS[name], items, 0, 0])
+def stored(name, items, image, version=1, seed=None):
+    """Returns a stored sketch: the header, with the types of items (1 for strings, 2 for bigints, 3 for both) and the seed of
+    Count-Min, and the image."""
+    if seed is None:
+        seed = 9001 if "count_min" in name else 0
+    header = b"SKR" + bytes([version, KINDS[name], items, 0, 0]) + struct.pack("<Q", seed)
     return header + struct.pack("<I", crc32c(header + image)) + image
 
 
@@ -137,11 +145,11 @@ QUERIES = {
         ("(sketch_bounds({}, -7)).*", (5, 5, 5)), ("(sketch_bounds({}, 4611686018427387904)).*", (4, 4, 4)), ("(sketch_bounds({}, 0)).*", (0, 0, 0)),
     ],
     "count_min": [
-        ("(sketch_status({})).*", (9, 3, 97, "strings")),
+        ("(sketch_status({})).*", (9, 3, 97, 9001, "strings")),
         ("sketch_estimate({0}, 'ab'), sketch_estimate({0}, 'é€😀'), sketch_estimate({0}, ''), sketch_estimate({0}, 'b')", (5, 3, 1, 0)),
     ],
     "signed_count_min": [
-        ("(sketch_status({})).*", (9, 3, 97, "bigints")),
+        ("(sketch_status({})).*", (9, 3, 97, 9001, "bigints")),
         ("sketch_estimate({0}, -7), sketch_estimate({0}, 4611686018427387904), sketch_estimate({0}, 0)", (5, -4, 0)),
     ],
     "bloom_filter": [
@@ -165,4 +173,6 @@ def unknown(name):
     yield "another kind", stored(other, items, image)
     yield "no items", stored(name, 0, image)
     yield "unknown items", stored(name, 4, image)
+    if "count_min" not in name:
+        yield "a seed", stored(name, items, image, seed=9001)
     yield "no name", b"XKR" + SKETCHES[name][3:]
