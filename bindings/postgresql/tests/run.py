@@ -92,8 +92,8 @@ class Tests:
             differences = f"{inside}/output_iso/regression.diffs"
         said = text_of(differences) if os.path.exists(differences) else "\n".join(lines[-20:]) + ran.stderr.decode()
         for file in files:
-            self.check(f"{name} {file}", file in good, said if file not in good else "")
-            said = ""
+            self.check(f"{name} {file}", file in good, said)
+            said = "" if file not in good else said
 
 
 def text_of(path):
