@@ -76,7 +76,10 @@ SELECT (sketch_status(frequent_bigints_agg(1, 1, 262144))).max_map_size;
 SELECT frequent_bigints_agg(1, 1, 524288);
 SET sketches_rattle.max_frequent_bytes = '16MB';
 SELECT (sketch_status(frequent_bigints_agg(1, 1, 524288))).max_map_size;
-SET sketches_rattle.max_frequent_bytes = '64kB';
+-- Strings count at most 64 bytes each for the second limit: 100 of them, and 256 slots of 44 bytes, 17664 bytes.
+SET sketches_rattle.max_frequent_bytes = 17664;
+SELECT (sketch_status(strings)).num_active_items FROM long;
+SET sketches_rattle.max_frequent_bytes = 17663;
 SELECT sketch_status(strings) FROM long;
 SELECT sketch_contains(filter | filter, 7) FROM long;
 RESET sketches_rattle.max_frequent_bytes;

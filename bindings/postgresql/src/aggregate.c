@@ -104,7 +104,7 @@ static void make_frequent(State *state, int64 max_map_size)
     MemoryContext before;
     int32_t result;
     if (max_map_size < 0) check_result(DS_MAP_SIZE_TOO_SMALL);
-    check_bytes(state->kind, (uint64) max_map_size * (state->kind == FREQUENT_STRINGS ? 44 : 28));
+    check_bytes(limit_of(state->kind), (uint64) max_map_size * (state->kind == FREQUENT_STRINGS ? BYTES_OF_SLOT : 28));
     before = MemoryContextSwitchTo(state->context);
     result = state->kind == FREQUENT_STRINGS ? ds_frequent_items_string_new(&state->handle, max_map_size, sample)
                                              : ds_frequent_items_i64_new(&state->handle, max_map_size, sample);
@@ -119,7 +119,7 @@ static void make_count(State *state, int64 num_hashes, int64 num_buckets)
     int32_t result;
     if (num_hashes < 0 || num_hashes > UINT8_MAX) check_result(DS_BAD_NUM_HASHES);
     if (num_buckets < 0) check_result(DS_BAD_NUM_BUCKETS);
-    check_bytes(state->kind, (uint64) num_hashes * (num_buckets + 1) * 8);
+    check_bytes(limit_of(state->kind), (uint64) num_hashes * (num_buckets + 1) * 8);
     before = MemoryContextSwitchTo(state->context);
     result = state->kind == COUNT_MIN
                  ? ds_count_min_u64_new(&state->handle, (uint8_t) num_hashes, (uint32_t) num_buckets, DEFAULT_SEED)
@@ -135,7 +135,7 @@ static void make_filter(State *state, int64 num_bits, int64 num_hashes)
     int32_t result;
     if (num_bits < 0) check_result(DS_BAD_NUM_BITS);
     if (num_hashes < 0 || num_hashes > UINT16_MAX) check_result(DS_BAD_NUM_HASHES);
-    check_bytes(state->kind, (uint64) num_bits / 8);
+    check_bytes(limit_of(state->kind), (uint64) num_bits / 8);
     before = MemoryContextSwitchTo(state->context);
     result = ds_bloom_new(&state->handle, num_bits, (uint16_t) num_hashes, DEFAULT_SEED);
     MemoryContextSwitchTo(before);
@@ -352,16 +352,16 @@ static void flush(State *state)
 }
 
 /* Reads an image into a state that has no sketch, or else into its batch. */
-static void add_image(State *state, const void *image, size_t bytes, uint64 seed, size_t max_bytes)
+static void add_image(State *state, const void *image, size_t bytes, uint64 seed, bool has_limits)
 {
     MemoryContext before = MemoryContextSwitchTo(state->context);
     if (!state->has_sketch) {
-        read_image(state->kind, &state->handle, image, bytes, seed, max_bytes);
+        read_image(state->kind, &state->handle, image, bytes, seed, has_limits);
         state->has_sketch = true;
     } else {
         Batch *batch = state->batch;
         if (batch == NULL) batch = state->batch = palloc0(sizeof(Batch));
-        read_image(state->kind, &batch->handles[batch->count], image, bytes, seed, max_bytes);
+        read_image(state->kind, &batch->handles[batch->count], image, bytes, seed, has_limits);
         batch->bytes += bytes_of(&batch->handles[batch->count]);
         batch->count++;
         if (batch->count == MAX_IN_BATCH || batch->bytes >= BYTES_IN_BATCH) flush(state);
@@ -377,7 +377,7 @@ static Datum add_sketch(FunctionCallInfo fcinfo, Kind kind)
     if (PG_ARGISNULL(1)) return state_result(fcinfo, state);
     sketch = detoast_sketch(PG_GETARG_DATUM(1), kind);
     if (state == NULL) state = new_state(fcinfo, kind, sketch->items);
-    add_image(state, sketch->image, IMAGE_BYTES(sketch), seed_of(sketch), limit_of(kind));
+    add_image(state, sketch->image, IMAGE_BYTES(sketch), seed_of(sketch), true);
     state->items |= sketch->items;
     PG_FREE_IF_COPY(sketch, 1);
     PG_RETURN_POINTER(state);
@@ -463,7 +463,7 @@ Datum state_combine(PG_FUNCTION_ARGS)
     }
     if (state->kind != other->kind) elog(ERROR, "states of different kinds were combined");
     if (memcmp(state->sizes, other->sizes, sizeof state->sizes) != 0) raise_sizes();
-    add_image(state, other->image, other->image_bytes, other->seed, SIZE_MAX);
+    add_image(state, other->image, other->image_bytes, other->seed, false);
     state->items |= other->items;
     PG_RETURN_POINTER(state);
 }

@@ -106,16 +106,16 @@ void raise_sizes(void)
     pg_unreachable();
 }
 
-void raise_limit(Kind kind, uint64 bytes)
+void raise_limit(size_t limit, uint64 bytes)
 {
-    const char *setting = limit_of(kind) == (size_t) max_user_bytes    ? "sketches_rattle.max_user_bytes"
-                          : limit_of(kind) == (size_t) max_image_bytes ? "sketches_rattle.max_image_bytes"
-                                                                        : "sketches_rattle.max_frequent_bytes";
+    const char *setting = limit == (size_t) max_user_bytes    ? "sketches_rattle.max_user_bytes"
+                          : limit == (size_t) max_image_bytes ? "sketches_rattle.max_image_bytes"
+                                                              : "sketches_rattle.max_frequent_bytes";
     if (bytes == 0)
         ereport(ERROR, (errcode(ERRCODE_PROGRAM_LIMIT_EXCEEDED),
-                        errmsg("a sketch takes more than %s, which is %zu bytes", setting, limit_of(kind))));
+                        errmsg("a sketch takes more than %s, which is %zu bytes", setting, limit)));
     ereport(ERROR, (errcode(ERRCODE_PROGRAM_LIMIT_EXCEEDED),
-                    errmsg("a sketch takes " UINT64_FORMAT " bytes, more than %s, which is %zu", bytes, setting, limit_of(kind))));
+                    errmsg("a sketch takes " UINT64_FORMAT " bytes, more than %s, which is %zu", bytes, setting, limit)));
     pg_unreachable();
 }
 

@@ -37,7 +37,8 @@ void _PG_init(void)
     define_bytes("sketches_rattle.max_image_bytes", "Sets the most bytes that a sketch may take.",
                  "Strings of a sketch are counted.", &max_image_bytes, 32 * 1024 * 1024, PGC_USERSET);
     define_bytes("sketches_rattle.max_frequent_bytes", "Sets the most bytes that a sketch of frequent items may take.",
-                 "Strings are counted. Larger sketches take longer to cancel.", &max_frequent_bytes, 8 * 1024 * 1024, PGC_USERSET);
+                 "Strings count at most 64 bytes each. Larger sketches take longer to cancel.", &max_frequent_bytes, 8 * 1024 * 1024,
+                 PGC_USERSET);
     define_bytes("sketches_rattle.max_user_bytes", "Sets the most bytes that a sketch may take, whatever a user sets.",
                  "Only superusers can change it.", &max_user_bytes, MAX_BYTES, PGC_SUSET);
     DefineCustomIntVariable("sketches_rattle.max_statement_memory", "Sets the most memory that all sketches of a statement may take.",

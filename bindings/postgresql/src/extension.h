@@ -21,6 +21,12 @@ StaticAssertDecl(SIZEOF_DATUM == 8, "a Datum has 64 bits");
 #define DEFAULT_SEED 9001
 #define DEFAULT_MAX_MAP_SIZE 1024
 
+/* What a slot of a table of strings takes, by the formula of `ds_memory_bytes`. */
+#define BYTES_OF_SLOT 44
+
+/* What strings count for `max_frequent_bytes` at most, each on average: calls take longer by their number than by their bytes. */
+#define COUNTED_BYTES 64
+
 /* PostgreSQL loads libraries with RTLD_GLOBAL, so what only these files share is hidden. */
 #pragma GCC visibility push(hidden)
 
@@ -107,33 +113,39 @@ static inline uint64 seed_of(const Sketch *sketch)
 }
 
 /* The most bytes that a sketch may take, by the formula of `ds_memory_bytes`, which counts strings. Frequent items keep to both
- * limits. No interrupt is checked during a call of the library. Calls of frequent items take longer than others, and the default
- * keeps them below 100 ms. */
+ * limits, and count at most `COUNTED_BYTES` of a string for the second one. No interrupt is checked during a call of the library.
+ * Calls of frequent items take longer than others, and the defaults keep them to about 100 ms. */
 extern int max_image_bytes;
 extern int max_frequent_bytes;
 
 /* The greatest value that users can give to both limits. */
 extern int max_user_bytes;
 
-/* Returns the limit of a kind. */
+/* Returns the limit of all that a sketch takes. */
+static inline size_t limit_of_all(void)
+{
+    return Min(max_user_bytes, max_image_bytes);
+}
+
+/* Returns the limit of a kind, for which strings count in part. */
 static inline size_t limit_of(Kind kind)
 {
     bool is_frequent = kind == FREQUENT_STRINGS || kind == FREQUENT_BIGINTS;
-    return Min(max_user_bytes, is_frequent ? Min(max_image_bytes, max_frequent_bytes) : max_image_bytes);
+    return is_frequent ? Min(limit_of_all(), (size_t) max_frequent_bytes) : limit_of_all();
 }
 
-/* Raises the error of a sketch that exceeds the limit of its kind. `bytes` is 0 if they are not known. */
-void raise_limit(Kind kind, uint64 bytes) __attribute__((noreturn));
+/* Raises the error of a sketch that exceeds a limit. `bytes` is 0 if they are not known. */
+void raise_limit(size_t limit, uint64 bytes) __attribute__((noreturn));
 
-/* Raises an error if a sketch of these bytes exceeds the limit of its kind. */
-static inline void check_bytes(Kind kind, uint64 bytes)
+/* Raises an error if bytes exceed a limit. */
+static inline void check_bytes(size_t limit, uint64 bytes)
 {
-    if (bytes > limit_of(kind)) raise_limit(kind, bytes);
+    if (bytes > limit) raise_limit(limit, bytes);
 }
 
 /* Reads an image into a handle that has no sketch, in the current context. The seed is that of Count-Min, and not read for other
- * kinds. `max_bytes` limits what the sketch takes. */
-void read_image(Kind kind, ds_sketch *handle, const void *image, size_t length, uint64 seed, size_t max_bytes);
+ * kinds. Raises an error if the sketch exceeds the limits of its kind, if it has any here. */
+void read_image(Kind kind, ds_sketch *handle, const void *image, size_t length, uint64 seed, bool has_limits);
 
 /* Returns the bytes that a handle's sketch takes. */
 size_t bytes_of(ds_sketch *handle);
@@ -147,7 +159,7 @@ struct varlena *write_image(Kind kind, ds_sketch *handle, size_t header);
 /* Merges other sketches of the kind into the handle's. Allocates in the current context. Returns the library's result. */
 int32_t merge_all(Kind kind, ds_sketch *handle, ds_sketch *others, size_t count);
 
-/* Raises an error if a handle's sketch takes more than the limit of its kind. */
+/* Raises an error if a handle's sketch exceeds the limits of its kind. */
 void check_limit(Kind kind, ds_sketch *handle);
 
 /* Returns a stored sketch from a handle. Raises an error if the sketch exceeds the limit. */
@@ -187,6 +199,9 @@ Datum items_name(const Sketch *sketch);
 Datum seed_value(uint64 seed);
 
 /* --- image_items.c --- */
+
+/* Returns the bytes that the library counts for the strings of an image, and that do not count for `max_frequent_bytes`. */
+size_t uncounted_bytes(const void *image, size_t length);
 
 /* Raises an error if a string of an image of frequent strings has a zero byte. */
 void check_zero_bytes(const void *image, size_t length);

@@ -26,6 +26,14 @@ static bool string_at(const uint8 *image, size_t length, size_t at, ds_string *s
     return string->length <= length - at - 4;
 }
 
+/* The library counts all bytes after the weights. */
+size_t uncounted_bytes(const void *image, size_t length)
+{
+    uint64 count = count_of(image, length);
+    size_t bytes = count == 0 ? 0 : length - WEIGHTS - 8 * count;
+    return bytes - Min(bytes, COUNTED_BYTES * count);
+}
+
 void check_zero_bytes(const void *bytes, size_t length)
 {
     const uint8 *image = bytes;

@@ -65,12 +65,14 @@ int32_t merge_all(Kind kind, ds_sketch *handle, ds_sketch *others, size_t count)
     return DS_WRONG_KIND;
 }
 
-void read_image(Kind kind, ds_sketch *handle, const void *image, size_t length, uint64 seed, size_t max_bytes)
+void read_image(Kind kind, ds_sketch *handle, const void *image, size_t length, uint64 seed, bool has_limits)
 {
+    size_t uncounted = kind == FREQUENT_STRINGS ? uncounted_bytes(image, length) : 0;
+    size_t max_bytes = Min(limit_of_all(), limit_of(kind) + uncounted);
     int32_t result;
     if (kind == FREQUENT_STRINGS) check_zero_bytes(image, length);
-    result = deserialize(kind, handle, image, length, seed, max_bytes);
-    if (result == DS_TABLE_TOO_LARGE && max_bytes == limit_of(kind)) raise_limit(kind, 0);
+    result = deserialize(kind, handle, image, length, seed, has_limits ? max_bytes : SIZE_MAX);
+    if (result == DS_TABLE_TOO_LARGE && has_limits) raise_limit(max_bytes == limit_of_all() ? max_bytes : limit_of(kind), 0);
     check_result(result);
     CHECK_FOR_INTERRUPTS();
 }
@@ -167,7 +169,7 @@ Sketch *detoast_sketch(Datum datum, Kind kind)
 
 void load(Sketch *sketch, ds_sketch *handle)
 {
-    read_image(sketch->kind, handle, sketch->image, IMAGE_BYTES(sketch), seed_of(sketch), limit_of(sketch->kind));
+    read_image(sketch->kind, handle, sketch->image, IMAGE_BYTES(sketch), seed_of(sketch), true);
 }
 
 size_t bytes_of(ds_sketch *handle)
@@ -190,8 +192,15 @@ void check_limit(Kind kind, ds_sketch *handle)
 {
     ds_frequent_items_status status = {0};
     size_t bytes = bytes_of(handle);
-    if (kind == FREQUENT_STRINGS) check_result(ds_frequent_items_string_get_status(handle, &status));
-    check_bytes(kind, bytes + 4 * status.num_active_items);
+    if (kind == FREQUENT_STRINGS) {
+        size_t table;
+        check_result(ds_frequent_items_string_get_status(handle, &status));
+        table = status.current_map_capacity / 3 * 4 * BYTES_OF_SLOT;
+        bytes += 4 * status.num_active_items;
+        check_bytes(limit_of_all(), bytes);
+        bytes = Min(bytes, table + COUNTED_BYTES * status.num_active_items);
+    }
+    check_bytes(limit_of(kind), bytes);
 }
 
 Sketch *store(Kind kind, uint8 items, ds_sketch *handle)
@@ -210,7 +219,7 @@ static Sketch *import_image(Kind kind, uint8 items, const void *image, size_t le
     ds_sketch handle = DS_NONE;
     Sketch *sketch;
     if (kind == FREQUENT_BIGINTS) check_bigints(image, length);
-    read_image(kind, &handle, image, length, seed, limit_of(kind));
+    read_image(kind, &handle, image, length, seed, true);
     sketch = store(kind, items, &handle);
     ds_free(&handle);
     if (kind != FREQUENT_STRINGS && kind != FREQUENT_BIGINTS) return sketch;

@@ -105,6 +105,39 @@ def planned(tests):
         tests.check("the planner keeps nothing", held(cursor)[0] - before[0] < 17 * MB)
 
 
+def long_strings(tests):
+    """Long strings at the default limits, and the limits of tables and of strings, each by its name."""
+    with tests.main.session() as session, session.cursor() as cursor:
+        cursor.execute("CREATE TEMP TABLE long (sketch frequent_strings)")
+        row = "repeat('x', 11000) || i FROM generate_series(1, 3000) AS i"
+        error = error_of(cursor, f"INSERT INTO long SELECT frequent_strings_agg(item) FROM (SELECT {row}) AS rows(item)")
+        tests.check("3,000 strings of 11 kB", error is None, error)
+        for use, wanted in [("sketch", 3000), ("sketch | sketch", 6000), ("frequent_strings_from_image(sketch_image(sketch))", 3000)]:
+            error = error_of(cursor, f"SELECT (sketch_status({use})).total_weight FROM long")
+            tests.check(f"the total of {use}", error is None and cursor.fetchone() == (wanted,), error)
+        cursor.execute("SELECT max(upper_bound), count(*) FROM long, frequent_rows(sketch)")
+        bound, count = cursor.fetchone()
+        tests.check("rows of long strings", 1 <= bound <= 8 * 3000 // (3 * 1024) + 1 and count <= 768, (bound, count))
+        many = "SELECT sketch_status(frequent_strings_agg(repeat('x', 300) || i, 1, {0})) FROM generate_series(1, {0} / 4 * 3) AS i"
+        error = error_of(cursor, many.format(65536))
+        tests.check("49,152 strings of 300 bytes, of which 64 are counted", error is None, error)
+        cursor.execute("SET sketches_rattle.max_frequent_bytes = '16MB'; TRUNCATE long;"
+                       "INSERT INTO long SELECT frequent_strings_agg(i::text, 1, 262144) FROM generate_series(1, 150000) AS i;"
+                       "RESET sketches_rattle.max_frequent_bytes")
+        table = 262144 * 44
+        for what, statement, setting, limit, taken in [
+                ("a table", "SELECT frequent_strings_agg('a', 1, 262144)", "max_frequent_bytes", 8 * MB, table),
+                ("a stored table", "SELECT sketch_status(sketch) FROM long", "max_frequent_bytes", 8 * MB, None),
+                ("an image of a table", "SELECT frequent_strings_from_image(sketch_image(sketch)) FROM long", "max_frequent_bytes",
+                 8 * MB, None),
+                ("many strings", many.format(131072), "max_frequent_bytes", 8 * MB, None),
+                ("long strings", "SELECT frequent_strings_agg(repeat('x', 50000) || i) FROM generate_series(1, 768) AS i",
+                 "max_image_bytes", 32 * MB, None)]:
+            error = error_of(cursor, statement)
+            tests.check(f"{what} above its limit", error is not None and error[0] == "54000" and f"sketches_rattle.{setting}" in error[1]
+                        and str(limit) in error[1] and (taken is None or str(taken) in error[1]), error)
+
+
 def administrators(tests):
     """A superuser's settings: users cannot raise them."""
     with tests.main.session() as session, session.cursor() as cursor:

@@ -147,8 +147,8 @@ def valgrind(tests):
 GROUPS = [queries, isolation, bounds.every_key, ends.cancels, ends.many_cancels, ends.killed, ends.out_of_memory,
           stored.dump_and_restore, stored.copied, stored.encodings, stored.collations, stored.versions, stored.owned,
           item_types.types, item_types.orders, item_types.images_of_other_items, item_types.comments, limits.small_images, limits.planned,
-          limits.administrators, limits.settings, limits.kept_by_use, limits.kept_in_part, exchange.interfaces, exchange.seeds,
-          page.page_queries, errors.page_errors, damage.damaged_bytes, versions.compiles]
+          limits.administrators, limits.settings, limits.kept_by_use, limits.kept_in_part, limits.long_strings,
+          exchange.interfaces, exchange.seeds, page.page_queries, errors.page_errors, damage.damaged_bytes, versions.compiles]
 
 
 def run_group(tests, group):
