@@ -597,22 +597,13 @@ BEGIN
             ('sketch_serial', 'writes the state of an aggregate for another process'),
             ('sketch_deserial', 'reads the state of an aggregate of another process'),
             ('sketch_contains_support', 'estimates for the planner how many rows a filter keeps'))
-        SELECT DISTINCT ON (member.classid, member.objid) 'ROUTINE ' || objid::regprocedure AS name, text
+        (SELECT DISTINCT ON (objid) 'ROUTINE ' || objid::regprocedure AS name, text
         FROM member JOIN pg_proc ON classid = 'pg_proc'::regclass AND objid = pg_proc.oid
             JOIN said ON proname = of OR proname LIKE '%\_' || replace(of, '_', '\_')
-        ORDER BY member.classid, member.objid, length(of) DESC
-    LOOP
-        EXECUTE format('COMMENT ON %s IS %L', object.name, object.text);
-    END LOOP;
-    FOR object IN
-        WITH member AS (
-            SELECT classid, objid FROM pg_depend
-            WHERE deptype = 'e' AND refclassid = 'pg_extension'::regclass
-                AND refobjid = (SELECT oid FROM pg_extension WHERE extname = 'sketches_rattle')
-        )
-        SELECT 'OPERATOR ' || objid::regoperator AS name, CASE oprname
+        ORDER BY objid, length(of) DESC)
+        UNION ALL SELECT 'OPERATOR ' || objid::regoperator, CASE oprname
             WHEN '|' THEN 'merge of two sketches' WHEN '&' THEN 'what two filters have in common'
-            WHEN '=' THEN 'equal images' WHEN '<>' THEN 'unequal images' ELSE 'order of images' END AS text
+            WHEN '=' THEN 'equal images' WHEN '<>' THEN 'unequal images' ELSE 'order of images' END
         FROM member JOIN pg_operator ON classid = 'pg_operator'::regclass AND objid = pg_operator.oid
         UNION ALL SELECT 'TYPE ' || format_type(objid, NULL), CASE
             WHEN typtype = 'c' THEN 'row of a query of sketches'
