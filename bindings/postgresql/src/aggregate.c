@@ -3,8 +3,6 @@
  * A state lives in the memory context of its aggregate, and so does all that the library allocates for it. */
 #include "extension.h"
 
-#include <math.h>
-
 #include "utils/memutils.h"
 
 /* Stored sketches are merged in batches. A merge of frequent items copies the table, so one merge of many sketches costs less than
@@ -78,117 +76,6 @@ static State *new_state(FunctionCallInfo fcinfo, Kind kind, uint8 items)
     return state;
 }
 
-/* --- Sizes, from arguments of the first row. --- */
-
-/* Returns 1 / `fraction` as a whole number, rounded up, unless rounding alone put it above a whole number. */
-static uint64 inverse(double fraction, const char *message)
-{
-    double number, nearest;
-    if (!(fraction > 0 && fraction < 1)) raise_argument(message);
-    number = 1 / fraction;
-    nearest = rint(number);
-    if (fabs(number - nearest) > nearest * 1e-9) nearest = ceil(number);
-    return nearest < 9.2e18 ? (uint64) nearest : PG_INT64_MAX;
-}
-
-/* Returns 1 / `relative_error` as a whole number. */
-static uint64 parts_argument(FunctionCallInfo fcinfo, int number)
-{
-    return inverse(PG_GETARG_FLOAT8(number), "relative_error must be above 0 and below 1");
-}
-
-/* Makes the sketch of frequent items. */
-static void make_frequent(State *state, int64 max_map_size)
-{
-    size_t sample = ds_frequent_items_max_sample_size(max_map_size);
-    MemoryContext before;
-    int32_t result;
-    if (max_map_size < 0) check_result(DS_MAP_SIZE_TOO_SMALL);
-    check_bytes(limit_of(state->kind), (uint64) max_map_size * (state->kind == FREQUENT_STRINGS ? BYTES_OF_SLOT : 28));
-    before = MemoryContextSwitchTo(state->context);
-    result = state->kind == FREQUENT_STRINGS ? ds_frequent_items_string_new(&state->handle, max_map_size, sample)
-                                             : ds_frequent_items_i64_new(&state->handle, max_map_size, sample);
-    MemoryContextSwitchTo(before);
-    check_result(result);
-}
-
-/* Makes a Count-Min sketch. */
-static void make_count(State *state, int64 num_hashes, int64 num_buckets)
-{
-    MemoryContext before;
-    int32_t result;
-    if (num_hashes < 0 || num_hashes > UINT8_MAX) check_result(DS_BAD_NUM_HASHES);
-    if (num_buckets < 0) check_result(DS_BAD_NUM_BUCKETS);
-    check_bytes(limit_of(state->kind), (uint64) num_hashes * (num_buckets + 1) * 8);
-    before = MemoryContextSwitchTo(state->context);
-    result = state->kind == COUNT_MIN
-                 ? ds_count_min_u64_new(&state->handle, (uint8_t) num_hashes, (uint32_t) num_buckets, DEFAULT_SEED)
-                 : ds_count_min_i64_new(&state->handle, (uint8_t) num_hashes, (uint32_t) num_buckets, DEFAULT_SEED);
-    MemoryContextSwitchTo(before);
-    check_result(result);
-}
-
-/* Makes a filter. */
-static void make_filter(State *state, int64 num_bits, int64 num_hashes)
-{
-    MemoryContext before;
-    int32_t result;
-    if (num_bits < 0) check_result(DS_BAD_NUM_BITS);
-    if (num_hashes < 0 || num_hashes > UINT16_MAX) check_result(DS_BAD_NUM_HASHES);
-    check_bytes(limit_of(state->kind), (uint64) num_bits / 8);
-    before = MemoryContextSwitchTo(state->context);
-    result = ds_bloom_new(&state->handle, num_bits, (uint16_t) num_hashes, DEFAULT_SEED);
-    MemoryContextSwitchTo(before);
-    check_result(result);
-}
-
-/* Each of these makes a state's sketch from the sizes in the arguments from a number on. */
-typedef void (*Make)(FunctionCallInfo fcinfo, State *state, int number);
-
-static void frequent_by_size(FunctionCallInfo fcinfo, State *state, int number)
-{
-    make_frequent(state, PG_NARGS() > number ? PG_GETARG_INT32(number) : DEFAULT_MAX_MAP_SIZE);
-}
-
-static void frequent_by_error(FunctionCallInfo fcinfo, State *state, int number)
-{
-    size_t max_map_size = 0;
-    check_result(ds_frequent_items_suggest_max_map_size(parts_argument(fcinfo, number), &max_map_size));
-    make_frequent(state, max_map_size);
-}
-
-static void count_by_size(FunctionCallInfo fcinfo, State *state, int number)
-{
-    make_count(state, PG_GETARG_INT32(number), PG_GETARG_INT32(number + 1));
-}
-
-static void count_by_error(FunctionCallInfo fcinfo, State *state, int number)
-{
-    uint64 questions = inverse(1 - PG_GETARG_FLOAT8(number + 1), "confidence must be above 0 and below 1");
-    uint32_t num_buckets = 0;
-    uint8_t num_hashes = 0;
-    check_result(ds_count_min_suggest_num_buckets(parts_argument(fcinfo, number), &num_buckets));
-    check_result(ds_count_min_suggest_num_hashes(questions, &num_hashes));
-    make_count(state, num_hashes, num_buckets);
-}
-
-static void filter_by_size(FunctionCallInfo fcinfo, State *state, int number)
-{
-    make_filter(state, PG_GETARG_INT64(number), PG_GETARG_INT32(number + 1));
-}
-
-static void filter_by_error(FunctionCallInfo fcinfo, State *state, int number)
-{
-    int64 items = PG_GETARG_INT64(number);
-    uint64 questions = inverse(PG_GETARG_FLOAT8(number + 1), "false_positive_rate must be above 0 and below 1");
-    uint64_t num_bits = 0;
-    uint16_t num_hashes = 0;
-    if (items < 1) raise_argument("expected_items must be above 0");
-    check_result(ds_bloom_suggest_num_bits(items, questions, &num_bits));
-    check_result(ds_bloom_suggest_num_hashes(num_bits, items, &num_hashes));
-    make_filter(state, num_bits, num_hashes);
-}
-
 /* --- Rows. --- */
 
 /* Raises an error if a size is null. */
@@ -202,12 +89,15 @@ static inline void check_size(FunctionCallInfo fcinfo, int number)
 static State *begin(FunctionCallInfo fcinfo, Kind kind, uint8 items, int number, Make make)
 {
     State *state = new_state(fcinfo, kind, items);
+    MemoryContext before;
     check_equality(fcinfo, 1);
     for (int i = number; i < PG_NARGS(); i++) {
         check_size(fcinfo, i);
         state->sizes[i - number] = PG_GETARG_DATUM(i);
     }
-    make(fcinfo, state, number);
+    before = MemoryContextSwitchTo(state->context);
+    make(fcinfo, kind, &state->handle, number);
+    MemoryContextSwitchTo(before);
     state->has_sketch = true;
     return state;
 }

@@ -209,6 +209,18 @@ void check_zero_bytes(const void *image, size_t length);
 /* Raises an error if an image can be of frequent strings alone, and not of bigints. */
 void check_bigints(const void *image, size_t length);
 
+/* --- sizes.c --- */
+
+/* Each of these makes an empty sketch in a handle that has none, from the sizes in the arguments from a number on. They allocate in
+ * the current context. */
+typedef void (*Make)(FunctionCallInfo fcinfo, Kind kind, ds_sketch *handle, int number);
+void frequent_by_size(FunctionCallInfo fcinfo, Kind kind, ds_sketch *handle, int number);
+void frequent_by_error(FunctionCallInfo fcinfo, Kind kind, ds_sketch *handle, int number);
+void count_by_size(FunctionCallInfo fcinfo, Kind kind, ds_sketch *handle, int number);
+void count_by_error(FunctionCallInfo fcinfo, Kind kind, ds_sketch *handle, int number);
+void filter_by_size(FunctionCallInfo fcinfo, Kind kind, ds_sketch *handle, int number);
+void filter_by_error(FunctionCallInfo fcinfo, Kind kind, ds_sketch *handle, int number);
+
 /* --- equality.c --- */
 
 /* Raises an error if the equality of an argument's collation or type is not that of the bytes of its text. */
