@@ -75,10 +75,10 @@ def queries(rows, groups):
 # Aggregates whose cost of a row is compared with that of `count(column)`.
 COSTS = [("number", "frequent_bigints_agg(number)", "frequent bigints, 1024 slots"),
          ("string", "frequent_strings_agg(string)", "frequent strings, 1024 slots"),
-         ("number", "count_min_agg(number, 1, 5, 2048)", "Count-Min 5 x 2048, bigints"),
-         ("string", "count_min_agg(string, 1, 5, 2048)", "Count-Min 5 x 2048, strings"),
-         ("number", "bloom_filter_agg(number, 10000000, 7)", "filter of 1.2 MB, 7 hashes, bigints"),
-         ("string", "bloom_filter_agg(string, 10000000, 7)", "filter of 1.2 MB, 7 hashes, strings")]
+         ("number", "count_min_agg_sized(number, 1, 5, 2048)", "Count-Min 5 x 2048, bigints"),
+         ("string", "count_min_agg_sized(string, 1, 5, 2048)", "Count-Min 5 x 2048, strings"),
+         ("number", "bloom_filter_agg_sized(number, 10000000, 7)", "filter of 1.2 MB, 7 hashes, bigints"),
+         ("string", "bloom_filter_agg_sized(string, 10000000, 7)", "filter of 1.2 MB, 7 hashes, strings")]
 
 
 def field(process, name):

@@ -42,11 +42,11 @@ CREATE FUNCTION frequent_strings_from_image(image bytea) RETURNS frequent_string
 CREATE FUNCTION frequent_strings_final(internal) RETURNS frequent_strings
     LANGUAGE C IMMUTABLE PARALLEL SAFE AS 'MODULE_PATHNAME', 'state_final';
 CREATE FUNCTION frequent_strings_add(internal, text) RETURNS internal
-    LANGUAGE C IMMUTABLE PARALLEL SAFE AS 'MODULE_PATHNAME', 'frequent_strings_add';
+    LANGUAGE C IMMUTABLE PARALLEL SAFE AS 'MODULE_PATHNAME', 'frequent_strings_add_by_size';
 CREATE FUNCTION frequent_strings_add(internal, text, bigint) RETURNS internal
-    LANGUAGE C IMMUTABLE PARALLEL SAFE AS 'MODULE_PATHNAME', 'frequent_strings_add';
+    LANGUAGE C IMMUTABLE PARALLEL SAFE AS 'MODULE_PATHNAME', 'frequent_strings_add_by_size';
 CREATE FUNCTION frequent_strings_add(internal, text, bigint, integer) RETURNS internal
-    LANGUAGE C IMMUTABLE PARALLEL SAFE AS 'MODULE_PATHNAME', 'frequent_strings_add';
+    LANGUAGE C IMMUTABLE PARALLEL SAFE AS 'MODULE_PATHNAME', 'frequent_strings_add_by_size';
 CREATE FUNCTION frequent_strings_add(internal, text, bigint, double precision) RETURNS internal
     LANGUAGE C IMMUTABLE PARALLEL SAFE AS 'MODULE_PATHNAME', 'frequent_strings_add_by_error';
 CREATE AGGREGATE frequent_strings_agg(item text) (
@@ -153,11 +153,11 @@ CREATE FUNCTION frequent_bigints_from_image(image bytea) RETURNS frequent_bigint
 CREATE FUNCTION frequent_bigints_final(internal) RETURNS frequent_bigints
     LANGUAGE C IMMUTABLE PARALLEL SAFE AS 'MODULE_PATHNAME', 'state_final';
 CREATE FUNCTION frequent_bigints_add(internal, bigint) RETURNS internal
-    LANGUAGE C IMMUTABLE PARALLEL SAFE AS 'MODULE_PATHNAME', 'frequent_bigints_add';
+    LANGUAGE C IMMUTABLE PARALLEL SAFE AS 'MODULE_PATHNAME', 'frequent_bigints_add_by_size';
 CREATE FUNCTION frequent_bigints_add(internal, bigint, bigint) RETURNS internal
-    LANGUAGE C IMMUTABLE PARALLEL SAFE AS 'MODULE_PATHNAME', 'frequent_bigints_add';
+    LANGUAGE C IMMUTABLE PARALLEL SAFE AS 'MODULE_PATHNAME', 'frequent_bigints_add_by_size';
 CREATE FUNCTION frequent_bigints_add(internal, bigint, bigint, integer) RETURNS internal
-    LANGUAGE C IMMUTABLE PARALLEL SAFE AS 'MODULE_PATHNAME', 'frequent_bigints_add';
+    LANGUAGE C IMMUTABLE PARALLEL SAFE AS 'MODULE_PATHNAME', 'frequent_bigints_add_by_size';
 CREATE FUNCTION frequent_bigints_add(internal, bigint, bigint, double precision) RETURNS internal
     LANGUAGE C IMMUTABLE PARALLEL SAFE AS 'MODULE_PATHNAME', 'frequent_bigints_add_by_error';
 CREATE AGGREGATE frequent_bigints_agg(item bigint) (
@@ -263,25 +263,45 @@ CREATE FUNCTION count_min_from_image(image bytea, seed numeric DEFAULT 9001) RET
 
 CREATE FUNCTION count_min_final(internal) RETURNS count_min
     LANGUAGE C IMMUTABLE PARALLEL SAFE AS 'MODULE_PATHNAME', 'state_final';
-CREATE FUNCTION count_min_add(internal, text, bigint, integer, integer) RETURNS internal
-    LANGUAGE C IMMUTABLE PARALLEL SAFE AS 'MODULE_PATHNAME', 'count_min_add_string';
+CREATE FUNCTION count_min_add(internal, text, double precision, double precision) RETURNS internal
+    LANGUAGE C IMMUTABLE PARALLEL SAFE AS 'MODULE_PATHNAME', 'count_min_add_string_by_error';
 CREATE FUNCTION count_min_add(internal, text, bigint, double precision, double precision) RETURNS internal
     LANGUAGE C IMMUTABLE PARALLEL SAFE AS 'MODULE_PATHNAME', 'count_min_add_string_by_error';
-CREATE AGGREGATE count_min_agg(item text, weight bigint, num_hashes integer, num_buckets integer) (
+CREATE AGGREGATE count_min_agg(item text, relative_error double precision, confidence double precision) (
     SFUNC = count_min_add, STYPE = internal, SSPACE = 32768, FINALFUNC = count_min_final,
     COMBINEFUNC = sketch_combine, SERIALFUNC = sketch_serial, DESERIALFUNC = sketch_deserial, PARALLEL = SAFE);
 CREATE AGGREGATE count_min_agg(item text, weight bigint, relative_error double precision, confidence double precision) (
     SFUNC = count_min_add, STYPE = internal, SSPACE = 32768, FINALFUNC = count_min_final,
     COMBINEFUNC = sketch_combine, SERIALFUNC = sketch_serial, DESERIALFUNC = sketch_deserial, PARALLEL = SAFE);
-CREATE FUNCTION count_min_add(internal, bigint, bigint, integer, integer) RETURNS internal
-    LANGUAGE C IMMUTABLE PARALLEL SAFE AS 'MODULE_PATHNAME', 'count_min_add_bigint';
+CREATE FUNCTION count_min_add_sized(internal, text, integer, integer) RETURNS internal
+    LANGUAGE C IMMUTABLE PARALLEL SAFE AS 'MODULE_PATHNAME', 'count_min_add_string_by_size';
+CREATE FUNCTION count_min_add_sized(internal, text, bigint, integer, integer) RETURNS internal
+    LANGUAGE C IMMUTABLE PARALLEL SAFE AS 'MODULE_PATHNAME', 'count_min_add_string_by_size';
+CREATE AGGREGATE count_min_agg_sized(item text, num_hashes integer, num_buckets integer) (
+    SFUNC = count_min_add_sized, STYPE = internal, SSPACE = 32768, FINALFUNC = count_min_final,
+    COMBINEFUNC = sketch_combine, SERIALFUNC = sketch_serial, DESERIALFUNC = sketch_deserial, PARALLEL = SAFE);
+CREATE AGGREGATE count_min_agg_sized(item text, weight bigint, num_hashes integer, num_buckets integer) (
+    SFUNC = count_min_add_sized, STYPE = internal, SSPACE = 32768, FINALFUNC = count_min_final,
+    COMBINEFUNC = sketch_combine, SERIALFUNC = sketch_serial, DESERIALFUNC = sketch_deserial, PARALLEL = SAFE);
+CREATE FUNCTION count_min_add(internal, bigint, double precision, double precision) RETURNS internal
+    LANGUAGE C IMMUTABLE PARALLEL SAFE AS 'MODULE_PATHNAME', 'count_min_add_bigint_by_error';
 CREATE FUNCTION count_min_add(internal, bigint, bigint, double precision, double precision) RETURNS internal
     LANGUAGE C IMMUTABLE PARALLEL SAFE AS 'MODULE_PATHNAME', 'count_min_add_bigint_by_error';
-CREATE AGGREGATE count_min_agg(item bigint, weight bigint, num_hashes integer, num_buckets integer) (
+CREATE AGGREGATE count_min_agg(item bigint, relative_error double precision, confidence double precision) (
     SFUNC = count_min_add, STYPE = internal, SSPACE = 32768, FINALFUNC = count_min_final,
     COMBINEFUNC = sketch_combine, SERIALFUNC = sketch_serial, DESERIALFUNC = sketch_deserial, PARALLEL = SAFE);
 CREATE AGGREGATE count_min_agg(item bigint, weight bigint, relative_error double precision, confidence double precision) (
     SFUNC = count_min_add, STYPE = internal, SSPACE = 32768, FINALFUNC = count_min_final,
+    COMBINEFUNC = sketch_combine, SERIALFUNC = sketch_serial, DESERIALFUNC = sketch_deserial, PARALLEL = SAFE);
+CREATE FUNCTION count_min_add_sized(internal, bigint, integer, integer) RETURNS internal
+    LANGUAGE C IMMUTABLE PARALLEL SAFE AS 'MODULE_PATHNAME', 'count_min_add_bigint_by_size';
+CREATE FUNCTION count_min_add_sized(internal, bigint, bigint, integer, integer) RETURNS internal
+    LANGUAGE C IMMUTABLE PARALLEL SAFE AS 'MODULE_PATHNAME', 'count_min_add_bigint_by_size';
+CREATE AGGREGATE count_min_agg_sized(item bigint, num_hashes integer, num_buckets integer) (
+    SFUNC = count_min_add_sized, STYPE = internal, SSPACE = 32768, FINALFUNC = count_min_final,
+    COMBINEFUNC = sketch_combine, SERIALFUNC = sketch_serial, DESERIALFUNC = sketch_deserial, PARALLEL = SAFE);
+CREATE AGGREGATE count_min_agg_sized(item bigint, weight bigint, num_hashes integer, num_buckets integer) (
+    SFUNC = count_min_add_sized, STYPE = internal, SSPACE = 32768, FINALFUNC = count_min_final,
     COMBINEFUNC = sketch_combine, SERIALFUNC = sketch_serial, DESERIALFUNC = sketch_deserial, PARALLEL = SAFE);
 
 CREATE FUNCTION count_min_add_sketch(internal, count_min) RETURNS internal
@@ -371,25 +391,45 @@ CREATE FUNCTION signed_count_min_from_image(image bytea, seed numeric DEFAULT 90
 
 CREATE FUNCTION signed_count_min_final(internal) RETURNS signed_count_min
     LANGUAGE C IMMUTABLE PARALLEL SAFE AS 'MODULE_PATHNAME', 'state_final';
-CREATE FUNCTION signed_count_min_add(internal, text, bigint, integer, integer) RETURNS internal
-    LANGUAGE C IMMUTABLE PARALLEL SAFE AS 'MODULE_PATHNAME', 'signed_count_min_add_string';
+CREATE FUNCTION signed_count_min_add(internal, text, double precision, double precision) RETURNS internal
+    LANGUAGE C IMMUTABLE PARALLEL SAFE AS 'MODULE_PATHNAME', 'signed_count_min_add_string_by_error';
 CREATE FUNCTION signed_count_min_add(internal, text, bigint, double precision, double precision) RETURNS internal
     LANGUAGE C IMMUTABLE PARALLEL SAFE AS 'MODULE_PATHNAME', 'signed_count_min_add_string_by_error';
-CREATE AGGREGATE signed_count_min_agg(item text, weight bigint, num_hashes integer, num_buckets integer) (
+CREATE AGGREGATE signed_count_min_agg(item text, relative_error double precision, confidence double precision) (
     SFUNC = signed_count_min_add, STYPE = internal, SSPACE = 32768, FINALFUNC = signed_count_min_final,
     COMBINEFUNC = sketch_combine, SERIALFUNC = sketch_serial, DESERIALFUNC = sketch_deserial, PARALLEL = SAFE);
 CREATE AGGREGATE signed_count_min_agg(item text, weight bigint, relative_error double precision, confidence double precision) (
     SFUNC = signed_count_min_add, STYPE = internal, SSPACE = 32768, FINALFUNC = signed_count_min_final,
     COMBINEFUNC = sketch_combine, SERIALFUNC = sketch_serial, DESERIALFUNC = sketch_deserial, PARALLEL = SAFE);
-CREATE FUNCTION signed_count_min_add(internal, bigint, bigint, integer, integer) RETURNS internal
-    LANGUAGE C IMMUTABLE PARALLEL SAFE AS 'MODULE_PATHNAME', 'signed_count_min_add_bigint';
+CREATE FUNCTION signed_count_min_add_sized(internal, text, integer, integer) RETURNS internal
+    LANGUAGE C IMMUTABLE PARALLEL SAFE AS 'MODULE_PATHNAME', 'signed_count_min_add_string_by_size';
+CREATE FUNCTION signed_count_min_add_sized(internal, text, bigint, integer, integer) RETURNS internal
+    LANGUAGE C IMMUTABLE PARALLEL SAFE AS 'MODULE_PATHNAME', 'signed_count_min_add_string_by_size';
+CREATE AGGREGATE signed_count_min_agg_sized(item text, num_hashes integer, num_buckets integer) (
+    SFUNC = signed_count_min_add_sized, STYPE = internal, SSPACE = 32768, FINALFUNC = signed_count_min_final,
+    COMBINEFUNC = sketch_combine, SERIALFUNC = sketch_serial, DESERIALFUNC = sketch_deserial, PARALLEL = SAFE);
+CREATE AGGREGATE signed_count_min_agg_sized(item text, weight bigint, num_hashes integer, num_buckets integer) (
+    SFUNC = signed_count_min_add_sized, STYPE = internal, SSPACE = 32768, FINALFUNC = signed_count_min_final,
+    COMBINEFUNC = sketch_combine, SERIALFUNC = sketch_serial, DESERIALFUNC = sketch_deserial, PARALLEL = SAFE);
+CREATE FUNCTION signed_count_min_add(internal, bigint, double precision, double precision) RETURNS internal
+    LANGUAGE C IMMUTABLE PARALLEL SAFE AS 'MODULE_PATHNAME', 'signed_count_min_add_bigint_by_error';
 CREATE FUNCTION signed_count_min_add(internal, bigint, bigint, double precision, double precision) RETURNS internal
     LANGUAGE C IMMUTABLE PARALLEL SAFE AS 'MODULE_PATHNAME', 'signed_count_min_add_bigint_by_error';
-CREATE AGGREGATE signed_count_min_agg(item bigint, weight bigint, num_hashes integer, num_buckets integer) (
+CREATE AGGREGATE signed_count_min_agg(item bigint, relative_error double precision, confidence double precision) (
     SFUNC = signed_count_min_add, STYPE = internal, SSPACE = 32768, FINALFUNC = signed_count_min_final,
     COMBINEFUNC = sketch_combine, SERIALFUNC = sketch_serial, DESERIALFUNC = sketch_deserial, PARALLEL = SAFE);
 CREATE AGGREGATE signed_count_min_agg(item bigint, weight bigint, relative_error double precision, confidence double precision) (
     SFUNC = signed_count_min_add, STYPE = internal, SSPACE = 32768, FINALFUNC = signed_count_min_final,
+    COMBINEFUNC = sketch_combine, SERIALFUNC = sketch_serial, DESERIALFUNC = sketch_deserial, PARALLEL = SAFE);
+CREATE FUNCTION signed_count_min_add_sized(internal, bigint, integer, integer) RETURNS internal
+    LANGUAGE C IMMUTABLE PARALLEL SAFE AS 'MODULE_PATHNAME', 'signed_count_min_add_bigint_by_size';
+CREATE FUNCTION signed_count_min_add_sized(internal, bigint, bigint, integer, integer) RETURNS internal
+    LANGUAGE C IMMUTABLE PARALLEL SAFE AS 'MODULE_PATHNAME', 'signed_count_min_add_bigint_by_size';
+CREATE AGGREGATE signed_count_min_agg_sized(item bigint, num_hashes integer, num_buckets integer) (
+    SFUNC = signed_count_min_add_sized, STYPE = internal, SSPACE = 32768, FINALFUNC = signed_count_min_final,
+    COMBINEFUNC = sketch_combine, SERIALFUNC = sketch_serial, DESERIALFUNC = sketch_deserial, PARALLEL = SAFE);
+CREATE AGGREGATE signed_count_min_agg_sized(item bigint, weight bigint, num_hashes integer, num_buckets integer) (
+    SFUNC = signed_count_min_add_sized, STYPE = internal, SSPACE = 32768, FINALFUNC = signed_count_min_final,
     COMBINEFUNC = sketch_combine, SERIALFUNC = sketch_serial, DESERIALFUNC = sketch_deserial, PARALLEL = SAFE);
 
 CREATE FUNCTION signed_count_min_add_sketch(internal, signed_count_min) RETURNS internal
@@ -479,25 +519,25 @@ CREATE FUNCTION bloom_filter_from_image(image bytea) RETURNS bloom_filter
 
 CREATE FUNCTION bloom_filter_final(internal) RETURNS bloom_filter
     LANGUAGE C IMMUTABLE PARALLEL SAFE AS 'MODULE_PATHNAME', 'state_final';
-CREATE FUNCTION bloom_filter_add(internal, text, bigint, integer) RETURNS internal
-    LANGUAGE C IMMUTABLE PARALLEL SAFE AS 'MODULE_PATHNAME', 'bloom_filter_add_string';
 CREATE FUNCTION bloom_filter_add(internal, text, bigint, double precision) RETURNS internal
     LANGUAGE C IMMUTABLE PARALLEL SAFE AS 'MODULE_PATHNAME', 'bloom_filter_add_string_by_error';
-CREATE AGGREGATE bloom_filter_agg(key text, num_bits bigint, num_hashes integer) (
-    SFUNC = bloom_filter_add, STYPE = internal, SSPACE = 32768, FINALFUNC = bloom_filter_final,
-    COMBINEFUNC = sketch_combine, SERIALFUNC = sketch_serial, DESERIALFUNC = sketch_deserial, PARALLEL = SAFE);
 CREATE AGGREGATE bloom_filter_agg(key text, expected_items bigint, false_positive_rate double precision) (
     SFUNC = bloom_filter_add, STYPE = internal, SSPACE = 32768, FINALFUNC = bloom_filter_final,
     COMBINEFUNC = sketch_combine, SERIALFUNC = sketch_serial, DESERIALFUNC = sketch_deserial, PARALLEL = SAFE);
-CREATE FUNCTION bloom_filter_add(internal, bigint, bigint, integer) RETURNS internal
-    LANGUAGE C IMMUTABLE PARALLEL SAFE AS 'MODULE_PATHNAME', 'bloom_filter_add_bigint';
+CREATE FUNCTION bloom_filter_add_sized(internal, text, bigint, integer) RETURNS internal
+    LANGUAGE C IMMUTABLE PARALLEL SAFE AS 'MODULE_PATHNAME', 'bloom_filter_add_string_by_size';
+CREATE AGGREGATE bloom_filter_agg_sized(key text, num_bits bigint, num_hashes integer) (
+    SFUNC = bloom_filter_add_sized, STYPE = internal, SSPACE = 32768, FINALFUNC = bloom_filter_final,
+    COMBINEFUNC = sketch_combine, SERIALFUNC = sketch_serial, DESERIALFUNC = sketch_deserial, PARALLEL = SAFE);
 CREATE FUNCTION bloom_filter_add(internal, bigint, bigint, double precision) RETURNS internal
     LANGUAGE C IMMUTABLE PARALLEL SAFE AS 'MODULE_PATHNAME', 'bloom_filter_add_bigint_by_error';
-CREATE AGGREGATE bloom_filter_agg(key bigint, num_bits bigint, num_hashes integer) (
-    SFUNC = bloom_filter_add, STYPE = internal, SSPACE = 32768, FINALFUNC = bloom_filter_final,
-    COMBINEFUNC = sketch_combine, SERIALFUNC = sketch_serial, DESERIALFUNC = sketch_deserial, PARALLEL = SAFE);
 CREATE AGGREGATE bloom_filter_agg(key bigint, expected_items bigint, false_positive_rate double precision) (
     SFUNC = bloom_filter_add, STYPE = internal, SSPACE = 32768, FINALFUNC = bloom_filter_final,
+    COMBINEFUNC = sketch_combine, SERIALFUNC = sketch_serial, DESERIALFUNC = sketch_deserial, PARALLEL = SAFE);
+CREATE FUNCTION bloom_filter_add_sized(internal, bigint, bigint, integer) RETURNS internal
+    LANGUAGE C IMMUTABLE PARALLEL SAFE AS 'MODULE_PATHNAME', 'bloom_filter_add_bigint_by_size';
+CREATE AGGREGATE bloom_filter_agg_sized(key bigint, num_bits bigint, num_hashes integer) (
+    SFUNC = bloom_filter_add_sized, STYPE = internal, SSPACE = 32768, FINALFUNC = bloom_filter_final,
     COMBINEFUNC = sketch_combine, SERIALFUNC = sketch_serial, DESERIALFUNC = sketch_deserial, PARALLEL = SAFE);
 
 CREATE FUNCTION bloom_filter_add_sketch(internal, bloom_filter) RETURNS internal
@@ -570,6 +610,7 @@ BEGIN
                 AND refobjid = (SELECT oid FROM pg_extension WHERE extname = 'sketches_rattle')
         ), said (of, text) AS (VALUES
             ('agg', 'makes a sketch of the items of a group'),
+            ('agg_sized', 'makes a sketch of these sizes of the items of a group'),
             ('union', 'merges sketches'),
             ('sketch_intersection', 'keeps what two filters have in common'),
             ('estimate', 'an estimate of the weight of an item'),
@@ -591,6 +632,7 @@ BEGIN
             ('gt', 'implementation of > operator'), ('ge', 'implementation of >= operator'),
             ('hash', 'hash of an image'), ('hash_extended', 'hash of an image under a seed'),
             ('add', 'adds a row to the state of an aggregate'),
+            ('add_sized', 'adds a row to the state of an aggregate'),
             ('add_sketch', 'merges a row into the state of an aggregate'),
             ('final', 'the sketch of the state of an aggregate'),
             ('sketch_combine', 'merges two states of an aggregate'),

@@ -7,18 +7,18 @@ SET parallel_tuple_cost = 0;
 SET min_parallel_table_scan_size = 0;
 SET max_parallel_workers_per_gather = 2;
 EXPLAIN (COSTS off)
-SELECT frequent_strings_agg(string), frequent_bigints_agg(number, weight, 1024), count_min_agg(number, weight, 4, 4096),
-    signed_count_min_agg(string, -weight, 4, 4096), bloom_filter_agg(string, 1000, 0.01)
+SELECT frequent_strings_agg(string), frequent_bigints_agg(number, weight, 1024), count_min_agg_sized(number, weight, 4, 4096),
+    signed_count_min_agg_sized(string, -weight, 4, 4096), bloom_filter_agg(string, 1000, 0.01)
 FROM facts;
 CREATE TABLE parallel AS
 SELECT frequent_strings_agg(string) AS strings, frequent_bigints_agg(number, weight, 1024) AS bigints,
-    count_min_agg(number, weight, 4, 4096) AS counts, signed_count_min_agg(string, -weight, 4, 4096) AS signed_counts,
+    count_min_agg_sized(number, weight, 4, 4096) AS counts, signed_count_min_agg_sized(string, -weight, 4, 4096) AS signed_counts,
     bloom_filter_agg(string, 1000, 0.01) AS filter
 FROM facts;
 SET max_parallel_workers_per_gather = 0;
 CREATE TABLE serial AS
 SELECT frequent_strings_agg(string) AS strings, frequent_bigints_agg(number, weight, 1024) AS bigints,
-    count_min_agg(number, weight, 4, 4096) AS counts, signed_count_min_agg(string, -weight, 4, 4096) AS signed_counts,
+    count_min_agg_sized(number, weight, 4, 4096) AS counts, signed_count_min_agg_sized(string, -weight, 4, 4096) AS signed_counts,
     bloom_filter_agg(string, 1000, 0.01) AS filter
 FROM facts;
 SELECT p.counts = s.counts AS counts, p.signed_counts = s.signed_counts AS signed_counts, p.filter = s.filter AS filter
@@ -38,11 +38,11 @@ FROM s, e;
 
 -- Groups, and unions of stored sketches, in workers.
 CREATE TABLE stored AS
-SELECT number % 1000 AS part, bloom_filter_agg(number, 5000, 4) AS filter, frequent_bigints_agg(number) AS bigints
+SELECT number % 1000 AS part, bloom_filter_agg_sized(number, 5000, 4) AS filter, frequent_bigints_agg(number) AS bigints
 FROM spread GROUP BY number % 1000;
 ANALYZE stored;
 EXPLAIN (COSTS off) SELECT bloom_filter_union(filter), frequent_bigints_union(bigints) FROM stored;
-SELECT bloom_filter_union(filter) = (SELECT bloom_filter_agg(number, 5000, 4) FROM spread) AS filter,
+SELECT bloom_filter_union(filter) = (SELECT bloom_filter_agg_sized(number, 5000, 4) FROM spread) AS filter,
     (sketch_status(frequent_bigints_union(bigints))).total_weight
 FROM stored;
 

@@ -1,8 +1,8 @@
 CREATE TABLE days (day integer, pages frequent_strings, visitors frequent_bigints, seconds count_min, refunds signed_count_min,
     seen bloom_filter);
 INSERT INTO days
-SELECT i / 100, frequent_strings_agg('page ' || i % 100), frequent_bigints_agg(i), count_min_agg('page ' || i % 100, i, 4, 1024),
-    signed_count_min_agg(i, -i, 4, 1024), bloom_filter_agg(i, 100, 0.001)
+SELECT i / 100, frequent_strings_agg('page ' || i % 100), frequent_bigints_agg(i), count_min_agg_sized('page ' || i % 100, i, 4, 1024),
+    signed_count_min_agg_sized(i, -i, 4, 1024), bloom_filter_agg(i, 100, 0.001)
 FROM generate_series(100, 399) AS i GROUP BY i / 100;
 
 -- Bounds, estimates and rows.
@@ -61,7 +61,7 @@ SELECT sketch_contains(seen, NULL::bigint) IS NULL AS no_item, sketch_contains(N
 -- A function that keeps sketches from row to row uses the sketch of its row: in a nested loop over more sketches than are kept at first, and
 -- for parameters.
 CREATE TABLE filters AS
-SELECT part, bloom_filter_agg(i, 20000, 5) AS filter, count_min_agg(i, part + 1, 2, 2000) AS counts
+SELECT part, bloom_filter_agg_sized(i, 20000, 5) AS filter, count_min_agg_sized(i, part + 1, 2, 2000) AS counts
 FROM generate_series(0, 999) AS i, LATERAL (SELECT i % 40 AS part) AS p GROUP BY part;
 SET enable_hashjoin = off;
 SET enable_mergejoin = off;

@@ -1,7 +1,7 @@
 CREATE TABLE sets AS
 SELECT name, frequent_strings_agg('item ' || i) AS strings, frequent_bigints_agg(i) AS bigints,
-    count_min_agg(i, 1, 4, 1024) AS counts, signed_count_min_agg(i, -1, 4, 1024) AS signed_counts,
-    bloom_filter_agg(i, 10000, 7) AS filter
+    count_min_agg_sized(i, 1, 4, 1024) AS counts, signed_count_min_agg_sized(i, -1, 4, 1024) AS signed_counts,
+    bloom_filter_agg_sized(i, 10000, 7) AS filter
 FROM (VALUES ('low', 1, 60), ('high', 41, 100), ('all', 1, 100)) AS v(name, first, last), generate_series(first, last) AS i
 GROUP BY name;
 
@@ -32,19 +32,19 @@ SELECT a.name, b.name FROM sets AS a JOIN sets AS b ON a.filter = b.filter AND a
 -- A union of filters of strings and of bigints has both. Their intersection has neither.
 SELECT (sketch_status(strings | bigints)).items, sketch_contains(strings | bigints, 'a') AS string, sketch_contains(strings | bigints, 2) AS bigint,
     (sketch_status((strings | bigints) & strings)).items AS intersection
-FROM (SELECT bloom_filter_agg(string, 1000, 5) AS strings, bloom_filter_agg(number, 1000, 5) AS bigints
+FROM (SELECT bloom_filter_agg_sized(string, 1000, 5) AS strings, bloom_filter_agg_sized(number, 1000, 5) AS bigints
     FROM (VALUES ('a', 1), ('b', 2)) AS v(string, number)) AS f;
 SELECT (sketch_status(strings | bigints)).items, (sketch_status(strings | bigints)).total_weight
-FROM (SELECT count_min_agg(string, 1, 3, 64) AS strings, count_min_agg(number, 1, 3, 64) AS bigints
+FROM (SELECT count_min_agg_sized(string, 1, 3, 64) AS strings, count_min_agg_sized(number, 1, 3, 64) AS bigints
     FROM (VALUES ('a', 1), ('b', 2)) AS v(string, number)) AS f;
 
 \set VERBOSITY sqlstate
-SELECT bloom_filter_agg('a', 1000, 5) & bloom_filter_agg(1, 1000, 5);
-SELECT bloom_filter_agg('a', 1000, 5) | bloom_filter_agg('a', 1000, 6);
-SELECT bloom_filter_agg('a', 1000, 5) & bloom_filter_agg('a', 2000, 5);
-SELECT count_min_agg('a', 1, 3, 64) | count_min_agg('a', 1, 3, 65);
-SELECT signed_count_min_agg('a', 1, 3, 64) | signed_count_min_agg('a', 1, 4, 64);
-SELECT bloom_filter_union(f) FROM (SELECT bloom_filter_agg(i, 64 * i, 5) AS f FROM generate_series(1, 2) AS i GROUP BY i) AS f;
+SELECT bloom_filter_agg_sized('a', 1000, 5) & bloom_filter_agg_sized(1, 1000, 5);
+SELECT bloom_filter_agg_sized('a', 1000, 5) | bloom_filter_agg_sized('a', 1000, 6);
+SELECT bloom_filter_agg_sized('a', 1000, 5) & bloom_filter_agg_sized('a', 2000, 5);
+SELECT count_min_agg_sized('a', 1, 3, 64) | count_min_agg_sized('a', 1, 3, 65);
+SELECT signed_count_min_agg_sized('a', 1, 3, 64) | signed_count_min_agg_sized('a', 1, 4, 64);
+SELECT bloom_filter_union(f) FROM (SELECT bloom_filter_agg_sized(i, 64 * i, 5) AS f FROM generate_series(1, 2) AS i GROUP BY i) AS f;
 SELECT filter | counts FROM sets;
 SELECT strings | bigints FROM sets;
 \set VERBOSITY default

@@ -32,38 +32,38 @@ SELECT frequent_strings_agg('a', 1, 0.0);
 SELECT frequent_strings_agg('a', 1, 1.5);
 SELECT frequent_strings_agg('a', 1, 'NaN'::float8);
 SELECT frequent_bigints_agg(1, 1, NULL::integer);
-SELECT count_min_agg(1, 1, 0, 100);
-SELECT count_min_agg(1, 1, 256, 100);
-SELECT count_min_agg(1, 1, 3, 2);
-SELECT count_min_agg(1, 1, 3, -1);
+SELECT count_min_agg_sized(1, 1, 0, 100);
+SELECT count_min_agg_sized(1, 1, 256, 100);
+SELECT count_min_agg_sized(1, 1, 3, 2);
+SELECT count_min_agg_sized(1, 1, 3, -1);
 SELECT count_min_agg(1, 1, 0.1, 1.0);
 SELECT count_min_agg(1, 1, -0.1, 0.5);
-SELECT bloom_filter_agg(1, 0, 3);
-SELECT bloom_filter_agg(1, 64, 0);
-SELECT bloom_filter_agg(1, 64, 40000);
-SELECT bloom_filter_agg(1, -64, 3);
+SELECT bloom_filter_agg_sized(1, 0, 3);
+SELECT bloom_filter_agg_sized(1, 64, 0);
+SELECT bloom_filter_agg_sized(1, 64, 40000);
+SELECT bloom_filter_agg_sized(1, -64, 3);
 SELECT bloom_filter_agg(1, 0, 0.1);
 SELECT bloom_filter_agg(1, 100, 0.0);
 SELECT bloom_filter_agg(1, NULL, 0.1);
 
 -- Sizes are the same at all rows of a group.
 SELECT frequent_bigints_agg(i, 1, 8 << i) FROM generate_series(1, 2) AS i;
-SELECT count_min_agg(i, 1, 3, 64 + i) FROM generate_series(1, 2) AS i;
-SELECT signed_count_min_agg(i, 1, 3 + i, 64) FROM generate_series(1, 2) AS i;
+SELECT count_min_agg_sized(i, 1, 3, 64 + i) FROM generate_series(1, 2) AS i;
+SELECT signed_count_min_agg_sized(i, 1, 3 + i, 64) FROM generate_series(1, 2) AS i;
 SELECT bloom_filter_agg(i, 1000, 0.1 / i) FROM generate_series(1, 2) AS i;
-SELECT bloom_filter_agg(i, CASE i WHEN 1 THEN 64 END, 3) FROM generate_series(1, 2) AS i;
-SELECT i, (sketch_status(bloom_filter_agg(i, 64 * i, 3))).capacity FROM generate_series(1, 2) AS i GROUP BY i ORDER BY i;
+SELECT bloom_filter_agg_sized(i, CASE i WHEN 1 THEN 64 END, 3) FROM generate_series(1, 2) AS i;
+SELECT i, (sketch_status(bloom_filter_agg_sized(i, 64 * i, 3))).capacity FROM generate_series(1, 2) AS i GROUP BY i ORDER BY i;
 
 -- A sketch is within the limits, with its strings.
 SET sketches_rattle.max_image_bytes = '64kB';
-SELECT bloom_filter_agg(1, 1000000, 3);
-SELECT count_min_agg(1, 1, 5, 10000);
+SELECT bloom_filter_agg_sized(1, 1000000, 3);
+SELECT count_min_agg_sized(1, 1, 5, 10000);
 SELECT frequent_bigints_agg(1, 1, 4096);
 SELECT (sketch_status(frequent_strings_agg(repeat('x', 1000) || i))).num_active_items FROM generate_series(1, 10) AS i;
 SELECT frequent_strings_agg(repeat('x', 1000) || i) FROM generate_series(1, 100) AS i;
 SELECT (sketch_status(frequent_strings_agg(repeat('x', 1000) || i % 3))).num_active_items FROM generate_series(1, 1000) AS i;
 RESET sketches_rattle.max_image_bytes;
-CREATE TABLE long AS SELECT frequent_strings_agg(repeat('x', 1000) || i) AS strings, bloom_filter_agg(i, 1000000, 3) AS filter
+CREATE TABLE long AS SELECT frequent_strings_agg(repeat('x', 1000) || i) AS strings, bloom_filter_agg_sized(i, 1000000, 3) AS filter
 FROM generate_series(1, 100) AS i;
 SELECT (sketch_status(strings)).num_active_items, sketch_contains(filter, 7) FROM long;
 SET sketches_rattle.max_image_bytes = '64kB';

@@ -2,8 +2,8 @@ CREATE EXTENSION sketches_rattle;
 CREATE TABLE sketches (strings frequent_strings, bigints frequent_bigints, counts count_min, signed_counts signed_count_min,
     filter bloom_filter);
 INSERT INTO sketches
-SELECT frequent_strings_agg('item ' || i % 5), frequent_bigints_agg(i % 5), count_min_agg(i % 5, 2, 3, 64),
-    signed_count_min_agg('item ' || i % 5, -1, 3, 64), bloom_filter_agg(i, 1024, 5)
+SELECT frequent_strings_agg('item ' || i % 5), frequent_bigints_agg(i % 5), count_min_agg_sized(i % 5, 2, 3, 64),
+    signed_count_min_agg_sized('item ' || i % 5, -1, 3, 64), bloom_filter_agg_sized(i, 1024, 5)
 FROM generate_series(1, 100) AS i;
 
 -- The text form and the bytea form keep a sketch.

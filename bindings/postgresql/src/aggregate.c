@@ -2,6 +2,7 @@
  *
  * A state lives in the memory context of its aggregate, and so does all that the library allocates for it. */
 #include "extension.h"
+#include "update.h"
 
 #include "utils/memutils.h"
 
@@ -111,52 +112,6 @@ static inline void check_sizes(FunctionCallInfo fcinfo, const State *state, int 
     }
 }
 
-/* Each of these adds a row's item and weight to a sketch. They return the library's result. */
-typedef int32_t (*AddString)(ds_sketch *handle, ds_string item, int64 weight);
-typedef int32_t (*AddBigint)(ds_sketch *handle, int64 item, int64 weight);
-
-static inline int32_t frequent_string(ds_sketch *handle, ds_string item, int64 weight)
-{
-    return ds_frequent_items_string_update(handle, item.bytes, item.length, weight);
-}
-
-static inline int32_t frequent_bigint(ds_sketch *handle, int64 item, int64 weight)
-{
-    return ds_frequent_items_i64_update(handle, item, weight);
-}
-
-static inline int32_t count_string(ds_sketch *handle, ds_string item, int64 weight)
-{
-    return ds_count_min_u64_update_string(handle, item.bytes, item.length, weight);
-}
-
-static inline int32_t count_bigint(ds_sketch *handle, int64 item, int64 weight)
-{
-    return ds_count_min_u64_update_i64(handle, item, weight);
-}
-
-static inline int32_t signed_count_string(ds_sketch *handle, ds_string item, int64 weight)
-{
-    return ds_count_min_i64_update_string(handle, item.bytes, item.length, weight);
-}
-
-static inline int32_t signed_count_bigint(ds_sketch *handle, int64 item, int64 weight)
-{
-    return ds_count_min_i64_update_i64(handle, item, weight);
-}
-
-static inline int32_t filter_string(ds_sketch *handle, ds_string item, int64 weight)
-{
-    (void) weight;
-    return ds_bloom_insert_string(handle, item.bytes, item.length);
-}
-
-static inline int32_t filter_bigint(ds_sketch *handle, int64 item, int64 weight)
-{
-    (void) weight;
-    return ds_bloom_insert_i64(handle, item);
-}
-
 /* Checks the limit of a state of strings each time that a quarter of it has come. So a state exceeds it by little before the group
  * ends. */
 static inline void check_strings(State *state, size_t length)
@@ -172,16 +127,22 @@ typedef struct Row {
     Kind kind;
     uint8 items;
     Make make;
-    AddString add_string;
-    AddBigint add_bigint;
 } Row;
+
+/* Returns the number of the call's first argument that is a size. The arguments are the state, the item, a weight, which may be left
+ * out and which filters do not have, and sizes: two, but of frequent items at most one, after a weight. */
+static inline int first_size(FunctionCallInfo fcinfo, Kind kind)
+{
+    bool is_frequent = kind == FREQUENT_STRINGS || kind == FREQUENT_BIGINTS;
+    return is_frequent ? Min(PG_NARGS(), 3) : PG_NARGS() - 2;
+}
 
 /* Adds a row to the state, or begins a state. A row whose item or weight is null is ignored. */
 static pg_attribute_always_inline Datum add_row(FunctionCallInfo fcinfo, Row row)
 {
     State *state = state_argument(fcinfo, 0);
-    bool has_weights = row.kind != BLOOM_FILTER && PG_NARGS() > 2;
-    int number = row.kind == BLOOM_FILTER ? 2 : 3;
+    int number = first_size(fcinfo, row.kind);
+    bool has_weights = row.kind != BLOOM_FILTER && number == 3;
     int64 weight = 1;
     ds_string string = {NULL, 0};
     MemoryContext before;
@@ -190,39 +151,35 @@ static pg_attribute_always_inline Datum add_row(FunctionCallInfo fcinfo, Row row
     if (unlikely(state == NULL)) state = begin(fcinfo, row.kind, row.items, number, row.make);
     else check_sizes(fcinfo, state, number);
     if (has_weights) weight = PG_GETARG_INT64(2);
-    if (row.kind != SIGNED_COUNT_MIN && unlikely(weight < 0))
-        ereport(ERROR, (errcode(ERRCODE_NUMERIC_VALUE_OUT_OF_RANGE), errmsg("the weight must not be below 0")));
+    check_weight(row.kind, weight);
     if (row.items == STRINGS) string = string_argument(fcinfo, 1);
     before = MemoryContextSwitchTo(state->context);
-    if (row.items == STRINGS) result = row.add_string(&state->handle, string, weight);
-    else result = row.add_bigint(&state->handle, PG_GETARG_INT64(1), weight);
+    if (row.items == STRINGS) result = add_string(row.kind, &state->handle, string, weight);
+    else result = add_bigint(row.kind, &state->handle, PG_GETARG_INT64(1), weight);
     MemoryContextSwitchTo(before);
     check_result(result);
     if (row.kind == FREQUENT_STRINGS) check_strings(state, string.length);
     PG_RETURN_POINTER(state);
 }
 
-#define ROW(name, ...) \
+#define ROW(name, kind, items, make) \
     PG_FUNCTION_INFO_V1(name); \
     Datum name(PG_FUNCTION_ARGS) \
     { \
-        return add_row(fcinfo, (Row) {__VA_ARGS__}); \
+        return add_row(fcinfo, (Row) {kind, items, make}); \
     }
-#define ROWS_OF_STRINGS(name, kind, prefix, add) \
-    ROW(name, kind, STRINGS, prefix##_by_size, add, NULL) \
-    ROW(name##_by_error, kind, STRINGS, prefix##_by_error, add, NULL)
-#define ROWS_OF_BIGINTS(name, kind, prefix, add) \
-    ROW(name, kind, BIGINTS, prefix##_by_size, NULL, add) \
-    ROW(name##_by_error, kind, BIGINTS, prefix##_by_error, NULL, add)
+#define ROWS(name, kind, items, prefix) \
+    ROW(name##_by_size, kind, items, prefix##_by_size) \
+    ROW(name##_by_error, kind, items, prefix##_by_error)
 
-ROWS_OF_STRINGS(frequent_strings_add, FREQUENT_STRINGS, frequent, frequent_string)
-ROWS_OF_BIGINTS(frequent_bigints_add, FREQUENT_BIGINTS, frequent, frequent_bigint)
-ROWS_OF_STRINGS(count_min_add_string, COUNT_MIN, count, count_string)
-ROWS_OF_BIGINTS(count_min_add_bigint, COUNT_MIN, count, count_bigint)
-ROWS_OF_STRINGS(signed_count_min_add_string, SIGNED_COUNT_MIN, count, signed_count_string)
-ROWS_OF_BIGINTS(signed_count_min_add_bigint, SIGNED_COUNT_MIN, count, signed_count_bigint)
-ROWS_OF_STRINGS(bloom_filter_add_string, BLOOM_FILTER, filter, filter_string)
-ROWS_OF_BIGINTS(bloom_filter_add_bigint, BLOOM_FILTER, filter, filter_bigint)
+ROWS(frequent_strings_add, FREQUENT_STRINGS, STRINGS, frequent)
+ROWS(frequent_bigints_add, FREQUENT_BIGINTS, BIGINTS, frequent)
+ROWS(count_min_add_string, COUNT_MIN, STRINGS, count)
+ROWS(count_min_add_bigint, COUNT_MIN, BIGINTS, count)
+ROWS(signed_count_min_add_string, SIGNED_COUNT_MIN, STRINGS, count)
+ROWS(signed_count_min_add_bigint, SIGNED_COUNT_MIN, BIGINTS, count)
+ROWS(bloom_filter_add_string, BLOOM_FILTER, STRINGS, filter)
+ROWS(bloom_filter_add_bigint, BLOOM_FILTER, BIGINTS, filter)
 
 /* --- Unions. --- */
 

@@ -24,9 +24,9 @@ COLUMNS = """
     frequent_strings_agg(string, weight, 64) AS strings_64, frequent_strings_agg(string, weight, 4096) AS strings_4096,
     frequent_bigints_agg(number, weight, 64) AS bigints_64, frequent_bigints_agg(number, weight, 65536) AS bigints_65536,
     frequent_strings_agg(string) AS strings_rows, frequent_bigints_agg(number) AS bigints_rows,
-    count_min_agg(string, weight, 4, 500) AS count_strings, count_min_agg(number, weight, 4, 500) AS count_bigints,
-    signed_count_min_agg(string, weight, 4, 500) AS signed_strings, signed_count_min_agg(number, -weight, 4, 500) AS minus_bigints,
-    signed_count_min_agg(number, weight, 4, 500) AS signed_bigints,
+    count_min_agg_sized(string, weight, 4, 500) AS count_strings, count_min_agg_sized(number, weight, 4, 500) AS count_bigints,
+    signed_count_min_agg_sized(string, weight, 4, 500) AS signed_strings, signed_count_min_agg_sized(number, -weight, 4, 500) AS minus_bigints,
+    signed_count_min_agg_sized(number, weight, 4, 500) AS signed_bigints,
     bloom_filter_agg(string, 30000, 0.01) AS filter_strings, bloom_filter_agg(number, 30000, 0.01) AS filter_bigints"""
 FREQUENT = [("strings_64", "string", "weight"), ("strings_4096", "string", "weight"), ("bigints_64", "number", "weight"),
             ("bigints_65536", "number", "weight"), ("strings_rows", "string", "rows"), ("bigints_rows", "number", "rows")]
@@ -150,8 +150,8 @@ def unlike_sizes(tests, ask):
 def groups(tests, ask, cursor):
     """Checks each key of each of many groups, by hashing, by sorting, with little memory, and with workers."""
     query = """CREATE TABLE {0} AS SELECT number % 1000 AS g, frequent_bigints_agg(number, weight, 8) AS bigints,
-        frequent_strings_agg(string, weight, 8) AS strings, count_min_agg(number, weight, 2, 16) AS counts,
-        bloom_filter_agg(string, 64, 3) AS filter FROM stream GROUP BY 1"""
+        frequent_strings_agg(string, weight, 8) AS strings, count_min_agg_sized(number, weight, 2, 16) AS counts,
+        bloom_filter_agg_sized(string, 64, 3) AS filter FROM stream GROUP BY 1"""
     for run, settings in [("by hash", f"{SERIAL}; SET enable_sort = off"), ("by sort", f"{SERIAL}; SET enable_hashagg = off"),
                           ("in little memory", f"{SERIAL}; SET enable_sort = off; SET work_mem = '64kB'"),
                           ("by workers", PARALLEL.format("on"))]:

@@ -5,8 +5,8 @@ from ends import code_of
 
 # Rows whose sketches lie in the table's own file, a few hundred bytes each, and rows whose sketches are stored apart.
 SHORT = {"frequent_strings": "frequent_strings_agg('item ' || j, j, 64)", "frequent_bigints": "frequent_bigints_agg(j, j, 64)",
-         "count_min": "count_min_agg(j, j, 2, 16)", "signed_count_min": "signed_count_min_agg('item ' || j, -j, 2, 16)",
-         "bloom_filter": "bloom_filter_agg(j, 2048, 5)"}
+         "count_min": "count_min_agg_sized(j, j, 2, 16)", "signed_count_min": "signed_count_min_agg_sized('item ' || j, -j, 2, 16)",
+         "bloom_filter": "bloom_filter_agg_sized(j, 2048, 5)"}
 # What makes a query read the sketch itself.
 READS = {"frequent_strings": "sketch_lower_bound(sketch, 'a')", "frequent_bigints": "sketch_lower_bound(sketch, 1)",
          "count_min": "(sketch_status(sketch)).items", "signed_count_min": "sketch_estimate(sketch, 'a')", "bloom_filter": "sketch_contains(sketch, 1)"}
@@ -27,7 +27,7 @@ def damaged_bytes(tests):
                                f"SELECT i, {aggregate} FROM generate_series(1, {2 * length}) AS i, "
                                "generate_series(1::bigint, 10) AS j GROUP BY i ORDER BY i")
                 places[name] = file_of(cursor, f"of_{name}")
-            cursor.execute("CREATE TABLE apart AS SELECT i AS id, bloom_filter_agg(j, 80000, 5) AS sketch "
+            cursor.execute("CREATE TABLE apart AS SELECT i AS id, bloom_filter_agg_sized(j, 80000, 5) AS sketch "
                            "FROM generate_series(1, 60) AS i, generate_series(i * 10000::bigint, i * 10000 + 2000) AS j "
                            "GROUP BY i ORDER BY i")
             cursor.execute("SELECT reltoastrelid::regclass FROM pg_class WHERE relname = 'apart'")

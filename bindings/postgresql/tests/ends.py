@@ -14,8 +14,8 @@ TABLES = """
 CREATE TABLE IF NOT EXISTS rows AS SELECT i, 'item ' || i % 50021 AS string, i * 7919 % 50021 AS number
 FROM generate_series(1::bigint, 400000) AS i;
 CREATE TABLE IF NOT EXISTS many AS SELECT part, frequent_strings_agg('item ' || i) AS strings, frequent_bigints_agg(i) AS bigints,
-    count_min_agg(i, 1, 4, 2000) AS counts, signed_count_min_agg(i, -1, 4, 2000) AS signed_counts,
-    bloom_filter_agg(i, 100000, 5) AS filter
+    count_min_agg_sized(i, 1, 4, 2000) AS counts, signed_count_min_agg_sized(i, -1, 4, 2000) AS signed_counts,
+    bloom_filter_agg_sized(i, 100000, 5) AS filter
 FROM generate_series(1, 300) AS part, generate_series(part::bigint, part + 500) AS i GROUP BY part;
 ANALYZE;
 """
@@ -24,8 +24,8 @@ ANALYZE;
 LONG = {
     "rows of strings": "SELECT frequent_strings_agg(string || i) FROM rows, generate_series(1, 1000)",
     "rows of bigints": "SELECT frequent_bigints_agg(number * j, 1, 65536) FROM rows, generate_series(1, 1000) AS j",
-    "rows of counts": "SELECT count_min_agg(string, 1, 9, 20000) FROM rows, generate_series(1, 1000)",
-    "rows of a filter": "SELECT bloom_filter_agg(string || j, 100000000, 9) FROM rows, generate_series(1, 1000) AS j",
+    "rows of counts": "SELECT count_min_agg_sized(string, 1, 9, 20000) FROM rows, generate_series(1, 1000)",
+    "rows of a filter": "SELECT bloom_filter_agg_sized(string || j, 100000000, 9) FROM rows, generate_series(1, 1000) AS j",
     "many groups": "SELECT count(s) FROM (SELECT frequent_bigints_agg(number, 1, 8) AS s FROM rows, generate_series(1, 1000) AS j "
                    "GROUP BY number * j) AS t",
     "unions of strings": "SELECT frequent_strings_union(strings) FROM many, generate_series(1, 100000)",
@@ -178,8 +178,8 @@ def out_of_memory(tests):
     """Limits of memory: the system's, lower and lower, and the extension's own."""
     prepare(tests.main)
     statements = {
-        "a filter": "SELECT length(sketch_image(bloom_filter_agg(i, 160000000, 5))) FROM generate_series(1::bigint, 9) AS i",
-        "counts": "SELECT length(sketch_image(count_min_agg(i, 1, 5, 500000))) FROM generate_series(1::bigint, 9) AS i",
+        "a filter": "SELECT length(sketch_image(bloom_filter_agg_sized(i, 160000000, 5))) FROM generate_series(1::bigint, 9) AS i",
+        "counts": "SELECT length(sketch_image(count_min_agg_sized(i, 1, 5, 500000))) FROM generate_series(1::bigint, 9) AS i",
         "frequent bigints": "SELECT (sketch_status(frequent_bigints_agg(i, 1, 1048576))).total_weight FROM rows",
         "frequent strings": "SELECT (sketch_status(frequent_strings_agg(string || 'long' || i, 1, 262144))).total_weight "
                             "FROM rows WHERE i <= 100000",
@@ -190,7 +190,7 @@ def out_of_memory(tests):
         "a query": "SELECT count(*) FROM large WHERE sketch_contains(filter, 7::bigint)",
     }
     with tests.main.session() as session, session.cursor() as cursor:
-        cursor.execute("CREATE TABLE large AS SELECT bloom_filter_agg(i, 160000000, 5) AS filter "
+        cursor.execute("CREATE TABLE large AS SELECT bloom_filter_agg_sized(i, 160000000, 5) AS filter "
                        "FROM generate_series(1::bigint, 9) AS i")
     for name, statement in statements.items():
         settings = {"max_parallel_workers_per_gather": 0, "sketches_rattle__max_frequent_bytes": "32MB"}
@@ -198,7 +198,7 @@ def out_of_memory(tests):
             cursor.execute(statement)
             wanted = cursor.fetchall()
         with tests.main.session(**settings) as session, session.cursor() as cursor:
-            cursor.execute("SELECT pg_backend_pid(), sketch_estimate(count_min_agg(1, 1, 1, 9), 1)")
+            cursor.execute("SELECT pg_backend_pid(), sketch_estimate(count_min_agg_sized(1, 1, 1, 9), 1)")
             process = cursor.fetchone()[0]
             codes, answers = [], []
             for room in [1, 4, 8, 12, 16, 20, 24, 32, 40, 48, 64, 100, 200, 400]:

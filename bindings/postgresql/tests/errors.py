@@ -11,12 +11,12 @@ ZERO_BYTE = ("04010a0303000000" "0100000000000000" "0500000000000000" "000000000
 ERRORS = {
     "SK001": "SELECT filter::bytea::count_min FROM one",
     "SK002": "SELECT sketch_contains(filter, 7) FROM one",
-    "SK003": "SELECT bloom_filter_agg(i, 64 * i, 3) FROM generate_series(1, 2) AS i",
-    "SK016": "SELECT filter | bloom_filter_agg('b', 128, 3) FROM one GROUP BY filter::text, filter",
+    "SK003": "SELECT bloom_filter_agg_sized(i, 64 * i, 3) FROM generate_series(1, 2) AS i",
+    "SK016": "SELECT filter | bloom_filter_agg_sized('b', 128, 3) FROM one GROUP BY filter::text, filter",
     "SK022": "SELECT bloom_filter_from_image('')",
-    "0A000": "SELECT bloom_filter_agg('a' COLLATE loose, 64, 3)",
+    "0A000": "SELECT bloom_filter_agg_sized('a' COLLATE loose, 64, 3)",
     "22003": "SELECT frequent_strings_agg('a', -1)",
-    "22004": "SELECT bloom_filter_agg('a', 64, NULL::integer)",
+    "22004": "SELECT bloom_filter_agg_sized('a', 64, NULL::integer)",
     "22021": f"SELECT item FROM frequent_rows(frequent_strings_from_image('\\x{ZERO_BYTE}'))",
     "22023": "SELECT frequent_strings_agg('a', 1, 100)",
     "22P02": "SELECT '!'::bloom_filter",
@@ -35,7 +35,7 @@ def page_errors(tests):
     tests.check("the errors of the page", listed == set(ERRORS) | set(ELSEWHERE), listed ^ (set(ERRORS) | set(ELSEWHERE)))
     with tests.main.session() as session, session.cursor() as cursor:
         cursor.execute("CREATE COLLATION loose (provider = icu, locale = 'und-u-ks-level1', deterministic = false);"
-                       "CREATE TABLE one AS SELECT bloom_filter_agg('a', 64, 3) AS filter")
+                       "CREATE TABLE one AS SELECT bloom_filter_agg_sized('a', 64, 3) AS filter")
         for state, statement in ERRORS.items():
             code = code_of(cursor, statement)
             tests.check(f"README.md, error {state}", code == state, code)

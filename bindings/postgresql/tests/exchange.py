@@ -13,9 +13,9 @@ BINDINGS = os.path.dirname(os.path.dirname(server.HERE))
 MAKE = """
 CREATE TABLE exchanged AS
 SELECT frequent_strings_agg('item-' || i, i + 1, 64) AS strings, frequent_bigints_agg(i, i + 1, 64) AS bigints,
-    count_min_agg('item-' || i, i + 1, 4, 500) AS counts, signed_count_min_agg(i, i + 1, 4, 500) AS signed_counts,
-    bloom_filter_agg(i, 4096, 5) AS filter, signed_count_min_agg('item-' || i, i + 1, 4, 500) AS signed_strings,
-    bloom_filter_agg('item-' || i, 4096, 5) AS filter_strings
+    count_min_agg_sized('item-' || i, i + 1, 4, 500) AS counts, signed_count_min_agg_sized(i, i + 1, 4, 500) AS signed_counts,
+    bloom_filter_agg_sized(i, 4096, 5) AS filter, signed_count_min_agg_sized('item-' || i, i + 1, 4, 500) AS signed_strings,
+    bloom_filter_agg_sized('item-' || i, 4096, 5) AS filter_strings
 FROM generate_series(0::bigint, 99) AS i
 """
 TYPES = {"strings": "frequent_strings", "bigints": "frequent_bigints", "counts": "count_min", "signed_counts": "signed_count_min",

@@ -1,4 +1,6 @@
 """Items of types whose equality is not that of bytes, sketches that are compared, and images of other items."""
+import re
+
 from ends import code_of
 
 # Each of these is an implicit cast to text, by the type's name. Only the first ones compare their texts by bytes.
@@ -12,12 +14,12 @@ CREATE CAST (mood AS text) WITH INOUT AS IMPLICIT;
 BYTES = ["text", "varchar", "varchar(9)", "name", "bpchar", "char(9)", '"char"', "word"]
 OTHERS = ["citext", "loose_word", "mood"]
 CALLS = ["SELECT frequent_strings_agg(x) FROM {table}", "SELECT frequent_strings_agg(x, 1, 0.01) FROM {table}",
-         "SELECT count_min_agg(x, 1, 3, 50) FROM {table}", "SELECT signed_count_min_agg(x, 1, 3, 50) FROM {table}",
-         "SELECT bloom_filter_agg(x, 640, 5) FROM {table}", "SELECT bloom_filter_agg(x, 640, 5) OVER () FROM {table}",
-         "SELECT bloom_filter_agg(x, 640, 5 ORDER BY x) FROM {table}",
-         "SELECT bloom_filter_agg(x, 640, 5) FILTER (WHERE x IS NOT NULL) FROM {table} GROUP BY x",
-         "SELECT sketch_contains((SELECT bloom_filter_agg('good', 640, 5)), x) FROM {table}",
-         "SELECT sketch_estimate((SELECT count_min_agg('good', 1, 3, 50)), x) FROM {table}",
+         "SELECT count_min_agg_sized(x, 1, 3, 50) FROM {table}", "SELECT signed_count_min_agg_sized(x, 1, 3, 50) FROM {table}",
+         "SELECT bloom_filter_agg_sized(x, 640, 5) FROM {table}", "SELECT bloom_filter_agg_sized(x, 640, 5) OVER () FROM {table}",
+         "SELECT bloom_filter_agg_sized(x, 640, 5 ORDER BY x) FROM {table}",
+         "SELECT bloom_filter_agg_sized(x, 640, 5) FILTER (WHERE x IS NOT NULL) FROM {table} GROUP BY x",
+         "SELECT sketch_contains((SELECT bloom_filter_agg_sized('good', 640, 5)), x) FROM {table}",
+         "SELECT sketch_estimate((SELECT count_min_agg_sized('good', 1, 3, 50)), x) FROM {table}",
          "SELECT sketch_bounds((SELECT frequent_strings_agg('good')), x) FROM {table}"]
 
 
@@ -39,10 +41,11 @@ def types(tests):
                 statement = call.format(table=table)
                 code, wanted = code_of(cursor, statement), "0A000" if name in OTHERS else None
                 tests.check(f"items of type {name}: {statement}", code == wanted, code)
-                written = statement.replace("(x", "(x::text", 1) if "_agg(x" in statement else statement.replace(", x)", ", x::text)")
+                of_rows = re.search(r"_agg(_sized)?\(x", statement)
+                written = statement.replace("(x", "(x::text", 1) if of_rows else statement.replace(", x)", ", x::text)")
                 tests.check(f"items of type {name}, cast to text: {written}", code_of(cursor, written) is None)
         try:
-            cursor.execute("SELECT bloom_filter_agg(x, 640, 5) FROM of_8")
+            cursor.execute("SELECT bloom_filter_agg_sized(x, 640, 5) FROM of_8")
         except Exception as error:
             tests.check("the hint names a way", "lower(item::text)" in (error.diag.message_hint or ""), error)
 
@@ -50,8 +53,8 @@ def types(tests):
 def orders(tests):
     """All types are compared by their images: in DISTINCT, ORDER BY, joins, indexes and replicas."""
     makers = {"frequent_strings": "frequent_strings_agg(i % 3 || 'x', 1, 64)", "frequent_bigints": "frequent_bigints_agg(i, 1, 64)",
-              "count_min": "count_min_agg(i, 1, 3, 64)", "signed_count_min": "signed_count_min_agg(i, -1, 3, 64)",
-              "bloom_filter": "bloom_filter_agg(i, 640, 5)"}
+              "count_min": "count_min_agg_sized(i, 1, 3, 64)", "signed_count_min": "signed_count_min_agg_sized(i, -1, 3, 64)",
+              "bloom_filter": "bloom_filter_agg_sized(i, 640, 5)"}
     tests.main.run("createdb", "compared")
     with tests.main.session("compared") as session, session.cursor() as cursor:
         cursor.execute("CREATE EXTENSION sketches_rattle")

@@ -5,7 +5,7 @@ import psycopg2
 
 from ends import MB, code_of, held
 
-LARGE = "bloom_filter_agg(1::bigint, {bits}, 5)"
+LARGE = "bloom_filter_agg_sized(1::bigint, {bits}, 5)"
 
 
 def error_of(cursor, statement):
@@ -141,13 +141,13 @@ def long_strings(tests):
 def administrators(tests):
     """A superuser's settings: users cannot raise them."""
     with tests.main.session() as session, session.cursor() as cursor:
-        cursor.execute("CREATE ROLE user_of_sketches; SELECT bloom_filter_agg(1::bigint, 64, 3); "
+        cursor.execute("CREATE ROLE user_of_sketches; SELECT bloom_filter_agg_sized(1::bigint, 64, 3); "
                        "SET sketches_rattle.max_user_bytes = '4MB'; SET ROLE user_of_sketches")
         for setting in ("max_user_bytes", "max_statement_memory"):
             code = code_of(cursor, f"SET sketches_rattle.{setting} = '1GB'")
             tests.check(f"a user cannot set {setting}", code == "42501", code)
         cursor.execute("SET sketches_rattle.max_image_bytes = '1GB'; SET sketches_rattle.max_frequent_bytes = '1GB'")
-        for statement in (LARGE.format(bits=5 * 8 * MB), "frequent_bigints_agg(1, 1, 262144)", "count_min_agg(1, 1, 5, 200000)"):
+        for statement in (LARGE.format(bits=5 * 8 * MB), "frequent_bigints_agg(1, 1, 262144)", "count_min_agg_sized(1, 1, 5, 200000)"):
             error = error_of(cursor, f"SELECT sketch_status({statement})")
             tests.check(f"a user's sketch keeps to the superuser's limit: {statement}",
                         error is not None and error[0] == "54000" and "sketches_rattle.max_user_bytes" in error[1]
@@ -183,7 +183,7 @@ def settings(tests):
             error = error_of(cursor, f"SET sketches_rattle.{setting} = '1GB'")
             tests.check(f"{setting} is up to 1 GB", error is None, error)
         cursor.execute("RESET ALL; SET sketches_rattle.max_image_bytes = '1MB'")
-        for statement in (LARGE.format(bits=16 * MB), "count_min_agg(1, 1, 5, 200000)", "frequent_bigints_agg(1, 1, 65536)"):
+        for statement in (LARGE.format(bits=16 * MB), "count_min_agg_sized(1, 1, 5, 200000)", "frequent_bigints_agg(1, 1, 65536)"):
             error = error_of(cursor, f"SELECT sketch_status({statement})")
             tests.check(f"the message names the limit and its value: {statement}", error is not None and error[0] == "54000"
                         and "sketches_rattle.max_image_bytes" in error[1] and str(MB) in error[1], error)
@@ -194,8 +194,8 @@ def settings(tests):
     for value in ("lots", "3", "-1"):
         with tests.main.session() as session, session.cursor() as cursor:
             cursor.execute(f"SET sketches_rattle.max_image_bytes = '{value}'")
-            error = error_of(cursor, "SELECT sketch_status(bloom_filter_agg(1::bigint, 64, 3))")
+            error = error_of(cursor, "SELECT sketch_status(bloom_filter_agg_sized(1::bigint, 64, 3))")
             tests.check(f"a bad value that was set before the library is loaded: {value}",
                         error is not None and error[0] == "22023" and "max_image_bytes" in error[1], error)
             cursor.execute("SET sketches_rattle.max_image_bytes = '2MB'")
-            tests.check("a good value after it", code_of(cursor, "SELECT sketch_status(bloom_filter_agg(1::bigint, 64, 3))") is None)
+            tests.check("a good value after it", code_of(cursor, "SELECT sketch_status(bloom_filter_agg_sized(1::bigint, 64, 3))") is None)

@@ -132,9 +132,9 @@ def valgrind(tests):
             cursor.execute("CREATE TABLE spread_rows WITH (parallel_workers = 2) AS SELECT i, 'item ' || i AS string "
                            "FROM generate_series(1::bigint, 5000) AS i")
             cursor.execute("SELECT (sketch_status(frequent_strings_agg(string, i, 64))).total_weight, "
-                           "(sketch_status(frequent_bigints_agg(i, i, 64))).total_weight, sketch_estimate(count_min_agg(i, 1, 3, 9000), 7), "
-                           "sketch_estimate(signed_count_min_agg(string, -1, 3, 9000), 'item 7'), "
-                           "sketch_contains(bloom_filter_agg(i, 99999, 7), 7) FROM spread_rows")
+                           "(sketch_status(frequent_bigints_agg(i, i, 64))).total_weight, sketch_estimate(count_min_agg_sized(i, 1, 3, 9000), 7), "
+                           "sketch_estimate(signed_count_min_agg_sized(string, -1, 3, 9000), 'item 7'), "
+                           "sketch_contains(bloom_filter_agg_sized(i, 99999, 7), 7) FROM spread_rows")
             total = 5000 * 5001 // 2
             row = cursor.fetchone()
             tests.check("workers under valgrind", row[:2] == (total, total) and row[2] >= 1 and row[4] is True, row)

@@ -14,8 +14,8 @@ BYTES = ", ".join(f"{name}::bytea" for name in TYPES)
 SKETCHES = """
 CREATE TABLE sketches AS
 SELECT size, frequent_strings_agg('é€😀 ' || i, i % 3, 4096) AS strings, frequent_bigints_agg(-i, i, 1024) AS bigints,
-    count_min_agg('key ' || i, i, 4, 3 * size + 3) AS counts, signed_count_min_agg(i, -i, 4, 3 * size + 3) AS signed_counts,
-    bloom_filter_agg(i, 64 + 64 * size, 5) AS filter
+    count_min_agg_sized('key ' || i, i, 4, 3 * size + 3) AS counts, signed_count_min_agg_sized(i, -i, 4, 3 * size + 3) AS signed_counts,
+    bloom_filter_agg_sized(i, 64 + 64 * size, 5) AS filter
 FROM (VALUES (0), (1), (10), (100), (2000)) AS v(size), generate_series(0::bigint, size) AS i GROUP BY size;
 INSERT INTO sketches VALUES (-1, NULL, NULL, NULL, NULL, NULL);
 ALTER TABLE sketches ADD PRIMARY KEY (size);
@@ -98,8 +98,8 @@ def copied(tests):
 def encodings(tests):
     """Databases in LATIN1 and SQL_ASCII: the same images, and errors for what has no meaning there."""
     images = {}
-    query = """SELECT sketch_image(bloom_filter_agg(x, 640, 5)), sketch_image(count_min_agg(x, 3, 3, 50)),
-        frequent_strings_agg(x)::text, sketch_contains(bloom_filter_agg(x, 640, 5), 'Köln') FROM (VALUES ('é'), ('Köln'), ('a')) AS v(x)"""
+    query = """SELECT sketch_image(bloom_filter_agg_sized(x, 640, 5)), sketch_image(count_min_agg_sized(x, 3, 3, 50)),
+        frequent_strings_agg(x)::text, sketch_contains(bloom_filter_agg_sized(x, 640, 5), 'Köln') FROM (VALUES ('é'), ('Köln'), ('a')) AS v(x)"""
     for name in ["UTF8", "LATIN1", "SQL_ASCII"]:
         with database(tests.main, f"in_{name.lower()}", "-E", name, "-T", "template0", "--locale=C") as session:
             with session.cursor() as cursor:
@@ -118,7 +118,7 @@ def encodings(tests):
                 images[f"{name} text"] = row[2]
     tests.check("equal images in all encodings", images["UTF8"] == images["LATIN1"] == images["SQL_ASCII"], images)
     with tests.main.session("in_utf8") as session, session.cursor() as cursor:
-        cursor.execute("SELECT frequent_strings_agg('日本')::text, bloom_filter_agg('日本', 640, 5)::text")
+        cursor.execute("SELECT frequent_strings_agg('日本')::text, bloom_filter_agg_sized('日本', 640, 5)::text")
         of_japan, filter_of_japan = cursor.fetchone()
         cursor.execute(f"SELECT item FROM frequent_rows('{images['LATIN1 text']}'::frequent_strings) ORDER BY item COLLATE \"C\"")
         tests.check("a sketch of LATIN1 in UTF8", cursor.fetchall() == [("Köln",), ("a",), ("é",)])
@@ -129,9 +129,9 @@ def encodings(tests):
                        f"sketch_contains('{filter_of_japan}'::bloom_filter, 'é')")
         tests.check("the rest of such a sketch", cursor.fetchone() == (1, False))
     with tests.main.session("in_sql_ascii", encoding="SQL_ASCII") as session, session.cursor() as cursor:
-        for statement in ["SELECT frequent_strings_agg(E'\\xff')", "SELECT bloom_filter_agg(E'a\\xc3', 640, 5)",
-                          "SELECT count_min_agg(E'\\xed\\xa0\\x80', 1, 3, 50)",
-                          "SELECT sketch_contains(bloom_filter_agg('a', 640, 5), E'\\xff')"]:
+        for statement in ["SELECT frequent_strings_agg(E'\\xff')", "SELECT bloom_filter_agg_sized(E'a\\xc3', 640, 5)",
+                          "SELECT count_min_agg_sized(E'\\xed\\xa0\\x80', 1, 3, 50)",
+                          "SELECT sketch_contains(bloom_filter_agg_sized('a', 640, 5), E'\\xff')"]:
             code = code_of(cursor, statement)
             tests.check(f"SQL_ASCII: {statement}", code == "22021", code)
 
@@ -144,17 +144,17 @@ def collations(tests):
                        "CREATE TABLE loose (w text COLLATE ignores_case); INSERT INTO loose SELECT * FROM words")
         same = set()
         for collation in ['"C"', '"de-x-icu"', '"en-x-icu"', '"C.utf8"', '"default"', "ucs_basic"]:
-            cursor.execute(f"SELECT bloom_filter_agg(w, 640, 5)::text, (sketch_status(frequent_strings_agg(w))).num_active_items, "
-                           f"sketch_image(count_min_agg(w, 1, 3, 50)) FROM (SELECT w COLLATE {collation} AS w FROM words) AS t")
+            cursor.execute(f"SELECT bloom_filter_agg_sized(w, 640, 5)::text, (sketch_status(frequent_strings_agg(w))).num_active_items, "
+                           f"sketch_image(count_min_agg_sized(w, 1, 3, 50)) FROM (SELECT w COLLATE {collation} AS w FROM words) AS t")
             same.add(tuple(bytes(value) if isinstance(value, memoryview) else value for value in cursor.fetchone()))
         tests.check("the same sketches under all deterministic collations", len(same) == 1 and next(iter(same))[1] == 5, same)
         stored = "(SELECT {}(w{}) FROM words)"
-        for statement in ["SELECT frequent_strings_agg(w) FROM loose", "SELECT bloom_filter_agg(w, 640, 5) FROM loose",
-                          "SELECT count_min_agg(w, 1, 3, 50) FROM loose", "SELECT signed_count_min_agg(w, 1, 3, 50) FROM loose",
-                          f"SELECT sketch_contains({stored.format('bloom_filter_agg', ', 640, 5')}, w) FROM loose",
+        for statement in ["SELECT frequent_strings_agg(w) FROM loose", "SELECT bloom_filter_agg_sized(w, 640, 5) FROM loose",
+                          "SELECT count_min_agg_sized(w, 1, 3, 50) FROM loose", "SELECT signed_count_min_agg_sized(w, 1, 3, 50) FROM loose",
+                          f"SELECT sketch_contains({stored.format('bloom_filter_agg_sized', ', 640, 5')}, w) FROM loose",
                           f"SELECT sketch_lower_bound({stored.format('frequent_strings_agg', '')}, w) FROM loose",
                           f"SELECT sketch_bounds({stored.format('frequent_strings_agg', '')}, w) FROM loose",
-                          f"SELECT sketch_estimate({stored.format('count_min_agg', ', 1, 3, 50')}, w) FROM loose"]:
+                          f"SELECT sketch_estimate({stored.format('count_min_agg_sized', ', 1, 3, 50')}, w) FROM loose"]:
             code = code_of(cursor, statement)
             tests.check(f"a collation that ignores case: {statement}", code == "0A000", code)
             statement = statement.replace("FROM loose", "FROM (SELECT w COLLATE \"C\" AS w FROM loose) AS t")
@@ -168,7 +168,7 @@ def owned(tests):
         cursor.execute("CREATE DATABASE owned OWNER plain")
     with tests.main.session("owned") as session, session.cursor() as cursor:
         cursor.execute("SET ROLE plain; CREATE EXTENSION sketches_rattle; CREATE SCHEMA kept; CREATE TABLE kept.sketches AS "
-                       "SELECT bloom_filter_agg(1, 64, 3) AS filter")
+                       "SELECT bloom_filter_agg_sized(1, 64, 3) AS filter")
         tests.check("an extension in use is not dropped", code_of(cursor, "DROP EXTENSION sketches_rattle") == "2BP01")
         cursor.execute("RESET ROLE; ALTER EXTENSION sketches_rattle SET SCHEMA kept; SET ROLE plain")
         cursor.execute("SELECT kept.sketch_contains(filter, 1) FROM kept.sketches")
