@@ -43,22 +43,22 @@ CREATE FUNCTION frequent_strings_final(internal) RETURNS frequent_strings
     LANGUAGE C IMMUTABLE PARALLEL SAFE AS 'MODULE_PATHNAME', 'state_final';
 CREATE FUNCTION frequent_strings_add(internal, text) RETURNS internal
     LANGUAGE C IMMUTABLE PARALLEL SAFE AS 'MODULE_PATHNAME', 'frequent_strings_add_by_size';
-CREATE FUNCTION frequent_strings_add(internal, text, bigint) RETURNS internal
+CREATE FUNCTION frequent_strings_add(internal, text, anycompatible) RETURNS internal
     LANGUAGE C IMMUTABLE PARALLEL SAFE AS 'MODULE_PATHNAME', 'frequent_strings_add_by_size';
-CREATE FUNCTION frequent_strings_add(internal, text, bigint, integer) RETURNS internal
+CREATE FUNCTION frequent_strings_add(internal, text, anycompatible, integer) RETURNS internal
     LANGUAGE C IMMUTABLE PARALLEL SAFE AS 'MODULE_PATHNAME', 'frequent_strings_add_by_size';
-CREATE FUNCTION frequent_strings_add(internal, text, bigint, double precision) RETURNS internal
+CREATE FUNCTION frequent_strings_add(internal, text, anycompatible, double precision) RETURNS internal
     LANGUAGE C IMMUTABLE PARALLEL SAFE AS 'MODULE_PATHNAME', 'frequent_strings_add_by_error';
 CREATE AGGREGATE frequent_strings_agg(item text) (
     SFUNC = frequent_strings_add, STYPE = internal, SSPACE = 75776, FINALFUNC = frequent_strings_final,
     COMBINEFUNC = sketch_combine, SERIALFUNC = sketch_serial, DESERIALFUNC = sketch_deserial, PARALLEL = SAFE);
-CREATE AGGREGATE frequent_strings_agg(item text, weight bigint) (
+CREATE AGGREGATE frequent_strings_agg(item text, weight anycompatible) (
     SFUNC = frequent_strings_add, STYPE = internal, SSPACE = 75776, FINALFUNC = frequent_strings_final,
     COMBINEFUNC = sketch_combine, SERIALFUNC = sketch_serial, DESERIALFUNC = sketch_deserial, PARALLEL = SAFE);
-CREATE AGGREGATE frequent_strings_agg(item text, weight bigint, max_map_size integer) (
+CREATE AGGREGATE frequent_strings_agg(item text, weight anycompatible, max_map_size integer) (
     SFUNC = frequent_strings_add, STYPE = internal, SSPACE = 75776, FINALFUNC = frequent_strings_final,
     COMBINEFUNC = sketch_combine, SERIALFUNC = sketch_serial, DESERIALFUNC = sketch_deserial, PARALLEL = SAFE);
-CREATE AGGREGATE frequent_strings_agg(item text, weight bigint, relative_error double precision) (
+CREATE AGGREGATE frequent_strings_agg(item text, weight anycompatible, relative_error double precision) (
     SFUNC = frequent_strings_add, STYPE = internal, SSPACE = 75776, FINALFUNC = frequent_strings_final,
     COMBINEFUNC = sketch_combine, SERIALFUNC = sketch_serial, DESERIALFUNC = sketch_deserial, PARALLEL = SAFE);
 
@@ -154,22 +154,22 @@ CREATE FUNCTION frequent_bigints_final(internal) RETURNS frequent_bigints
     LANGUAGE C IMMUTABLE PARALLEL SAFE AS 'MODULE_PATHNAME', 'state_final';
 CREATE FUNCTION frequent_bigints_add(internal, bigint) RETURNS internal
     LANGUAGE C IMMUTABLE PARALLEL SAFE AS 'MODULE_PATHNAME', 'frequent_bigints_add_by_size';
-CREATE FUNCTION frequent_bigints_add(internal, bigint, bigint) RETURNS internal
+CREATE FUNCTION frequent_bigints_add(internal, bigint, anycompatible) RETURNS internal
     LANGUAGE C IMMUTABLE PARALLEL SAFE AS 'MODULE_PATHNAME', 'frequent_bigints_add_by_size';
-CREATE FUNCTION frequent_bigints_add(internal, bigint, bigint, integer) RETURNS internal
+CREATE FUNCTION frequent_bigints_add(internal, bigint, anycompatible, integer) RETURNS internal
     LANGUAGE C IMMUTABLE PARALLEL SAFE AS 'MODULE_PATHNAME', 'frequent_bigints_add_by_size';
-CREATE FUNCTION frequent_bigints_add(internal, bigint, bigint, double precision) RETURNS internal
+CREATE FUNCTION frequent_bigints_add(internal, bigint, anycompatible, double precision) RETURNS internal
     LANGUAGE C IMMUTABLE PARALLEL SAFE AS 'MODULE_PATHNAME', 'frequent_bigints_add_by_error';
 CREATE AGGREGATE frequent_bigints_agg(item bigint) (
     SFUNC = frequent_bigints_add, STYPE = internal, SSPACE = 40960, FINALFUNC = frequent_bigints_final,
     COMBINEFUNC = sketch_combine, SERIALFUNC = sketch_serial, DESERIALFUNC = sketch_deserial, PARALLEL = SAFE);
-CREATE AGGREGATE frequent_bigints_agg(item bigint, weight bigint) (
+CREATE AGGREGATE frequent_bigints_agg(item bigint, weight anycompatible) (
     SFUNC = frequent_bigints_add, STYPE = internal, SSPACE = 40960, FINALFUNC = frequent_bigints_final,
     COMBINEFUNC = sketch_combine, SERIALFUNC = sketch_serial, DESERIALFUNC = sketch_deserial, PARALLEL = SAFE);
-CREATE AGGREGATE frequent_bigints_agg(item bigint, weight bigint, max_map_size integer) (
+CREATE AGGREGATE frequent_bigints_agg(item bigint, weight anycompatible, max_map_size integer) (
     SFUNC = frequent_bigints_add, STYPE = internal, SSPACE = 40960, FINALFUNC = frequent_bigints_final,
     COMBINEFUNC = sketch_combine, SERIALFUNC = sketch_serial, DESERIALFUNC = sketch_deserial, PARALLEL = SAFE);
-CREATE AGGREGATE frequent_bigints_agg(item bigint, weight bigint, relative_error double precision) (
+CREATE AGGREGATE frequent_bigints_agg(item bigint, weight anycompatible, relative_error double precision) (
     SFUNC = frequent_bigints_add, STYPE = internal, SSPACE = 40960, FINALFUNC = frequent_bigints_final,
     COMBINEFUNC = sketch_combine, SERIALFUNC = sketch_serial, DESERIALFUNC = sketch_deserial, PARALLEL = SAFE);
 
@@ -265,42 +265,42 @@ CREATE FUNCTION count_min_final(internal) RETURNS count_min
     LANGUAGE C IMMUTABLE PARALLEL SAFE AS 'MODULE_PATHNAME', 'state_final';
 CREATE FUNCTION count_min_add(internal, text, double precision, double precision) RETURNS internal
     LANGUAGE C IMMUTABLE PARALLEL SAFE AS 'MODULE_PATHNAME', 'count_min_add_string_by_error';
-CREATE FUNCTION count_min_add(internal, text, bigint, double precision, double precision) RETURNS internal
+CREATE FUNCTION count_min_add(internal, text, anycompatible, double precision, double precision) RETURNS internal
     LANGUAGE C IMMUTABLE PARALLEL SAFE AS 'MODULE_PATHNAME', 'count_min_add_string_by_error';
 CREATE AGGREGATE count_min_agg(item text, relative_error double precision, confidence double precision) (
     SFUNC = count_min_add, STYPE = internal, SSPACE = 32768, FINALFUNC = count_min_final,
     COMBINEFUNC = sketch_combine, SERIALFUNC = sketch_serial, DESERIALFUNC = sketch_deserial, PARALLEL = SAFE);
-CREATE AGGREGATE count_min_agg(item text, weight bigint, relative_error double precision, confidence double precision) (
+CREATE AGGREGATE count_min_agg(item text, weight anycompatible, relative_error double precision, confidence double precision) (
     SFUNC = count_min_add, STYPE = internal, SSPACE = 32768, FINALFUNC = count_min_final,
     COMBINEFUNC = sketch_combine, SERIALFUNC = sketch_serial, DESERIALFUNC = sketch_deserial, PARALLEL = SAFE);
 CREATE FUNCTION count_min_add_sized(internal, text, integer, integer) RETURNS internal
     LANGUAGE C IMMUTABLE PARALLEL SAFE AS 'MODULE_PATHNAME', 'count_min_add_string_by_size';
-CREATE FUNCTION count_min_add_sized(internal, text, bigint, integer, integer) RETURNS internal
+CREATE FUNCTION count_min_add_sized(internal, text, anycompatible, integer, integer) RETURNS internal
     LANGUAGE C IMMUTABLE PARALLEL SAFE AS 'MODULE_PATHNAME', 'count_min_add_string_by_size';
 CREATE AGGREGATE count_min_agg_sized(item text, num_hashes integer, num_buckets integer) (
     SFUNC = count_min_add_sized, STYPE = internal, SSPACE = 32768, FINALFUNC = count_min_final,
     COMBINEFUNC = sketch_combine, SERIALFUNC = sketch_serial, DESERIALFUNC = sketch_deserial, PARALLEL = SAFE);
-CREATE AGGREGATE count_min_agg_sized(item text, weight bigint, num_hashes integer, num_buckets integer) (
+CREATE AGGREGATE count_min_agg_sized(item text, weight anycompatible, num_hashes integer, num_buckets integer) (
     SFUNC = count_min_add_sized, STYPE = internal, SSPACE = 32768, FINALFUNC = count_min_final,
     COMBINEFUNC = sketch_combine, SERIALFUNC = sketch_serial, DESERIALFUNC = sketch_deserial, PARALLEL = SAFE);
 CREATE FUNCTION count_min_add(internal, bigint, double precision, double precision) RETURNS internal
     LANGUAGE C IMMUTABLE PARALLEL SAFE AS 'MODULE_PATHNAME', 'count_min_add_bigint_by_error';
-CREATE FUNCTION count_min_add(internal, bigint, bigint, double precision, double precision) RETURNS internal
+CREATE FUNCTION count_min_add(internal, bigint, anycompatible, double precision, double precision) RETURNS internal
     LANGUAGE C IMMUTABLE PARALLEL SAFE AS 'MODULE_PATHNAME', 'count_min_add_bigint_by_error';
 CREATE AGGREGATE count_min_agg(item bigint, relative_error double precision, confidence double precision) (
     SFUNC = count_min_add, STYPE = internal, SSPACE = 32768, FINALFUNC = count_min_final,
     COMBINEFUNC = sketch_combine, SERIALFUNC = sketch_serial, DESERIALFUNC = sketch_deserial, PARALLEL = SAFE);
-CREATE AGGREGATE count_min_agg(item bigint, weight bigint, relative_error double precision, confidence double precision) (
+CREATE AGGREGATE count_min_agg(item bigint, weight anycompatible, relative_error double precision, confidence double precision) (
     SFUNC = count_min_add, STYPE = internal, SSPACE = 32768, FINALFUNC = count_min_final,
     COMBINEFUNC = sketch_combine, SERIALFUNC = sketch_serial, DESERIALFUNC = sketch_deserial, PARALLEL = SAFE);
 CREATE FUNCTION count_min_add_sized(internal, bigint, integer, integer) RETURNS internal
     LANGUAGE C IMMUTABLE PARALLEL SAFE AS 'MODULE_PATHNAME', 'count_min_add_bigint_by_size';
-CREATE FUNCTION count_min_add_sized(internal, bigint, bigint, integer, integer) RETURNS internal
+CREATE FUNCTION count_min_add_sized(internal, bigint, anycompatible, integer, integer) RETURNS internal
     LANGUAGE C IMMUTABLE PARALLEL SAFE AS 'MODULE_PATHNAME', 'count_min_add_bigint_by_size';
 CREATE AGGREGATE count_min_agg_sized(item bigint, num_hashes integer, num_buckets integer) (
     SFUNC = count_min_add_sized, STYPE = internal, SSPACE = 32768, FINALFUNC = count_min_final,
     COMBINEFUNC = sketch_combine, SERIALFUNC = sketch_serial, DESERIALFUNC = sketch_deserial, PARALLEL = SAFE);
-CREATE AGGREGATE count_min_agg_sized(item bigint, weight bigint, num_hashes integer, num_buckets integer) (
+CREATE AGGREGATE count_min_agg_sized(item bigint, weight anycompatible, num_hashes integer, num_buckets integer) (
     SFUNC = count_min_add_sized, STYPE = internal, SSPACE = 32768, FINALFUNC = count_min_final,
     COMBINEFUNC = sketch_combine, SERIALFUNC = sketch_serial, DESERIALFUNC = sketch_deserial, PARALLEL = SAFE);
 
@@ -393,42 +393,42 @@ CREATE FUNCTION signed_count_min_final(internal) RETURNS signed_count_min
     LANGUAGE C IMMUTABLE PARALLEL SAFE AS 'MODULE_PATHNAME', 'state_final';
 CREATE FUNCTION signed_count_min_add(internal, text, double precision, double precision) RETURNS internal
     LANGUAGE C IMMUTABLE PARALLEL SAFE AS 'MODULE_PATHNAME', 'signed_count_min_add_string_by_error';
-CREATE FUNCTION signed_count_min_add(internal, text, bigint, double precision, double precision) RETURNS internal
+CREATE FUNCTION signed_count_min_add(internal, text, anycompatible, double precision, double precision) RETURNS internal
     LANGUAGE C IMMUTABLE PARALLEL SAFE AS 'MODULE_PATHNAME', 'signed_count_min_add_string_by_error';
 CREATE AGGREGATE signed_count_min_agg(item text, relative_error double precision, confidence double precision) (
     SFUNC = signed_count_min_add, STYPE = internal, SSPACE = 32768, FINALFUNC = signed_count_min_final,
     COMBINEFUNC = sketch_combine, SERIALFUNC = sketch_serial, DESERIALFUNC = sketch_deserial, PARALLEL = SAFE);
-CREATE AGGREGATE signed_count_min_agg(item text, weight bigint, relative_error double precision, confidence double precision) (
+CREATE AGGREGATE signed_count_min_agg(item text, weight anycompatible, relative_error double precision, confidence double precision) (
     SFUNC = signed_count_min_add, STYPE = internal, SSPACE = 32768, FINALFUNC = signed_count_min_final,
     COMBINEFUNC = sketch_combine, SERIALFUNC = sketch_serial, DESERIALFUNC = sketch_deserial, PARALLEL = SAFE);
 CREATE FUNCTION signed_count_min_add_sized(internal, text, integer, integer) RETURNS internal
     LANGUAGE C IMMUTABLE PARALLEL SAFE AS 'MODULE_PATHNAME', 'signed_count_min_add_string_by_size';
-CREATE FUNCTION signed_count_min_add_sized(internal, text, bigint, integer, integer) RETURNS internal
+CREATE FUNCTION signed_count_min_add_sized(internal, text, anycompatible, integer, integer) RETURNS internal
     LANGUAGE C IMMUTABLE PARALLEL SAFE AS 'MODULE_PATHNAME', 'signed_count_min_add_string_by_size';
 CREATE AGGREGATE signed_count_min_agg_sized(item text, num_hashes integer, num_buckets integer) (
     SFUNC = signed_count_min_add_sized, STYPE = internal, SSPACE = 32768, FINALFUNC = signed_count_min_final,
     COMBINEFUNC = sketch_combine, SERIALFUNC = sketch_serial, DESERIALFUNC = sketch_deserial, PARALLEL = SAFE);
-CREATE AGGREGATE signed_count_min_agg_sized(item text, weight bigint, num_hashes integer, num_buckets integer) (
+CREATE AGGREGATE signed_count_min_agg_sized(item text, weight anycompatible, num_hashes integer, num_buckets integer) (
     SFUNC = signed_count_min_add_sized, STYPE = internal, SSPACE = 32768, FINALFUNC = signed_count_min_final,
     COMBINEFUNC = sketch_combine, SERIALFUNC = sketch_serial, DESERIALFUNC = sketch_deserial, PARALLEL = SAFE);
 CREATE FUNCTION signed_count_min_add(internal, bigint, double precision, double precision) RETURNS internal
     LANGUAGE C IMMUTABLE PARALLEL SAFE AS 'MODULE_PATHNAME', 'signed_count_min_add_bigint_by_error';
-CREATE FUNCTION signed_count_min_add(internal, bigint, bigint, double precision, double precision) RETURNS internal
+CREATE FUNCTION signed_count_min_add(internal, bigint, anycompatible, double precision, double precision) RETURNS internal
     LANGUAGE C IMMUTABLE PARALLEL SAFE AS 'MODULE_PATHNAME', 'signed_count_min_add_bigint_by_error';
 CREATE AGGREGATE signed_count_min_agg(item bigint, relative_error double precision, confidence double precision) (
     SFUNC = signed_count_min_add, STYPE = internal, SSPACE = 32768, FINALFUNC = signed_count_min_final,
     COMBINEFUNC = sketch_combine, SERIALFUNC = sketch_serial, DESERIALFUNC = sketch_deserial, PARALLEL = SAFE);
-CREATE AGGREGATE signed_count_min_agg(item bigint, weight bigint, relative_error double precision, confidence double precision) (
+CREATE AGGREGATE signed_count_min_agg(item bigint, weight anycompatible, relative_error double precision, confidence double precision) (
     SFUNC = signed_count_min_add, STYPE = internal, SSPACE = 32768, FINALFUNC = signed_count_min_final,
     COMBINEFUNC = sketch_combine, SERIALFUNC = sketch_serial, DESERIALFUNC = sketch_deserial, PARALLEL = SAFE);
 CREATE FUNCTION signed_count_min_add_sized(internal, bigint, integer, integer) RETURNS internal
     LANGUAGE C IMMUTABLE PARALLEL SAFE AS 'MODULE_PATHNAME', 'signed_count_min_add_bigint_by_size';
-CREATE FUNCTION signed_count_min_add_sized(internal, bigint, bigint, integer, integer) RETURNS internal
+CREATE FUNCTION signed_count_min_add_sized(internal, bigint, anycompatible, integer, integer) RETURNS internal
     LANGUAGE C IMMUTABLE PARALLEL SAFE AS 'MODULE_PATHNAME', 'signed_count_min_add_bigint_by_size';
 CREATE AGGREGATE signed_count_min_agg_sized(item bigint, num_hashes integer, num_buckets integer) (
     SFUNC = signed_count_min_add_sized, STYPE = internal, SSPACE = 32768, FINALFUNC = signed_count_min_final,
     COMBINEFUNC = sketch_combine, SERIALFUNC = sketch_serial, DESERIALFUNC = sketch_deserial, PARALLEL = SAFE);
-CREATE AGGREGATE signed_count_min_agg_sized(item bigint, weight bigint, num_hashes integer, num_buckets integer) (
+CREATE AGGREGATE signed_count_min_agg_sized(item bigint, weight anycompatible, num_hashes integer, num_buckets integer) (
     SFUNC = signed_count_min_add_sized, STYPE = internal, SSPACE = 32768, FINALFUNC = signed_count_min_final,
     COMBINEFUNC = sketch_combine, SERIALFUNC = sketch_serial, DESERIALFUNC = sketch_deserial, PARALLEL = SAFE);
 

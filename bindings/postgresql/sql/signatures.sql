@@ -24,3 +24,44 @@ SELECT count_min_agg(page, 0.01, 0.99) = count_min_agg(page, 1, 0.01, 0.99) AS s
     signed_count_min_agg_sized(number, 4, 1024) = signed_count_min_agg_sized(number, 1, 4, 1024) AS sized_signed_bigints,
     sketch_estimate(count_min_agg_sized(page, 4, 1024), 'page 1') AS page_1
 FROM pages;
+
+-- Weights may have any integer type or numeric, as a sum of bigints has. Each sketch has the exact total of its rows' weights.
+CREATE DOMAIN seconds AS bigint;
+CREATE TABLE weighted AS SELECT page, n AS large, n::integer AS medium, n::smallint AS small, n::numeric AS exact, n::seconds AS own
+FROM (VALUES ('a', 1::bigint), ('b', 20), ('a', 300), ('b', NULL), (NULL, 4000)) AS v(page, n);
+SELECT sketch_bounds(frequent_strings_agg(page, large), 'a') AS bigint, sketch_bounds(frequent_strings_agg(page, medium), 'a') AS integer,
+    sketch_bounds(frequent_strings_agg(page, small), 'a') AS smallint, sketch_bounds(frequent_strings_agg(page, exact), 'a') AS numeric,
+    sketch_bounds(frequent_strings_agg(page, own), 'a') AS domain, sketch_bounds(frequent_strings_agg(page, 2), 'a') AS constant,
+    frequent_strings_agg(page, NULL) IS NULL AS no_weight
+FROM weighted;
+SELECT (sketch_status(frequent_bigints_agg(large, medium, 64))).total_weight AS sized,
+    (sketch_status(frequent_bigints_agg(large, exact, 0.1))).total_weight AS by_error,
+    (sketch_status(count_min_agg(page, small, 0.1, 0.9))).total_weight AS counts,
+    sketch_estimate(signed_count_min_agg_sized(page, -exact, 3, 64), 'a') AS signed_counts
+FROM weighted;
+SELECT item, estimate FROM frequent_rows((SELECT frequent_strings_agg(page, total)
+    FROM (SELECT page, sum(large) AS total FROM weighted GROUP BY page) AS pages)) ORDER BY item;
+SELECT page, (sketch_status(frequent_strings_agg(page, sum(large)) OVER (ORDER BY page))).total_weight AS so_far
+FROM weighted WHERE page IS NOT NULL GROUP BY page ORDER BY page;
+SELECT sketch_estimate(signed_count_min_agg_sized('a', w, 3, 64), 'a')
+FROM (VALUES (9223372036854775807.00), (-9223372036854775807)) AS v(w) GROUP BY w ORDER BY w;
+
+-- A weight that is not a whole number, or not a bigint, is an error. So is one of another type.
+\set VERBOSITY sqlstate
+SELECT frequent_strings_agg('a', 1.5);
+SELECT frequent_strings_agg('a', 0.01, 64);
+SELECT frequent_strings_agg('a', 9223372036854775807.4);
+SELECT frequent_strings_agg('a', 9223372036854775808);
+SELECT frequent_strings_agg('a', 1e300::numeric);
+SELECT frequent_strings_agg('a', -1.0);
+SELECT signed_count_min_agg_sized('a', -9223372036854775808::numeric, 3, 64);
+SELECT signed_count_min_agg_sized('a', -9223372036854775809::numeric, 3, 64);
+SELECT count_min_agg('a', 'NaN'::numeric, 0.1, 0.9);
+SELECT count_min_agg('a', 'Infinity'::numeric, 0.1, 0.9);
+SELECT frequent_strings_agg('a', 1::double precision);
+SELECT frequent_strings_agg('a', '1');
+SELECT frequent_strings_agg('a', date '2026-01-01');
+\set VERBOSITY terse
+SELECT frequent_strings_agg('a', 1.5);
+SELECT frequent_strings_agg('a', true);
+\set VERBOSITY default

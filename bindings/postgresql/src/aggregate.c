@@ -4,7 +4,11 @@
 #include "extension.h"
 #include "update.h"
 
+#include "catalog/pg_type.h"
+#include "utils/builtins.h"
+#include "utils/lsyscache.h"
 #include "utils/memutils.h"
+#include "utils/numeric.h"
 
 /* Stored sketches are merged in batches. A merge of frequent items copies the table, so one merge of many sketches costs less than
  * many merges of one. A batch ends with the sketch that fills one of these limits. The bytes are those of the sketches: a short image
@@ -19,6 +23,9 @@ typedef struct Batch {
     ds_sketch handles[MAX_IN_BATCH];
 } Batch;
 
+/* The types that weights may have. */
+typedef enum WeightType { BIGINT_WEIGHT, INTEGER_WEIGHT, SMALLINT_WEIGHT, NUMERIC_WEIGHT } WeightType;
+
 /* A sketch that takes rows. A state from a worker has no sketch yet: it keeps an image until it is combined. */
 typedef struct State {
     ds_sketch handle;
@@ -26,6 +33,7 @@ typedef struct State {
     uint8 kind;
     uint8 items;
     bool has_sketch;
+    WeightType weights;  /* the type of the call's weights, if it has any */
     Datum sizes[2];      /* the size arguments of the first row */
     Batch *batch;        /* in unions, after the first sketch */
     size_t unchecked;    /* the bytes of strings that came after the limit was checked */
@@ -77,6 +85,51 @@ static State *new_state(FunctionCallInfo fcinfo, Kind kind, uint8 items)
     return state;
 }
 
+/* --- Weights. The argument is polymorphic, since a bigint and a numeric overload would leave a call with an integer ambiguous. --- */
+
+/* Returns the type of the call's weights. Raises an error for a type that weights do not have. */
+static WeightType type_of_weights(FunctionCallInfo fcinfo)
+{
+    Oid type = getBaseType(get_fn_expr_argtype(fcinfo->flinfo, 2));
+    switch (type) {
+    case INT8OID: return BIGINT_WEIGHT;
+    case INT4OID: return INTEGER_WEIGHT;
+    case INT2OID: return SMALLINT_WEIGHT;
+    case NUMERICOID: return NUMERIC_WEIGHT;
+    }
+    ereport(ERROR, (errcode(ERRCODE_DATATYPE_MISMATCH),
+                    errmsg("weights must be of type smallint, integer, bigint or numeric, not %s", format_type_be(type)),
+                    errhint("Cast the weight to bigint.")));
+    pg_unreachable();
+}
+
+/* Returns a numeric weight. Raises an error unless it is a whole number and a bigint. */
+static int64 numeric_weight(Datum datum)
+{
+    Numeric weight = DatumGetNumeric(datum);
+    Datum number = NumericGetDatum(weight);
+    int64 whole;
+    if (numeric_is_nan(weight) || numeric_is_inf(weight))
+        ereport(ERROR, (errcode(ERRCODE_NUMERIC_VALUE_OUT_OF_RANGE), errmsg("the weight must be a number")));
+    whole = DatumGetInt64(DirectFunctionCall1(numeric_int8, number));
+    if (DatumGetInt32(DirectFunctionCall1(numeric_scale, number)) == 0) return whole;
+    if (!DatumGetBool(DirectFunctionCall2(numeric_eq, number, NumericGetDatum(int64_to_numeric(whole)))))
+        raise_argument("the weight must be a whole number");
+    return whole;
+}
+
+/* Returns the weight of the call's row. */
+static inline int64 weight_argument(FunctionCallInfo fcinfo, const State *state)
+{
+    switch (state->weights) {
+    case BIGINT_WEIGHT: return PG_GETARG_INT64(2);
+    case INTEGER_WEIGHT: return PG_GETARG_INT32(2);
+    case SMALLINT_WEIGHT: return PG_GETARG_INT16(2);
+    case NUMERIC_WEIGHT: return numeric_weight(PG_GETARG_DATUM(2));
+    }
+    pg_unreachable();
+}
+
 /* --- Rows. --- */
 
 /* Raises an error if a size is null. */
@@ -86,18 +139,41 @@ static inline void check_size(FunctionCallInfo fcinfo, int number)
         ereport(ERROR, (errcode(ERRCODE_NULL_VALUE_NOT_ALLOWED), errmsg("a size of a sketch must not be null")));
 }
 
-/* Returns the state of the first row of a group, with an empty sketch. */
-static State *begin(FunctionCallInfo fcinfo, Kind kind, uint8 items, int number, Make make)
+/* The parts of a call that adds a row, known when the file is compiled. */
+typedef struct Row {
+    Kind kind;
+    uint8 items;
+    Make make;
+} Row;
+
+/* Returns the number of the call's first argument that is a size. The arguments are the state, the item, a weight, which may be left
+ * out and which filters do not have, and sizes: two, but of frequent items at most one, after a weight. */
+static inline int first_size(FunctionCallInfo fcinfo, Kind kind)
 {
-    State *state = new_state(fcinfo, kind, items);
+    bool is_frequent = kind == FREQUENT_STRINGS || kind == FREQUENT_BIGINTS;
+    return is_frequent ? Min(PG_NARGS(), 3) : PG_NARGS() - 2;
+}
+
+/* Returns whether the call has weights. */
+static inline bool has_weights(FunctionCallInfo fcinfo, Kind kind)
+{
+    return kind != BLOOM_FILTER && first_size(fcinfo, kind) == 3;
+}
+
+/* Returns the state of the first row of a group, with an empty sketch. */
+static State *begin(FunctionCallInfo fcinfo, Row row)
+{
+    State *state = new_state(fcinfo, row.kind, row.items);
+    int number = first_size(fcinfo, row.kind);
     MemoryContext before;
     check_equality(fcinfo, 1);
+    if (has_weights(fcinfo, row.kind)) state->weights = type_of_weights(fcinfo);
     for (int i = number; i < PG_NARGS(); i++) {
         check_size(fcinfo, i);
         state->sizes[i - number] = PG_GETARG_DATUM(i);
     }
     before = MemoryContextSwitchTo(state->context);
-    make(fcinfo, kind, &state->handle, number);
+    row.make(fcinfo, row.kind, &state->handle, number);
     MemoryContextSwitchTo(before);
     state->has_sketch = true;
     return state;
@@ -122,35 +198,19 @@ static inline void check_strings(State *state, size_t length)
     state->unchecked = 0;
 }
 
-/* The parts of a call that adds a row, known when the file is compiled. */
-typedef struct Row {
-    Kind kind;
-    uint8 items;
-    Make make;
-} Row;
-
-/* Returns the number of the call's first argument that is a size. The arguments are the state, the item, a weight, which may be left
- * out and which filters do not have, and sizes: two, but of frequent items at most one, after a weight. */
-static inline int first_size(FunctionCallInfo fcinfo, Kind kind)
-{
-    bool is_frequent = kind == FREQUENT_STRINGS || kind == FREQUENT_BIGINTS;
-    return is_frequent ? Min(PG_NARGS(), 3) : PG_NARGS() - 2;
-}
-
 /* Adds a row to the state, or begins a state. A row whose item or weight is null is ignored. */
 static pg_attribute_always_inline Datum add_row(FunctionCallInfo fcinfo, Row row)
 {
     State *state = state_argument(fcinfo, 0);
-    int number = first_size(fcinfo, row.kind);
-    bool has_weights = row.kind != BLOOM_FILTER && number == 3;
+    bool is_weighted = has_weights(fcinfo, row.kind);
     int64 weight = 1;
     ds_string string = {NULL, 0};
     MemoryContext before;
     int32_t result;
-    if (PG_ARGISNULL(1) || (has_weights && PG_ARGISNULL(2))) return state_result(fcinfo, state);
-    if (unlikely(state == NULL)) state = begin(fcinfo, row.kind, row.items, number, row.make);
-    else check_sizes(fcinfo, state, number);
-    if (has_weights) weight = PG_GETARG_INT64(2);
+    if (PG_ARGISNULL(1) || (is_weighted && PG_ARGISNULL(2))) return state_result(fcinfo, state);
+    if (unlikely(state == NULL)) state = begin(fcinfo, row);
+    else check_sizes(fcinfo, state, first_size(fcinfo, row.kind));
+    if (is_weighted) weight = weight_argument(fcinfo, state);
     check_weight(row.kind, weight);
     if (row.items == STRINGS) string = string_argument(fcinfo, 1);
     before = MemoryContextSwitchTo(state->context);

@@ -9,13 +9,14 @@
  * | SK003 | sizes differ between rows of a group |
  * | SK016 | two filters or two counts differ in shape or seed |
  * | SK022 to SK041 | an image fails the check of this number in `datasketches.h`, without the sign |
- * | 22003 | a weight is below 0, a total weight or a result is out of range |
+ * | 22003 | a weight is below 0, a weight, a total weight or a result is out of range |
  * | 22004 | a size is null |
  * | 22021 | a string is not UTF-8, or has a zero byte |
- * | 22023 | a size, a fraction, a threshold, a mode or a seed is out of range, or the hash of the seed is 0 |
+ * | 22023 | a size, a fraction, a threshold, a mode or a seed is out of range, the hash of the seed is 0, or a weight is not whole |
  * | 22P02, 22P03 | the text or the binary form is damaged |
  * | 0A000 | the collation of strings is nondeterministic, or the equality of their type is not that of bytes |
  * | 22P05 | a string of a sketch has a character that is not in the database's encoding |
+ * | 42804 | weights are of another type than an integer or numeric |
  * | 53200 | out of memory, or all sketches of a statement take more than `sketches_rattle.max_statement_memory` |
  * | 54000 | a sketch takes more than `sketches_rattle.max_image_bytes`, `max_frequent_bytes` or `max_user_bytes`, or than 1 GB |
  * | 58000 | the system has no random bytes for a key |

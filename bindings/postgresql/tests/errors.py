@@ -21,6 +21,7 @@ ERRORS = {
     "22023": "SELECT frequent_strings_agg('a', 1, 100)",
     "22P02": "SELECT '!'::bloom_filter",
     "22P03": "SELECT set_bit(filter::bytea, 300, 1 - get_bit(filter::bytea, 300))::bloom_filter FROM one",
+    "42804": "SELECT frequent_strings_agg('a', 1.5::double precision)",
     "54000": "SELECT frequent_strings_agg('a', 1, 1048576)",
 }
 ELSEWHERE = {"22P05": "stored.py", "53200": "ends.py", "57014": "ends.py", "XX001": "damage.py", "58000": "none", "SK041": "none"}
