@@ -71,6 +71,16 @@ CREATE FUNCTION sketch_union(frequent_strings, frequent_strings) RETURNS frequen
     LANGUAGE C STABLE STRICT PARALLEL SAFE COST 100 AS 'MODULE_PATHNAME', 'frequent_strings_union';
 CREATE OPERATOR | (LEFTARG = frequent_strings, RIGHTARG = frequent_strings, FUNCTION = sketch_union, COMMUTATOR = |);
 
+-- Empty sketches, and sketches after a change.
+CREATE FUNCTION frequent_strings_empty(max_map_size integer DEFAULT 1024) RETURNS frequent_strings
+    LANGUAGE C IMMUTABLE STRICT PARALLEL SAFE COST 100 AS 'MODULE_PATHNAME', 'frequent_strings_empty_by_size';
+CREATE FUNCTION frequent_strings_empty(relative_error double precision) RETURNS frequent_strings
+    LANGUAGE C IMMUTABLE STRICT PARALLEL SAFE COST 100 AS 'MODULE_PATHNAME', 'frequent_strings_empty_by_error';
+CREATE FUNCTION sketch_reset(sketch frequent_strings) RETURNS frequent_strings
+    LANGUAGE C IMMUTABLE STRICT PARALLEL SAFE COST 100 AS 'MODULE_PATHNAME', 'frequent_strings_reset';
+CREATE FUNCTION sketch_add(sketch frequent_strings, item text, weight bigint DEFAULT 1) RETURNS frequent_strings
+    LANGUAGE C STABLE STRICT PARALLEL SAFE COST 100 AS 'MODULE_PATHNAME', 'frequent_strings_with_item';
+
 -- Sketches compare their images. The order is that of the bytes, for DISTINCT, ORDER BY and indexes: it means nothing else.
 CREATE FUNCTION frequent_strings_eq(frequent_strings, frequent_strings) RETURNS boolean
     LANGUAGE C IMMUTABLE STRICT PARALLEL SAFE COST 10 AS 'MODULE_PATHNAME', 'sketch_eq';
@@ -182,6 +192,16 @@ CREATE FUNCTION sketch_union(frequent_bigints, frequent_bigints) RETURNS frequen
     LANGUAGE C STABLE STRICT PARALLEL SAFE COST 100 AS 'MODULE_PATHNAME', 'frequent_bigints_union';
 CREATE OPERATOR | (LEFTARG = frequent_bigints, RIGHTARG = frequent_bigints, FUNCTION = sketch_union, COMMUTATOR = |);
 
+-- Empty sketches, and sketches after a change.
+CREATE FUNCTION frequent_bigints_empty(max_map_size integer DEFAULT 1024) RETURNS frequent_bigints
+    LANGUAGE C IMMUTABLE STRICT PARALLEL SAFE COST 100 AS 'MODULE_PATHNAME', 'frequent_bigints_empty_by_size';
+CREATE FUNCTION frequent_bigints_empty(relative_error double precision) RETURNS frequent_bigints
+    LANGUAGE C IMMUTABLE STRICT PARALLEL SAFE COST 100 AS 'MODULE_PATHNAME', 'frequent_bigints_empty_by_error';
+CREATE FUNCTION sketch_reset(sketch frequent_bigints) RETURNS frequent_bigints
+    LANGUAGE C IMMUTABLE STRICT PARALLEL SAFE COST 100 AS 'MODULE_PATHNAME', 'frequent_bigints_reset';
+CREATE FUNCTION sketch_add(sketch frequent_bigints, item bigint, weight bigint DEFAULT 1) RETURNS frequent_bigints
+    LANGUAGE C STABLE STRICT PARALLEL SAFE COST 100 AS 'MODULE_PATHNAME', 'frequent_bigints_with_item';
+
 -- Sketches compare their images. The order is that of the bytes, for DISTINCT, ORDER BY and indexes: it means nothing else.
 CREATE FUNCTION frequent_bigints_eq(frequent_bigints, frequent_bigints) RETURNS boolean
     LANGUAGE C IMMUTABLE STRICT PARALLEL SAFE COST 10 AS 'MODULE_PATHNAME', 'sketch_eq';
@@ -273,15 +293,15 @@ CREATE AGGREGATE count_min_agg(item text, relative_error double precision, confi
 CREATE AGGREGATE count_min_agg(item text, weight anycompatible, relative_error double precision, confidence double precision) (
     SFUNC = count_min_add, STYPE = internal, SSPACE = 32768, FINALFUNC = count_min_final,
     COMBINEFUNC = sketch_combine, SERIALFUNC = sketch_serial, DESERIALFUNC = sketch_deserial, PARALLEL = SAFE);
-CREATE FUNCTION count_min_add_sized(internal, text, integer, integer) RETURNS internal
+CREATE FUNCTION count_min_add(internal, text, integer, integer) RETURNS internal
     LANGUAGE C IMMUTABLE PARALLEL SAFE AS 'MODULE_PATHNAME', 'count_min_add_string_by_size';
-CREATE FUNCTION count_min_add_sized(internal, text, anycompatible, integer, integer) RETURNS internal
+CREATE FUNCTION count_min_add(internal, text, anycompatible, integer, integer) RETURNS internal
     LANGUAGE C IMMUTABLE PARALLEL SAFE AS 'MODULE_PATHNAME', 'count_min_add_string_by_size';
 CREATE AGGREGATE count_min_agg_sized(item text, num_hashes integer, num_buckets integer) (
-    SFUNC = count_min_add_sized, STYPE = internal, SSPACE = 32768, FINALFUNC = count_min_final,
+    SFUNC = count_min_add, STYPE = internal, SSPACE = 32768, FINALFUNC = count_min_final,
     COMBINEFUNC = sketch_combine, SERIALFUNC = sketch_serial, DESERIALFUNC = sketch_deserial, PARALLEL = SAFE);
 CREATE AGGREGATE count_min_agg_sized(item text, weight anycompatible, num_hashes integer, num_buckets integer) (
-    SFUNC = count_min_add_sized, STYPE = internal, SSPACE = 32768, FINALFUNC = count_min_final,
+    SFUNC = count_min_add, STYPE = internal, SSPACE = 32768, FINALFUNC = count_min_final,
     COMBINEFUNC = sketch_combine, SERIALFUNC = sketch_serial, DESERIALFUNC = sketch_deserial, PARALLEL = SAFE);
 CREATE FUNCTION count_min_add(internal, bigint, double precision, double precision) RETURNS internal
     LANGUAGE C IMMUTABLE PARALLEL SAFE AS 'MODULE_PATHNAME', 'count_min_add_bigint_by_error';
@@ -293,15 +313,15 @@ CREATE AGGREGATE count_min_agg(item bigint, relative_error double precision, con
 CREATE AGGREGATE count_min_agg(item bigint, weight anycompatible, relative_error double precision, confidence double precision) (
     SFUNC = count_min_add, STYPE = internal, SSPACE = 32768, FINALFUNC = count_min_final,
     COMBINEFUNC = sketch_combine, SERIALFUNC = sketch_serial, DESERIALFUNC = sketch_deserial, PARALLEL = SAFE);
-CREATE FUNCTION count_min_add_sized(internal, bigint, integer, integer) RETURNS internal
+CREATE FUNCTION count_min_add(internal, bigint, integer, integer) RETURNS internal
     LANGUAGE C IMMUTABLE PARALLEL SAFE AS 'MODULE_PATHNAME', 'count_min_add_bigint_by_size';
-CREATE FUNCTION count_min_add_sized(internal, bigint, anycompatible, integer, integer) RETURNS internal
+CREATE FUNCTION count_min_add(internal, bigint, anycompatible, integer, integer) RETURNS internal
     LANGUAGE C IMMUTABLE PARALLEL SAFE AS 'MODULE_PATHNAME', 'count_min_add_bigint_by_size';
 CREATE AGGREGATE count_min_agg_sized(item bigint, num_hashes integer, num_buckets integer) (
-    SFUNC = count_min_add_sized, STYPE = internal, SSPACE = 32768, FINALFUNC = count_min_final,
+    SFUNC = count_min_add, STYPE = internal, SSPACE = 32768, FINALFUNC = count_min_final,
     COMBINEFUNC = sketch_combine, SERIALFUNC = sketch_serial, DESERIALFUNC = sketch_deserial, PARALLEL = SAFE);
 CREATE AGGREGATE count_min_agg_sized(item bigint, weight anycompatible, num_hashes integer, num_buckets integer) (
-    SFUNC = count_min_add_sized, STYPE = internal, SSPACE = 32768, FINALFUNC = count_min_final,
+    SFUNC = count_min_add, STYPE = internal, SSPACE = 32768, FINALFUNC = count_min_final,
     COMBINEFUNC = sketch_combine, SERIALFUNC = sketch_serial, DESERIALFUNC = sketch_deserial, PARALLEL = SAFE);
 
 CREATE FUNCTION count_min_add_sketch(internal, count_min) RETURNS internal
@@ -312,6 +332,22 @@ CREATE AGGREGATE count_min_union(count_min) (
 CREATE FUNCTION sketch_union(count_min, count_min) RETURNS count_min
     LANGUAGE C IMMUTABLE STRICT PARALLEL SAFE COST 100 AS 'MODULE_PATHNAME', 'count_min_union';
 CREATE OPERATOR | (LEFTARG = count_min, RIGHTARG = count_min, FUNCTION = sketch_union, COMMUTATOR = |);
+
+-- Empty sketches, and sketches after a change.
+CREATE FUNCTION count_min_empty(relative_error double precision, confidence double precision) RETURNS count_min
+    LANGUAGE C IMMUTABLE STRICT PARALLEL SAFE COST 100 AS 'MODULE_PATHNAME', 'count_min_empty_by_error';
+CREATE FUNCTION count_min_empty_sized(num_hashes integer, num_buckets integer) RETURNS count_min
+    LANGUAGE C IMMUTABLE STRICT PARALLEL SAFE COST 100 AS 'MODULE_PATHNAME', 'count_min_empty_by_size';
+CREATE FUNCTION sketch_reset(sketch count_min) RETURNS count_min
+    LANGUAGE C IMMUTABLE STRICT PARALLEL SAFE COST 100 AS 'MODULE_PATHNAME', 'count_min_reset';
+CREATE FUNCTION sketch_add(sketch count_min, item text, weight bigint DEFAULT 1) RETURNS count_min
+    LANGUAGE C IMMUTABLE STRICT PARALLEL SAFE COST 100 AS 'MODULE_PATHNAME', 'count_min_with_string';
+CREATE FUNCTION sketch_add(sketch count_min, item bigint, weight bigint DEFAULT 1) RETURNS count_min
+    LANGUAGE C IMMUTABLE STRICT PARALLEL SAFE COST 100 AS 'MODULE_PATHNAME', 'count_min_with_bigint';
+CREATE FUNCTION sketch_halve(sketch count_min) RETURNS count_min
+    LANGUAGE C IMMUTABLE STRICT PARALLEL SAFE COST 100 AS 'MODULE_PATHNAME', 'count_min_halve';
+CREATE FUNCTION sketch_decay(sketch count_min, numerator bigint, denominator bigint) RETURNS count_min
+    LANGUAGE C IMMUTABLE STRICT PARALLEL SAFE COST 100 AS 'MODULE_PATHNAME', 'count_min_decay';
 
 -- Sketches compare their images. The order is that of the bytes, for DISTINCT, ORDER BY and indexes: it means nothing else.
 CREATE FUNCTION count_min_eq(count_min, count_min) RETURNS boolean
@@ -401,15 +437,15 @@ CREATE AGGREGATE signed_count_min_agg(item text, relative_error double precision
 CREATE AGGREGATE signed_count_min_agg(item text, weight anycompatible, relative_error double precision, confidence double precision) (
     SFUNC = signed_count_min_add, STYPE = internal, SSPACE = 32768, FINALFUNC = signed_count_min_final,
     COMBINEFUNC = sketch_combine, SERIALFUNC = sketch_serial, DESERIALFUNC = sketch_deserial, PARALLEL = SAFE);
-CREATE FUNCTION signed_count_min_add_sized(internal, text, integer, integer) RETURNS internal
+CREATE FUNCTION signed_count_min_add(internal, text, integer, integer) RETURNS internal
     LANGUAGE C IMMUTABLE PARALLEL SAFE AS 'MODULE_PATHNAME', 'signed_count_min_add_string_by_size';
-CREATE FUNCTION signed_count_min_add_sized(internal, text, anycompatible, integer, integer) RETURNS internal
+CREATE FUNCTION signed_count_min_add(internal, text, anycompatible, integer, integer) RETURNS internal
     LANGUAGE C IMMUTABLE PARALLEL SAFE AS 'MODULE_PATHNAME', 'signed_count_min_add_string_by_size';
 CREATE AGGREGATE signed_count_min_agg_sized(item text, num_hashes integer, num_buckets integer) (
-    SFUNC = signed_count_min_add_sized, STYPE = internal, SSPACE = 32768, FINALFUNC = signed_count_min_final,
+    SFUNC = signed_count_min_add, STYPE = internal, SSPACE = 32768, FINALFUNC = signed_count_min_final,
     COMBINEFUNC = sketch_combine, SERIALFUNC = sketch_serial, DESERIALFUNC = sketch_deserial, PARALLEL = SAFE);
 CREATE AGGREGATE signed_count_min_agg_sized(item text, weight anycompatible, num_hashes integer, num_buckets integer) (
-    SFUNC = signed_count_min_add_sized, STYPE = internal, SSPACE = 32768, FINALFUNC = signed_count_min_final,
+    SFUNC = signed_count_min_add, STYPE = internal, SSPACE = 32768, FINALFUNC = signed_count_min_final,
     COMBINEFUNC = sketch_combine, SERIALFUNC = sketch_serial, DESERIALFUNC = sketch_deserial, PARALLEL = SAFE);
 CREATE FUNCTION signed_count_min_add(internal, bigint, double precision, double precision) RETURNS internal
     LANGUAGE C IMMUTABLE PARALLEL SAFE AS 'MODULE_PATHNAME', 'signed_count_min_add_bigint_by_error';
@@ -421,15 +457,15 @@ CREATE AGGREGATE signed_count_min_agg(item bigint, relative_error double precisi
 CREATE AGGREGATE signed_count_min_agg(item bigint, weight anycompatible, relative_error double precision, confidence double precision) (
     SFUNC = signed_count_min_add, STYPE = internal, SSPACE = 32768, FINALFUNC = signed_count_min_final,
     COMBINEFUNC = sketch_combine, SERIALFUNC = sketch_serial, DESERIALFUNC = sketch_deserial, PARALLEL = SAFE);
-CREATE FUNCTION signed_count_min_add_sized(internal, bigint, integer, integer) RETURNS internal
+CREATE FUNCTION signed_count_min_add(internal, bigint, integer, integer) RETURNS internal
     LANGUAGE C IMMUTABLE PARALLEL SAFE AS 'MODULE_PATHNAME', 'signed_count_min_add_bigint_by_size';
-CREATE FUNCTION signed_count_min_add_sized(internal, bigint, anycompatible, integer, integer) RETURNS internal
+CREATE FUNCTION signed_count_min_add(internal, bigint, anycompatible, integer, integer) RETURNS internal
     LANGUAGE C IMMUTABLE PARALLEL SAFE AS 'MODULE_PATHNAME', 'signed_count_min_add_bigint_by_size';
 CREATE AGGREGATE signed_count_min_agg_sized(item bigint, num_hashes integer, num_buckets integer) (
-    SFUNC = signed_count_min_add_sized, STYPE = internal, SSPACE = 32768, FINALFUNC = signed_count_min_final,
+    SFUNC = signed_count_min_add, STYPE = internal, SSPACE = 32768, FINALFUNC = signed_count_min_final,
     COMBINEFUNC = sketch_combine, SERIALFUNC = sketch_serial, DESERIALFUNC = sketch_deserial, PARALLEL = SAFE);
 CREATE AGGREGATE signed_count_min_agg_sized(item bigint, weight anycompatible, num_hashes integer, num_buckets integer) (
-    SFUNC = signed_count_min_add_sized, STYPE = internal, SSPACE = 32768, FINALFUNC = signed_count_min_final,
+    SFUNC = signed_count_min_add, STYPE = internal, SSPACE = 32768, FINALFUNC = signed_count_min_final,
     COMBINEFUNC = sketch_combine, SERIALFUNC = sketch_serial, DESERIALFUNC = sketch_deserial, PARALLEL = SAFE);
 
 CREATE FUNCTION signed_count_min_add_sketch(internal, signed_count_min) RETURNS internal
@@ -440,6 +476,18 @@ CREATE AGGREGATE signed_count_min_union(signed_count_min) (
 CREATE FUNCTION sketch_union(signed_count_min, signed_count_min) RETURNS signed_count_min
     LANGUAGE C IMMUTABLE STRICT PARALLEL SAFE COST 100 AS 'MODULE_PATHNAME', 'signed_count_min_union';
 CREATE OPERATOR | (LEFTARG = signed_count_min, RIGHTARG = signed_count_min, FUNCTION = sketch_union, COMMUTATOR = |);
+
+-- Empty sketches, and sketches after a change.
+CREATE FUNCTION signed_count_min_empty(relative_error double precision, confidence double precision) RETURNS signed_count_min
+    LANGUAGE C IMMUTABLE STRICT PARALLEL SAFE COST 100 AS 'MODULE_PATHNAME', 'signed_count_min_empty_by_error';
+CREATE FUNCTION signed_count_min_empty_sized(num_hashes integer, num_buckets integer) RETURNS signed_count_min
+    LANGUAGE C IMMUTABLE STRICT PARALLEL SAFE COST 100 AS 'MODULE_PATHNAME', 'signed_count_min_empty_by_size';
+CREATE FUNCTION sketch_reset(sketch signed_count_min) RETURNS signed_count_min
+    LANGUAGE C IMMUTABLE STRICT PARALLEL SAFE COST 100 AS 'MODULE_PATHNAME', 'signed_count_min_reset';
+CREATE FUNCTION sketch_add(sketch signed_count_min, item text, weight bigint DEFAULT 1) RETURNS signed_count_min
+    LANGUAGE C IMMUTABLE STRICT PARALLEL SAFE COST 100 AS 'MODULE_PATHNAME', 'signed_count_min_with_string';
+CREATE FUNCTION sketch_add(sketch signed_count_min, item bigint, weight bigint DEFAULT 1) RETURNS signed_count_min
+    LANGUAGE C IMMUTABLE STRICT PARALLEL SAFE COST 100 AS 'MODULE_PATHNAME', 'signed_count_min_with_bigint';
 
 -- Sketches compare their images. The order is that of the bytes, for DISTINCT, ORDER BY and indexes: it means nothing else.
 CREATE FUNCTION signed_count_min_eq(signed_count_min, signed_count_min) RETURNS boolean
@@ -524,20 +572,20 @@ CREATE FUNCTION bloom_filter_add(internal, text, bigint, double precision) RETUR
 CREATE AGGREGATE bloom_filter_agg(key text, expected_items bigint, false_positive_rate double precision) (
     SFUNC = bloom_filter_add, STYPE = internal, SSPACE = 32768, FINALFUNC = bloom_filter_final,
     COMBINEFUNC = sketch_combine, SERIALFUNC = sketch_serial, DESERIALFUNC = sketch_deserial, PARALLEL = SAFE);
-CREATE FUNCTION bloom_filter_add_sized(internal, text, bigint, integer) RETURNS internal
+CREATE FUNCTION bloom_filter_add(internal, text, bigint, integer) RETURNS internal
     LANGUAGE C IMMUTABLE PARALLEL SAFE AS 'MODULE_PATHNAME', 'bloom_filter_add_string_by_size';
 CREATE AGGREGATE bloom_filter_agg_sized(key text, num_bits bigint, num_hashes integer) (
-    SFUNC = bloom_filter_add_sized, STYPE = internal, SSPACE = 32768, FINALFUNC = bloom_filter_final,
+    SFUNC = bloom_filter_add, STYPE = internal, SSPACE = 32768, FINALFUNC = bloom_filter_final,
     COMBINEFUNC = sketch_combine, SERIALFUNC = sketch_serial, DESERIALFUNC = sketch_deserial, PARALLEL = SAFE);
 CREATE FUNCTION bloom_filter_add(internal, bigint, bigint, double precision) RETURNS internal
     LANGUAGE C IMMUTABLE PARALLEL SAFE AS 'MODULE_PATHNAME', 'bloom_filter_add_bigint_by_error';
 CREATE AGGREGATE bloom_filter_agg(key bigint, expected_items bigint, false_positive_rate double precision) (
     SFUNC = bloom_filter_add, STYPE = internal, SSPACE = 32768, FINALFUNC = bloom_filter_final,
     COMBINEFUNC = sketch_combine, SERIALFUNC = sketch_serial, DESERIALFUNC = sketch_deserial, PARALLEL = SAFE);
-CREATE FUNCTION bloom_filter_add_sized(internal, bigint, bigint, integer) RETURNS internal
+CREATE FUNCTION bloom_filter_add(internal, bigint, bigint, integer) RETURNS internal
     LANGUAGE C IMMUTABLE PARALLEL SAFE AS 'MODULE_PATHNAME', 'bloom_filter_add_bigint_by_size';
 CREATE AGGREGATE bloom_filter_agg_sized(key bigint, num_bits bigint, num_hashes integer) (
-    SFUNC = bloom_filter_add_sized, STYPE = internal, SSPACE = 32768, FINALFUNC = bloom_filter_final,
+    SFUNC = bloom_filter_add, STYPE = internal, SSPACE = 32768, FINALFUNC = bloom_filter_final,
     COMBINEFUNC = sketch_combine, SERIALFUNC = sketch_serial, DESERIALFUNC = sketch_deserial, PARALLEL = SAFE);
 
 CREATE FUNCTION bloom_filter_add_sketch(internal, bloom_filter) RETURNS internal
@@ -551,6 +599,21 @@ CREATE OPERATOR | (LEFTARG = bloom_filter, RIGHTARG = bloom_filter, FUNCTION = s
 CREATE FUNCTION sketch_intersection(bloom_filter, bloom_filter) RETURNS bloom_filter
     LANGUAGE C IMMUTABLE STRICT PARALLEL SAFE COST 100 AS 'MODULE_PATHNAME', 'bloom_filter_intersection';
 CREATE OPERATOR & (LEFTARG = bloom_filter, RIGHTARG = bloom_filter, FUNCTION = sketch_intersection, COMMUTATOR = &);
+
+-- Empty sketches, and sketches after a change.
+CREATE FUNCTION bloom_filter_empty(expected_items bigint, false_positive_rate double precision) RETURNS bloom_filter
+    LANGUAGE C IMMUTABLE STRICT PARALLEL SAFE COST 100 AS 'MODULE_PATHNAME', 'bloom_filter_empty_by_error';
+CREATE FUNCTION bloom_filter_empty_sized(num_bits bigint, num_hashes integer) RETURNS bloom_filter
+    LANGUAGE C IMMUTABLE STRICT PARALLEL SAFE COST 100 AS 'MODULE_PATHNAME', 'bloom_filter_empty_by_size';
+CREATE FUNCTION sketch_reset(filter bloom_filter) RETURNS bloom_filter
+    LANGUAGE C IMMUTABLE STRICT PARALLEL SAFE COST 100 AS 'MODULE_PATHNAME', 'bloom_filter_reset';
+CREATE FUNCTION sketch_add(filter bloom_filter, item text) RETURNS bloom_filter
+    LANGUAGE C IMMUTABLE STRICT PARALLEL SAFE COST 100 AS 'MODULE_PATHNAME', 'bloom_filter_with_string';
+CREATE FUNCTION sketch_add(filter bloom_filter, item bigint) RETURNS bloom_filter
+    LANGUAGE C IMMUTABLE STRICT PARALLEL SAFE COST 100 AS 'MODULE_PATHNAME', 'bloom_filter_with_bigint';
+CREATE FUNCTION sketch_difference(bloom_filter, bloom_filter) RETURNS bloom_filter
+    LANGUAGE C IMMUTABLE STRICT PARALLEL SAFE COST 100 AS 'MODULE_PATHNAME', 'bloom_filter_difference';
+CREATE OPERATOR - (LEFTARG = bloom_filter, RIGHTARG = bloom_filter, FUNCTION = sketch_difference);
 
 -- Sketches compare their images. The order is that of the bytes, for DISTINCT, ORDER BY and indexes: it means nothing else.
 CREATE FUNCTION bloom_filter_eq(bloom_filter, bloom_filter) RETURNS boolean
@@ -612,6 +675,12 @@ BEGIN
             ('agg', 'makes a sketch of the items of a group'),
             ('agg_sized', 'makes a sketch of these sizes of the items of a group'),
             ('union', 'merges sketches'),
+            ('empty', 'an empty sketch'), ('empty_sized', 'an empty sketch of these sizes'),
+            ('sketch_reset', 'an empty sketch of the same sizes'),
+            ('sketch_add', 'a sketch with one more item'),
+            ('sketch_halve', 'halves all weights, rounded down'),
+            ('sketch_decay', 'multiplies all weights by a fraction, rounded down'),
+            ('sketch_difference', 'removes the positions of another filter, and so may lose items'),
             ('sketch_intersection', 'keeps what two filters have in common'),
             ('estimate', 'an estimate of the weight of an item'),
             ('lower_bound', 'a weight that the item has at least'),
@@ -632,7 +701,6 @@ BEGIN
             ('gt', 'implementation of > operator'), ('ge', 'implementation of >= operator'),
             ('hash', 'hash of an image'), ('hash_extended', 'hash of an image under a seed'),
             ('add', 'adds a row to the state of an aggregate'),
-            ('add_sized', 'adds a row to the state of an aggregate'),
             ('add_sketch', 'merges a row into the state of an aggregate'),
             ('final', 'the sketch of the state of an aggregate'),
             ('sketch_combine', 'merges two states of an aggregate'),
@@ -645,6 +713,7 @@ BEGIN
         ORDER BY objid, length(of) DESC)
         UNION ALL SELECT 'OPERATOR ' || objid::regoperator, CASE oprname
             WHEN '|' THEN 'merge of two sketches' WHEN '&' THEN 'what two filters have in common'
+            WHEN '-' THEN 'a filter without the positions of another one'
             WHEN '=' THEN 'equal images' WHEN '<>' THEN 'unequal images' ELSE 'order of images' END
         FROM member JOIN pg_operator ON classid = 'pg_operator'::regclass AND objid = pg_operator.oid
         UNION ALL SELECT 'TYPE ' || format_type(objid, NULL), CASE

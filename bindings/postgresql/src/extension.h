@@ -87,8 +87,9 @@ typedef enum Kind {
     BLOOM_FILTER = 5
 } Kind;
 
-/* The types of a sketch's items, as bits. Filters and counts may have both. The numbers are stored. */
-enum { STRINGS = 1, BIGINTS = 2 };
+/* The types of a sketch's items, as bits. Filters and counts may have both, and have none before their first item. The numbers are
+ * stored. */
+enum { NO_ITEMS = 0, STRINGS = 1, BIGINTS = 2 };
 
 /* A stored sketch: a header and the image that all interfaces of the library read and write. */
 typedef struct Sketch {
@@ -171,6 +172,9 @@ Sketch *detoast_sketch(Datum datum, Kind kind);
 /* Reads a stored sketch, whose checksum was verified, into a handle that has no sketch. */
 void load(Sketch *sketch, ds_sketch *handle);
 
+/* Reads the stored sketch of an argument into a handle that has no sketch. Returns the stored sketch, detoasted. */
+Sketch *read_argument(FunctionCallInfo fcinfo, int number, Kind kind, ds_sketch *handle);
+
 /* The encoding of the database, or -1 if no string was read yet. */
 extern int database_encoding;
 
@@ -220,6 +224,11 @@ void count_by_size(FunctionCallInfo fcinfo, Kind kind, ds_sketch *handle, int nu
 void count_by_error(FunctionCallInfo fcinfo, Kind kind, ds_sketch *handle, int number);
 void filter_by_size(FunctionCallInfo fcinfo, Kind kind, ds_sketch *handle, int number);
 void filter_by_error(FunctionCallInfo fcinfo, Kind kind, ds_sketch *handle, int number);
+
+/* --- changes.c --- */
+
+/* Removes all items of a handle's sketch. It keeps its sizes and its seed. Allocates in the current context. */
+void clear(Kind kind, ds_sketch *handle);
 
 /* --- equality.c --- */
 

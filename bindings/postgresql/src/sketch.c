@@ -127,6 +127,10 @@ static Sketch *finish(struct varlena *whole, Kind kind, uint8 items, uint64 seed
     return sketch;
 }
 
+/* The bytes of the image of a filter without set bits, and of counts with the total weight 0. */
+#define EMPTY_FILTER 24
+#define EMPTY_COUNTS 16
+
 /* Returns whether a header is one that this version writes for the kind. */
 static bool has_header(const Sketch *sketch, Kind kind)
 {
@@ -135,7 +139,8 @@ static bool has_header(const Sketch *sketch, Kind kind)
     if (memcmp(sketch->format, format, sizeof format) != 0 || sketch->kind != kind) return false;
     if (sketch->zero[0] != 0 || sketch->zero[1] != 0) return false;
     if (kind != COUNT_MIN && kind != SIGNED_COUNT_MIN && seed_of(sketch) != 0) return false;
-    if (has_both) return sketch->items >= STRINGS && sketch->items <= (STRINGS | BIGINTS);
+    if (has_both && sketch->items == NO_ITEMS) return IMAGE_BYTES(sketch) == (kind == BLOOM_FILTER ? EMPTY_FILTER : EMPTY_COUNTS);
+    if (has_both) return sketch->items <= (STRINGS | BIGINTS);
     return sketch->items == (kind == FREQUENT_STRINGS ? STRINGS : BIGINTS);
 }
 
@@ -406,7 +411,7 @@ ds_string converted(ds_string string)
 
 void check_items(const Sketch *sketch, uint8 items)
 {
-    if ((sketch->items & items) == 0)
+    if ((sketch->items & items) == 0 && sketch->items != NO_ITEMS)
         raise_items(items == STRINGS ? "the sketch has no strings as items" : "the sketch has no bigints as items");
 }
 
@@ -416,10 +421,9 @@ Datum items_name(const Sketch *sketch)
     return CStringGetTextDatum(names[sketch->items & (STRINGS | BIGINTS)]);
 }
 
-/* --- Unions of two, intersections, equality and hashes. --- */
+/* --- Unions of two, equality and hashes. --- */
 
-/* Reads an argument into a handle. Returns the stored sketch. */
-static Sketch *argument(FunctionCallInfo fcinfo, int number, Kind kind, ds_sketch *handle)
+Sketch *read_argument(FunctionCallInfo fcinfo, int number, Kind kind, ds_sketch *handle)
 {
     Sketch *sketch = detoast_sketch(PG_GETARG_DATUM(number), kind);
     load(sketch, handle);
@@ -430,7 +434,7 @@ static Sketch *argument(FunctionCallInfo fcinfo, int number, Kind kind, ds_sketc
 static Datum union_of(FunctionCallInfo fcinfo, Kind kind)
 {
     ds_sketch handle = DS_NONE, other = DS_NONE;
-    uint8 items = argument(fcinfo, 0, kind, &handle)->items | argument(fcinfo, 1, kind, &other)->items;
+    uint8 items = read_argument(fcinfo, 0, kind, &handle)->items | read_argument(fcinfo, 1, kind, &other)->items;
     Sketch *sketch;
     check_result(merge_all(kind, &handle, &other, 1));
     ds_free(&other);
@@ -444,22 +448,6 @@ FUNCTION(frequent_bigints_union, union_of, FREQUENT_BIGINTS)
 FUNCTION(count_min_union, union_of, COUNT_MIN)
 FUNCTION(signed_count_min_union, union_of, SIGNED_COUNT_MIN)
 FUNCTION(bloom_filter_union, union_of, BLOOM_FILTER)
-
-PG_FUNCTION_INFO_V1(bloom_filter_intersection);
-
-/* Returns the intersection of two filters, which have a type of items in common. */
-Datum bloom_filter_intersection(PG_FUNCTION_ARGS)
-{
-    ds_sketch handle = DS_NONE, other = DS_NONE;
-    uint8 items = argument(fcinfo, 0, BLOOM_FILTER, &handle)->items & argument(fcinfo, 1, BLOOM_FILTER, &other)->items;
-    Sketch *sketch;
-    if (items == 0) raise_items("one filter has strings as items, the other one bigints");
-    check_result(ds_bloom_intersect(&handle, &other));
-    ds_free(&other);
-    sketch = store(BLOOM_FILTER, items, &handle);
-    ds_free(&handle);
-    PG_RETURN_POINTER(sketch);
-}
 
 /* Compares the images of two sketches, and then the seeds of Count-Min: below 0, 0 or above 0. Filters and counts have images as
  * the library writes them, so equal images and seeds mean equal states. Equal frequent items may have unequal images. */

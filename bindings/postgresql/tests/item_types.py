@@ -20,7 +20,8 @@ CALLS = ["SELECT frequent_strings_agg(x) FROM {table}", "SELECT frequent_strings
          "SELECT bloom_filter_agg_sized(x, 640, 5) FILTER (WHERE x IS NOT NULL) FROM {table} GROUP BY x",
          "SELECT sketch_contains((SELECT bloom_filter_agg_sized('good', 640, 5)), x) FROM {table}",
          "SELECT sketch_estimate((SELECT count_min_agg_sized('good', 1, 3, 50)), x) FROM {table}",
-         "SELECT sketch_bounds((SELECT frequent_strings_agg('good')), x) FROM {table}"]
+         "SELECT sketch_bounds((SELECT frequent_strings_agg('good')), x) FROM {table}",
+         "SELECT sketch_add(frequent_strings_empty(), x) FROM {table}"]
 
 
 def types(tests):
@@ -78,10 +79,11 @@ def orders(tests):
             cursor.execute(f"RESET ALL; CREATE INDEX ON t_{name} (s); ALTER TABLE t_{name} REPLICA IDENTITY FULL;"
                            f"CREATE PUBLICATION of_{name} FOR TABLE t_{name}")
             tests.check(f"an update of a replicated {name}", code_of(cursor, f"UPDATE t_{name} SET number = 0") is None)
-        cursor.execute("SELECT proname, provolatile FROM pg_proc WHERE proname = 'sketch_union' AND prorettype IN "
+        cursor.execute("SELECT proname, provolatile FROM pg_proc WHERE proname IN ('sketch_union', 'sketch_add') AND prorettype IN "
                        "('frequent_strings'::regtype, 'frequent_bigints'::regtype)")
         rows = cursor.fetchall()
-        tests.check("a union of frequent items, under a random key, is not immutable", {row[1] for row in rows} == {"s"}, rows)
+        tests.check("changes of frequent items, under a random key, are not immutable",
+                    {row[1] for row in rows} == {"s"} and len(rows) == 4, rows)
 
 
 def image_of(*strings):
