@@ -427,45 +427,88 @@ CREATE FUNCTION signed_count_min_from_image(image bytea, seed numeric DEFAULT 90
 
 CREATE FUNCTION signed_count_min_final(internal) RETURNS signed_count_min
     LANGUAGE C IMMUTABLE PARALLEL SAFE AS 'MODULE_PATHNAME', 'state_final';
+-- A frame of a window that moves adds the rows that enter it, and removes those that leave it.
+CREATE FUNCTION signed_count_min_of_frame(internal) RETURNS signed_count_min
+    LANGUAGE C IMMUTABLE PARALLEL SAFE AS 'MODULE_PATHNAME', 'signed_count_min_of_frame';
 CREATE FUNCTION signed_count_min_add(internal, text, double precision, double precision) RETURNS internal
     LANGUAGE C IMMUTABLE PARALLEL SAFE AS 'MODULE_PATHNAME', 'signed_count_min_add_string_by_error';
-CREATE FUNCTION signed_count_min_add(internal, text, anycompatible, double precision, double precision) RETURNS internal
-    LANGUAGE C IMMUTABLE PARALLEL SAFE AS 'MODULE_PATHNAME', 'signed_count_min_add_string_by_error';
+CREATE FUNCTION signed_count_min_enter(internal, text, double precision, double precision) RETURNS internal
+    LANGUAGE C IMMUTABLE PARALLEL SAFE AS 'MODULE_PATHNAME', 'signed_count_min_enter_string_by_error';
+CREATE FUNCTION signed_count_min_leave(internal, text, double precision, double precision) RETURNS internal
+    LANGUAGE C IMMUTABLE PARALLEL SAFE AS 'MODULE_PATHNAME', 'signed_count_min_leave_string';
 CREATE AGGREGATE signed_count_min_agg(item text, relative_error double precision, confidence double precision) (
     SFUNC = signed_count_min_add, STYPE = internal, SSPACE = 32768, FINALFUNC = signed_count_min_final,
+    MSFUNC = signed_count_min_enter, MINVFUNC = signed_count_min_leave, MSTYPE = internal, MSSPACE = 32768, MFINALFUNC = signed_count_min_of_frame,
     COMBINEFUNC = sketch_combine, SERIALFUNC = sketch_serial, DESERIALFUNC = sketch_deserial, PARALLEL = SAFE);
+CREATE FUNCTION signed_count_min_add(internal, text, anycompatible, double precision, double precision) RETURNS internal
+    LANGUAGE C IMMUTABLE PARALLEL SAFE AS 'MODULE_PATHNAME', 'signed_count_min_add_string_by_error';
+CREATE FUNCTION signed_count_min_enter(internal, text, anycompatible, double precision, double precision) RETURNS internal
+    LANGUAGE C IMMUTABLE PARALLEL SAFE AS 'MODULE_PATHNAME', 'signed_count_min_enter_string_by_error';
+CREATE FUNCTION signed_count_min_leave(internal, text, anycompatible, double precision, double precision) RETURNS internal
+    LANGUAGE C IMMUTABLE PARALLEL SAFE AS 'MODULE_PATHNAME', 'signed_count_min_leave_string';
 CREATE AGGREGATE signed_count_min_agg(item text, weight anycompatible, relative_error double precision, confidence double precision) (
     SFUNC = signed_count_min_add, STYPE = internal, SSPACE = 32768, FINALFUNC = signed_count_min_final,
+    MSFUNC = signed_count_min_enter, MINVFUNC = signed_count_min_leave, MSTYPE = internal, MSSPACE = 32768, MFINALFUNC = signed_count_min_of_frame,
     COMBINEFUNC = sketch_combine, SERIALFUNC = sketch_serial, DESERIALFUNC = sketch_deserial, PARALLEL = SAFE);
 CREATE FUNCTION signed_count_min_add(internal, text, integer, integer) RETURNS internal
     LANGUAGE C IMMUTABLE PARALLEL SAFE AS 'MODULE_PATHNAME', 'signed_count_min_add_string_by_size';
-CREATE FUNCTION signed_count_min_add(internal, text, anycompatible, integer, integer) RETURNS internal
-    LANGUAGE C IMMUTABLE PARALLEL SAFE AS 'MODULE_PATHNAME', 'signed_count_min_add_string_by_size';
+CREATE FUNCTION signed_count_min_enter(internal, text, integer, integer) RETURNS internal
+    LANGUAGE C IMMUTABLE PARALLEL SAFE AS 'MODULE_PATHNAME', 'signed_count_min_enter_string_by_size';
+CREATE FUNCTION signed_count_min_leave(internal, text, integer, integer) RETURNS internal
+    LANGUAGE C IMMUTABLE PARALLEL SAFE AS 'MODULE_PATHNAME', 'signed_count_min_leave_string';
 CREATE AGGREGATE signed_count_min_agg_sized(item text, num_hashes integer, num_buckets integer) (
     SFUNC = signed_count_min_add, STYPE = internal, SSPACE = 32768, FINALFUNC = signed_count_min_final,
+    MSFUNC = signed_count_min_enter, MINVFUNC = signed_count_min_leave, MSTYPE = internal, MSSPACE = 32768, MFINALFUNC = signed_count_min_of_frame,
     COMBINEFUNC = sketch_combine, SERIALFUNC = sketch_serial, DESERIALFUNC = sketch_deserial, PARALLEL = SAFE);
+CREATE FUNCTION signed_count_min_add(internal, text, anycompatible, integer, integer) RETURNS internal
+    LANGUAGE C IMMUTABLE PARALLEL SAFE AS 'MODULE_PATHNAME', 'signed_count_min_add_string_by_size';
+CREATE FUNCTION signed_count_min_enter(internal, text, anycompatible, integer, integer) RETURNS internal
+    LANGUAGE C IMMUTABLE PARALLEL SAFE AS 'MODULE_PATHNAME', 'signed_count_min_enter_string_by_size';
+CREATE FUNCTION signed_count_min_leave(internal, text, anycompatible, integer, integer) RETURNS internal
+    LANGUAGE C IMMUTABLE PARALLEL SAFE AS 'MODULE_PATHNAME', 'signed_count_min_leave_string';
 CREATE AGGREGATE signed_count_min_agg_sized(item text, weight anycompatible, num_hashes integer, num_buckets integer) (
     SFUNC = signed_count_min_add, STYPE = internal, SSPACE = 32768, FINALFUNC = signed_count_min_final,
+    MSFUNC = signed_count_min_enter, MINVFUNC = signed_count_min_leave, MSTYPE = internal, MSSPACE = 32768, MFINALFUNC = signed_count_min_of_frame,
     COMBINEFUNC = sketch_combine, SERIALFUNC = sketch_serial, DESERIALFUNC = sketch_deserial, PARALLEL = SAFE);
 CREATE FUNCTION signed_count_min_add(internal, bigint, double precision, double precision) RETURNS internal
     LANGUAGE C IMMUTABLE PARALLEL SAFE AS 'MODULE_PATHNAME', 'signed_count_min_add_bigint_by_error';
-CREATE FUNCTION signed_count_min_add(internal, bigint, anycompatible, double precision, double precision) RETURNS internal
-    LANGUAGE C IMMUTABLE PARALLEL SAFE AS 'MODULE_PATHNAME', 'signed_count_min_add_bigint_by_error';
+CREATE FUNCTION signed_count_min_enter(internal, bigint, double precision, double precision) RETURNS internal
+    LANGUAGE C IMMUTABLE PARALLEL SAFE AS 'MODULE_PATHNAME', 'signed_count_min_enter_bigint_by_error';
+CREATE FUNCTION signed_count_min_leave(internal, bigint, double precision, double precision) RETURNS internal
+    LANGUAGE C IMMUTABLE PARALLEL SAFE AS 'MODULE_PATHNAME', 'signed_count_min_leave_bigint';
 CREATE AGGREGATE signed_count_min_agg(item bigint, relative_error double precision, confidence double precision) (
     SFUNC = signed_count_min_add, STYPE = internal, SSPACE = 32768, FINALFUNC = signed_count_min_final,
+    MSFUNC = signed_count_min_enter, MINVFUNC = signed_count_min_leave, MSTYPE = internal, MSSPACE = 32768, MFINALFUNC = signed_count_min_of_frame,
     COMBINEFUNC = sketch_combine, SERIALFUNC = sketch_serial, DESERIALFUNC = sketch_deserial, PARALLEL = SAFE);
+CREATE FUNCTION signed_count_min_add(internal, bigint, anycompatible, double precision, double precision) RETURNS internal
+    LANGUAGE C IMMUTABLE PARALLEL SAFE AS 'MODULE_PATHNAME', 'signed_count_min_add_bigint_by_error';
+CREATE FUNCTION signed_count_min_enter(internal, bigint, anycompatible, double precision, double precision) RETURNS internal
+    LANGUAGE C IMMUTABLE PARALLEL SAFE AS 'MODULE_PATHNAME', 'signed_count_min_enter_bigint_by_error';
+CREATE FUNCTION signed_count_min_leave(internal, bigint, anycompatible, double precision, double precision) RETURNS internal
+    LANGUAGE C IMMUTABLE PARALLEL SAFE AS 'MODULE_PATHNAME', 'signed_count_min_leave_bigint';
 CREATE AGGREGATE signed_count_min_agg(item bigint, weight anycompatible, relative_error double precision, confidence double precision) (
     SFUNC = signed_count_min_add, STYPE = internal, SSPACE = 32768, FINALFUNC = signed_count_min_final,
+    MSFUNC = signed_count_min_enter, MINVFUNC = signed_count_min_leave, MSTYPE = internal, MSSPACE = 32768, MFINALFUNC = signed_count_min_of_frame,
     COMBINEFUNC = sketch_combine, SERIALFUNC = sketch_serial, DESERIALFUNC = sketch_deserial, PARALLEL = SAFE);
 CREATE FUNCTION signed_count_min_add(internal, bigint, integer, integer) RETURNS internal
     LANGUAGE C IMMUTABLE PARALLEL SAFE AS 'MODULE_PATHNAME', 'signed_count_min_add_bigint_by_size';
-CREATE FUNCTION signed_count_min_add(internal, bigint, anycompatible, integer, integer) RETURNS internal
-    LANGUAGE C IMMUTABLE PARALLEL SAFE AS 'MODULE_PATHNAME', 'signed_count_min_add_bigint_by_size';
+CREATE FUNCTION signed_count_min_enter(internal, bigint, integer, integer) RETURNS internal
+    LANGUAGE C IMMUTABLE PARALLEL SAFE AS 'MODULE_PATHNAME', 'signed_count_min_enter_bigint_by_size';
+CREATE FUNCTION signed_count_min_leave(internal, bigint, integer, integer) RETURNS internal
+    LANGUAGE C IMMUTABLE PARALLEL SAFE AS 'MODULE_PATHNAME', 'signed_count_min_leave_bigint';
 CREATE AGGREGATE signed_count_min_agg_sized(item bigint, num_hashes integer, num_buckets integer) (
     SFUNC = signed_count_min_add, STYPE = internal, SSPACE = 32768, FINALFUNC = signed_count_min_final,
+    MSFUNC = signed_count_min_enter, MINVFUNC = signed_count_min_leave, MSTYPE = internal, MSSPACE = 32768, MFINALFUNC = signed_count_min_of_frame,
     COMBINEFUNC = sketch_combine, SERIALFUNC = sketch_serial, DESERIALFUNC = sketch_deserial, PARALLEL = SAFE);
+CREATE FUNCTION signed_count_min_add(internal, bigint, anycompatible, integer, integer) RETURNS internal
+    LANGUAGE C IMMUTABLE PARALLEL SAFE AS 'MODULE_PATHNAME', 'signed_count_min_add_bigint_by_size';
+CREATE FUNCTION signed_count_min_enter(internal, bigint, anycompatible, integer, integer) RETURNS internal
+    LANGUAGE C IMMUTABLE PARALLEL SAFE AS 'MODULE_PATHNAME', 'signed_count_min_enter_bigint_by_size';
+CREATE FUNCTION signed_count_min_leave(internal, bigint, anycompatible, integer, integer) RETURNS internal
+    LANGUAGE C IMMUTABLE PARALLEL SAFE AS 'MODULE_PATHNAME', 'signed_count_min_leave_bigint';
 CREATE AGGREGATE signed_count_min_agg_sized(item bigint, weight anycompatible, num_hashes integer, num_buckets integer) (
     SFUNC = signed_count_min_add, STYPE = internal, SSPACE = 32768, FINALFUNC = signed_count_min_final,
+    MSFUNC = signed_count_min_enter, MINVFUNC = signed_count_min_leave, MSTYPE = internal, MSSPACE = 32768, MFINALFUNC = signed_count_min_of_frame,
     COMBINEFUNC = sketch_combine, SERIALFUNC = sketch_serial, DESERIALFUNC = sketch_deserial, PARALLEL = SAFE);
 
 CREATE FUNCTION signed_count_min_add_sketch(internal, signed_count_min) RETURNS internal
@@ -701,6 +744,9 @@ BEGIN
             ('gt', 'implementation of > operator'), ('ge', 'implementation of >= operator'),
             ('hash', 'hash of an image'), ('hash_extended', 'hash of an image under a seed'),
             ('add', 'adds a row to the state of an aggregate'),
+            ('enter', 'adds a row to the state of a frame'),
+            ('leave', 'removes a row from the state of a frame'),
+            ('of_frame', 'the sketch of the state of a frame'),
             ('add_sketch', 'merges a row into the state of an aggregate'),
             ('final', 'the sketch of the state of an aggregate'),
             ('sketch_combine', 'merges two states of an aggregate'),

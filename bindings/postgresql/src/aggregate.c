@@ -26,6 +26,12 @@ typedef struct Batch {
 /* The types that weights may have. */
 typedef enum WeightType { BIGINT_WEIGHT, INTEGER_WEIGHT, SMALLINT_WEIGHT, NUMERIC_WEIGHT } WeightType;
 
+/* The rows of a frame that moves: their number, and the sum of their weights without signs. */
+typedef struct Frame {
+    uint64 rows;
+    uint64 total;
+} Frame;
+
 /* A sketch that takes rows. A state from a worker has no sketch yet: it keeps an image until it is combined. */
 typedef struct State {
     ds_sketch handle;
@@ -35,6 +41,7 @@ typedef struct State {
     bool has_sketch;
     WeightType weights;  /* the type of the call's weights, if it has any */
     Datum sizes[2];      /* the size arguments of the first row */
+    Frame frame;         /* of a frame that moves */
     Batch *batch;        /* in unions, after the first sketch */
     size_t unchecked;    /* the bytes of strings that came after the limit was checked */
     const void *image;
@@ -85,7 +92,7 @@ static State *new_state(FunctionCallInfo fcinfo, Kind kind, uint8 items)
     return state;
 }
 
-/* --- Weights. The argument is polymorphic, since a bigint and a numeric overload would leave a call with an integer ambiguous. --- */
+/* --- Weights. Their argument is polymorphic: overloads for bigint and numeric would leave a call with an integer ambiguous. --- */
 
 /* Returns the type of the call's weights. Raises an error for a type that weights do not have. */
 static WeightType type_of_weights(FunctionCallInfo fcinfo)
@@ -160,10 +167,9 @@ static inline bool has_weights(FunctionCallInfo fcinfo, Kind kind)
     return kind != BLOOM_FILTER && first_size(fcinfo, kind) == 3;
 }
 
-/* Returns the state of the first row of a group, with an empty sketch. */
-static State *begin(FunctionCallInfo fcinfo, Row row)
+/* Puts an empty sketch of the first row's sizes into a state. */
+static void begin(FunctionCallInfo fcinfo, State *state, Row row)
 {
-    State *state = new_state(fcinfo, row.kind, row.items);
     int number = first_size(fcinfo, row.kind);
     MemoryContext before;
     check_equality(fcinfo, 1);
@@ -176,7 +182,6 @@ static State *begin(FunctionCallInfo fcinfo, Row row)
     row.make(fcinfo, row.kind, &state->handle, number);
     MemoryContextSwitchTo(before);
     state->has_sketch = true;
-    return state;
 }
 
 /* Raises an error if the sizes differ from those of the first row. */
@@ -198,26 +203,47 @@ static inline void check_strings(State *state, size_t length)
     state->unchecked = 0;
 }
 
-/* Adds a row to the state, or begins a state. A row whose item or weight is null is ignored. */
+/* Returns whether the row's item and its weight, if any, are not null. Other rows are ignored. */
+static inline bool is_counted(FunctionCallInfo fcinfo, Kind kind)
+{
+    return !PG_ARGISNULL(1) && !(has_weights(fcinfo, kind) && PG_ARGISNULL(2));
+}
+
+/* Returns the row's weight, which is 1 if the call has none. */
+static inline int64 row_weight(FunctionCallInfo fcinfo, const State *state, Kind kind)
+{
+    return has_weights(fcinfo, kind) ? weight_argument(fcinfo, state) : 1;
+}
+
+/* Returns the row's item if it is a string. */
+static inline ds_string row_string(FunctionCallInfo fcinfo, uint8 items)
+{
+    return items == STRINGS ? string_argument(fcinfo, 1) : (ds_string) {NULL, 0};
+}
+
+/* Adds the row's item to the state's sketch. Returns the library's result. */
+static pg_attribute_always_inline int32_t add_item(FunctionCallInfo fcinfo, State *state, Row row, ds_string string, int64 weight)
+{
+    MemoryContext before = MemoryContextSwitchTo(state->context);
+    int32_t result = row.items == STRINGS ? add_string(row.kind, &state->handle, string, weight)
+                                          : add_bigint(row.kind, &state->handle, PG_GETARG_INT64(1), weight);
+    MemoryContextSwitchTo(before);
+    return result;
+}
+
+/* Adds a row to the state, or begins a state. */
 static pg_attribute_always_inline Datum add_row(FunctionCallInfo fcinfo, Row row)
 {
     State *state = state_argument(fcinfo, 0);
-    bool is_weighted = has_weights(fcinfo, row.kind);
-    int64 weight = 1;
-    ds_string string = {NULL, 0};
-    MemoryContext before;
-    int32_t result;
-    if (PG_ARGISNULL(1) || (is_weighted && PG_ARGISNULL(2))) return state_result(fcinfo, state);
-    if (unlikely(state == NULL)) state = begin(fcinfo, row);
+    int64 weight;
+    ds_string string;
+    if (!is_counted(fcinfo, row.kind)) return state_result(fcinfo, state);
+    if (unlikely(state == NULL)) begin(fcinfo, state = new_state(fcinfo, row.kind, row.items), row);
     else check_sizes(fcinfo, state, first_size(fcinfo, row.kind));
-    if (is_weighted) weight = weight_argument(fcinfo, state);
+    weight = row_weight(fcinfo, state, row.kind);
     check_weight(row.kind, weight);
-    if (row.items == STRINGS) string = string_argument(fcinfo, 1);
-    before = MemoryContextSwitchTo(state->context);
-    if (row.items == STRINGS) result = add_string(row.kind, &state->handle, string, weight);
-    else result = add_bigint(row.kind, &state->handle, PG_GETARG_INT64(1), weight);
-    MemoryContextSwitchTo(before);
-    check_result(result);
+    string = row_string(fcinfo, row.items);
+    check_result(add_item(fcinfo, state, row, string, weight));
     if (row.kind == FREQUENT_STRINGS) check_strings(state, string.length);
     PG_RETURN_POINTER(state);
 }
@@ -240,6 +266,105 @@ ROWS(signed_count_min_add_string, SIGNED_COUNT_MIN, STRINGS, count)
 ROWS(signed_count_min_add_bigint, SIGNED_COUNT_MIN, BIGINTS, count)
 ROWS(bloom_filter_add_string, BLOOM_FILTER, STRINGS, filter)
 ROWS(bloom_filter_add_bigint, BLOOM_FILTER, BIGINTS, filter)
+
+/* --- Frames of windows that move: a row that leaves a frame is added again with its weight negated, so each row costs two updates.
+ * The cells are then those of the frame's rows. The library's total counts all weights without their signs, so it is more than that
+ * of the frame's rows, which the state counts. --- */
+
+#define TOTAL 16 /* the first byte of the total in an image of counts, of 8 bytes, lowest first */
+
+/* Reads the sketch anew with the total of the frame's rows, which no cell exceeds. */
+static void settle(State *state)
+{
+    MemoryContext before = MemoryContextSwitchTo(state->context);
+    ds_count_min_status status = {0};
+    check_result(ds_count_min_i64_get_status(&state->handle, &status));
+    if (status.total_weight != state->frame.total) {
+        struct varlena *image = write_image(state->kind, &state->handle, VARHDRSZ);
+        for (int i = 0; i < 8; i++) VARDATA(image)[TOTAL + i] = state->frame.total >> 8 * i & 0xff;
+        ds_free(&state->handle);
+        read_image(state->kind, &state->handle, VARDATA(image), VARSIZE(image) - VARHDRSZ, SIZE_MAX);
+        pfree(image);
+    }
+    MemoryContextSwitchTo(before);
+}
+
+/* Returns a weight without its sign. */
+static inline uint64 magnitude(int64 weight)
+{
+    return weight < 0 ? -(uint64) weight : (uint64) weight;
+}
+
+/* Adds a row to the state, which is never null here, as PostgreSQL requires. */
+static pg_attribute_always_inline Datum enter_row(FunctionCallInfo fcinfo, Row row)
+{
+    State *state = state_argument(fcinfo, 0);
+    int64 weight;
+    ds_string string;
+    int32_t result;
+    if (state == NULL) state = new_state(fcinfo, row.kind, row.items);
+    if (!is_counted(fcinfo, row.kind)) PG_RETURN_POINTER(state);
+    if (unlikely(!state->has_sketch)) begin(fcinfo, state, row);
+    else check_sizes(fcinfo, state, first_size(fcinfo, row.kind));
+    weight = row_weight(fcinfo, state, row.kind);
+    string = row_string(fcinfo, row.items);
+    result = add_item(fcinfo, state, row, string, weight);
+    if (unlikely(result == DS_WEIGHT_OVERFLOW)) {
+        settle(state);
+        result = add_item(fcinfo, state, row, string, weight);
+    }
+    check_result(result);
+    state->frame.rows++;
+    state->frame.total += magnitude(weight);
+    PG_RETURN_POINTER(state);
+}
+
+/* Removes a row from the state. Returns null if the total has no room for it: PostgreSQL then begins with the frame's first row. */
+static pg_attribute_always_inline Datum leave_row(FunctionCallInfo fcinfo, Row row)
+{
+    State *state = state_argument(fcinfo, 0);
+    int64 weight;
+    int32_t result;
+    if (!is_counted(fcinfo, row.kind)) return state_result(fcinfo, state);
+    if (state == NULL || !state->has_sketch) elog(ERROR, "a row left a frame that does not have it");
+    weight = row_weight(fcinfo, state, row.kind);
+    state->frame.total -= magnitude(weight);
+    if (--state->frame.rows == 0) {
+        ds_free(&state->handle);
+        state->has_sketch = false;
+        PG_RETURN_POINTER(state);
+    }
+    result = add_item(fcinfo, state, row, row_string(fcinfo, row.items), (int64) -(uint64) weight);
+    if (result == DS_WEIGHT_OVERFLOW) PG_RETURN_NULL();
+    check_result(result);
+    PG_RETURN_POINTER(state);
+}
+
+#define MOVE(name, move, items, make) \
+    PG_FUNCTION_INFO_V1(name); \
+    Datum name(PG_FUNCTION_ARGS) \
+    { \
+        return move(fcinfo, (Row) {SIGNED_COUNT_MIN, items, make}); \
+    }
+
+MOVE(signed_count_min_enter_string_by_size, enter_row, STRINGS, count_by_size)
+MOVE(signed_count_min_enter_string_by_error, enter_row, STRINGS, count_by_error)
+MOVE(signed_count_min_enter_bigint_by_size, enter_row, BIGINTS, count_by_size)
+MOVE(signed_count_min_enter_bigint_by_error, enter_row, BIGINTS, count_by_error)
+MOVE(signed_count_min_leave_string, leave_row, STRINGS, NULL)
+MOVE(signed_count_min_leave_bigint, leave_row, BIGINTS, NULL)
+
+PG_FUNCTION_INFO_V1(signed_count_min_of_frame);
+
+/* Returns the sketch of a frame, or null if it has no rows. */
+Datum signed_count_min_of_frame(PG_FUNCTION_ARGS)
+{
+    State *state = state_argument(fcinfo, 0);
+    aggregate_context(fcinfo);
+    if (state == NULL || !state->has_sketch) PG_RETURN_NULL();
+    settle(state);
+    PG_RETURN_POINTER(store(state->kind, state->items, &state->handle));
+}
 
 /* --- Unions. --- */
 

@@ -144,8 +144,8 @@ Datum count_min_decay(PG_FUNCTION_ARGS)
 /* A call of the library that leaves a part of the first filter. */
 typedef int32_t (*Leave)(ds_sketch *handle, ds_sketch *other);
 
-/* Returns the part of the first filter that a call leaves. Both have a type of items in common, unless one has no items. If only items
- * of both are left, the result has their types, and otherwise those of the first one. */
+/* Returns the part of the first filter that a call leaves. Both have a type of items in common, unless one has no items. The result
+ * has the types of both if only items of both are left, and otherwise those of the first one. */
 static Datum part(FunctionCallInfo fcinfo, Leave leave, bool is_common)
 {
     ds_sketch handle = DS_NONE, other = DS_NONE;

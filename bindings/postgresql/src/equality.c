@@ -15,12 +15,16 @@
 #include "utils/syscache.h"
 #include "utils/typcache.h"
 
-/* Returns whether an aggregate has this transition function. */
+/* Returns whether an aggregate has this transition function, for all frames or for those that move. */
 static bool has_transition(Oid aggregate, Oid function)
 {
     HeapTuple tuple = SearchSysCache1(AGGFNOID, ObjectIdGetDatum(aggregate));
-    bool has = HeapTupleIsValid(tuple) && ((Form_pg_aggregate) GETSTRUCT(tuple))->aggtransfn == function;
-    if (HeapTupleIsValid(tuple)) ReleaseSysCache(tuple);
+    Form_pg_aggregate form;
+    bool has;
+    if (!HeapTupleIsValid(tuple)) return false;
+    form = (Form_pg_aggregate) GETSTRUCT(tuple);
+    has = form->aggtransfn == function || form->aggmtransfn == function;
+    ReleaseSysCache(tuple);
     return has;
 }
 

@@ -21,7 +21,8 @@ CALLS = ["SELECT frequent_strings_agg(x) FROM {table}", "SELECT frequent_strings
          "SELECT sketch_contains((SELECT bloom_filter_agg_sized('good', 640, 5)), x) FROM {table}",
          "SELECT sketch_estimate((SELECT count_min_agg_sized('good', 1, 3, 50)), x) FROM {table}",
          "SELECT sketch_bounds((SELECT frequent_strings_agg('good')), x) FROM {table}",
-         "SELECT sketch_add(frequent_strings_empty(), x) FROM {table}"]
+         "SELECT sketch_add(frequent_strings_empty(), x) FROM {table}",
+         "SELECT signed_count_min_agg_sized(x, 1, 3, 50) OVER (ROWS 1 PRECEDING) FROM {table}"]
 
 
 def types(tests):
