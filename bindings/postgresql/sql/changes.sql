@@ -61,7 +61,7 @@ SELECT sketch_add(filter, 7) FROM grown;
 SELECT sketch_add(filter_numbers, '7') FROM grown;
 SELECT sketch_add(counts, 7) FROM grown;
 SELECT sketch_add(signed, '7') FROM grown;
-SELECT sketch_add(bigints, '7') FROM grown;
+SELECT sketch_add(bigints, 'item 7'::text) FROM grown;
 SELECT sketch_add(strings, 7) FROM grown;
 SELECT sketch_add(counts, 'a', -1) FROM grown;
 SELECT sketch_add(strings, 'a', -1) FROM grown;
@@ -88,6 +88,9 @@ SELECT set_byte(filter::bytea, 5, 0)::bloom_filter FROM grown;
 SELECT set_byte(counts::bytea, 5, 0)::count_min FROM grown;
 SELECT set_byte(bigints::bytea, 5, 0)::frequent_bigints FROM grown;
 \set VERBOSITY default
+SELECT type, bits > 0 AS has_bits, bits - rejected AS accepted
+FROM (VALUES ('bloom_filter', bloom_filter_empty(10, 0.1)::bytea), ('count_min', count_min_empty(0.1, 0.9)::bytea),
+    ('frequent_strings', frequent_strings_empty()::bytea)) AS s(type, sketch), LATERAL turned(sketch, type);
 SELECT bloom_filter_empty(10, NULL) IS NULL AS no_rate, frequent_strings_empty(NULL::integer) IS NULL AS no_size;
 
 -- Half of each weight, and a share of it, rounded down.
@@ -111,7 +114,7 @@ SELECT sketch_halve(signed) FROM grown;
 CREATE TABLE pairs AS SELECT bits, bloom_filter_agg_sized(i, bits, 3) FILTER (WHERE i <= 20) AS first,
     bloom_filter_agg_sized(i, bits, 3) FILTER (WHERE i > 15) AS second
 FROM (VALUES (64), (100000)) AS v(bits), generate_series(1::bigint, 40) AS i GROUP BY bits;
-SELECT bits, count(*) FILTER (WHERE i > 15 AND sketch_contains(first - second, i)) AS of_second,
+SELECT bits, count(*) FILTER (WHERE i BETWEEN 16 AND 40 AND sketch_contains(first - second, i)) AS of_second,
     count(*) FILTER (WHERE sketch_contains(first - second, i) AND NOT sketch_contains(first, i)) AS new,
     count(*) FILTER (WHERE i <= 15 AND sketch_contains(first - second, i)) = 15 AS keeps_all,
     bool_and(first - second = sketch_difference(first, second)) AS by_name,

@@ -65,3 +65,10 @@ SELECT frequent_strings_agg('a', date '2026-01-01');
 SELECT frequent_strings_agg('a', 1.5);
 SELECT frequent_strings_agg('a', true);
 \set VERBOSITY default
+
+-- Items of other types, by a text or a number that is equal for equal items.
+SELECT sketch_contains(bloom_filter_agg(u::text, 10, 0.01), 'F0EEBC99-9C0B-4EF8-BB6D-6BB9BD380A11'::uuid::text) AS uuid,
+    sketch_contains(bloom_filter_agg(encode(b, 'hex'), 10, 0.01), encode('\x00ff', 'hex')) AS bytea,
+    sketch_contains(bloom_filter_agg(trim_scale(n)::text, 10, 0.01), trim_scale(1.50)::text) AS numeric,
+    sketch_contains(bloom_filter_agg(d - date '2000-01-01', 10, 0.01), date '2026-02-03' - date '2000-01-01') AS date
+FROM (VALUES ('f0eebc99-9c0b-4ef8-bb6d-6bb9bd380a11'::uuid, '\x00ff'::bytea, 1.5, date '2026-02-03')) AS v(u, b, n, d);

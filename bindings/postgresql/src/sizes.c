@@ -68,10 +68,11 @@ void count_by_size(FunctionCallInfo fcinfo, Kind kind, ds_sketch *handle, int nu
 
 void count_by_error(FunctionCallInfo fcinfo, Kind kind, ds_sketch *handle, int number)
 {
+    uint64 parts = parts_argument(fcinfo, number);
     uint64 questions = inverse(1 - PG_GETARG_FLOAT8(number + 1), "confidence must be above 0 and below 1");
     uint32_t num_buckets = 0;
     uint8_t num_hashes = 0;
-    check_result(ds_count_min_suggest_num_buckets(parts_argument(fcinfo, number), &num_buckets));
+    check_result(ds_count_min_suggest_num_buckets(parts, &num_buckets));
     check_result(ds_count_min_suggest_num_hashes(questions, &num_hashes));
     make_count(kind, handle, num_hashes, num_buckets);
 }
