@@ -81,28 +81,12 @@ COSTS = [("number", "frequent_bigints_agg(number)", "frequent bigints, 1024 slot
          ("string", "bloom_filter_agg_sized(string, 10000000, 7)", "filter of 1.2 MB, 7 hashes, strings")]
 
 
-def field(process, name):
-    """Returns a field of a process's status in bytes, or 0 if it is gone."""
-    try:
-        with open(f"/proc/{process}/status", encoding="utf-8") as file:
-            return next((int(line.split()[1]) * 1024 for line in file if line.startswith(name)), 0)
-    except OSError:
-        return 0
-
-
-def processor_time(process):
-    """Returns the processor time of a process, in seconds."""
-    with open(f"/proc/{process}/stat", encoding="utf-8") as file:
-        words = file.read().rsplit(")", 1)[1].split()
-    return (int(words[11]) + int(words[12])) / os.sysconf("SC_CLK_TCK")
-
-
 class Watch:
     """Samples the memory of its own that a session and its workers have, and keeps the most above the session's at the start."""
 
     def __init__(self, on, process):
         self.on, self.process, self.most, self.ended = on, process, 0, False
-        self.before = field(process, "RssAnon")
+        self.before = server.memory(process, "RssAnon")
         self.thread = threading.Thread(target=self.run)
         self.thread.start()
 
@@ -111,7 +95,7 @@ class Watch:
             while not self.ended:
                 cursor.execute("SELECT pid FROM pg_stat_activity WHERE leader_pid = %s", (self.process,))
                 processes = {self.process, *[row[0] for row in cursor.fetchall()]}
-                self.most = max(self.most, sum(field(process, "RssAnon") for process in processes) - self.before)
+                self.most = max(self.most, sum(server.memory(process, "RssAnon") for process in processes) - self.before)
                 time.sleep(0.01)
 
     def end(self):
@@ -153,10 +137,10 @@ def cost(on, expression):
         cursor.execute("SELECT pg_backend_pid()")
         process = cursor.fetchone()[0]
         for _ in range(2 * ROUNDS):
-            before = processor_time(process)
+            before = server.processor_time(process)
             cursor.execute(f"SELECT {expression} FROM events")
             cursor.fetchall()
-            least = min(least, processor_time(process) - before)
+            least = min(least, server.processor_time(process) - before)
     return least
 
 

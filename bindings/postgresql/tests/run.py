@@ -27,6 +27,7 @@ import damage  # noqa: E402
 import ends  # noqa: E402
 import errors  # noqa: E402
 import exchange  # noqa: E402
+import frames  # noqa: E402
 import item_types  # noqa: E402
 import limits  # noqa: E402
 import page  # noqa: E402
@@ -145,7 +146,7 @@ def valgrind(tests):
 
 
 GROUPS = [queries, isolation, bounds.every_key, ends.cancels, ends.many_cancels, ends.killed, ends.out_of_memory,
-          stored.dump_and_restore, stored.copied, stored.encodings, stored.collations, stored.versions, stored.owned,
+          stored.dump_and_restore, stored.copied, stored.encodings, stored.collations, stored.versions, stored.owned, frames.linear,
           item_types.types, item_types.orders, item_types.images_of_other_items, item_types.comments, limits.small_images, limits.planned,
           limits.administrators, limits.settings, limits.kept_by_use, limits.kept_in_part, limits.long_strings,
           exchange.interfaces, exchange.seeds, page.page_queries, errors.page_errors, damage.damaged_bytes, versions.compiles]

@@ -80,6 +80,22 @@ def install(tree, archive, work, **settings):
         raise RuntimeError(f"make: {made.stdout[-2000:]}\n{made.stderr[-4000:]}")
 
 
+def processor_time(process):
+    """Returns the processor time of a process, in seconds."""
+    with open(f"/proc/{process}/stat", encoding="utf-8") as file:
+        words = file.read().rsplit(")", 1)[1].split()
+    return (int(words[11]) + int(words[12])) / os.sysconf("SC_CLK_TCK")
+
+
+def memory(process, name):
+    """Returns a field of a process's status in bytes, or 0 if it is gone."""
+    try:
+        with open(f"/proc/{process}/status", encoding="utf-8") as file:
+            return next((int(line.split()[1]) * 1024 for line in file if line.startswith(name)), 0)
+    except OSError:
+        return 0
+
+
 def _end_with_parent():
     ctypes.CDLL(None).prctl(1, int(signal.SIGQUIT))
 
