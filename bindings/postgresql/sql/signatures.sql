@@ -46,6 +46,25 @@ FROM weighted WHERE page IS NOT NULL GROUP BY page ORDER BY page;
 SELECT sketch_estimate(signed_count_min_agg_sized('a', w, 3, 64), 'a')
 FROM (VALUES (9223372036854775807.00), (-9223372036854775807)) AS v(w) GROUP BY w ORDER BY w;
 
+-- Workers read weights of any of these types.
+CREATE TABLE many_weights AS SELECT 'page ' || i % 50 AS page, i % 7 AS large, (i % 7)::integer AS medium, (i % 7)::numeric AS exact
+FROM generate_series(1::bigint, 20000) AS i;
+ANALYZE many_weights;
+SET parallel_setup_cost = 0;
+SET parallel_tuple_cost = 0;
+SET min_parallel_table_scan_size = 0;
+SET max_parallel_workers_per_gather = 2;
+EXPLAIN (COSTS off) SELECT count_min_agg(page, medium, 0.01, 0.99), count_min_agg(page, exact, 0.01, 0.99) FROM many_weights;
+CREATE TABLE by_workers AS SELECT count_min_agg(page, medium, 0.01, 0.99) AS of_integer, count_min_agg(page, exact, 0.01, 0.99) AS of_numeric
+FROM many_weights;
+SET max_parallel_workers_per_gather = 0;
+SELECT of_integer = of_bigint AS integer, of_numeric = of_bigint AS numeric, (sketch_status(of_bigint)).total_weight
+FROM by_workers, (SELECT count_min_agg(page, large, 0.01, 0.99) AS of_bigint FROM many_weights) AS s;
+RESET parallel_setup_cost;
+RESET parallel_tuple_cost;
+RESET min_parallel_table_scan_size;
+RESET max_parallel_workers_per_gather;
+
 -- A weight that is not a whole number, or not a bigint, is an error. So is one of another type.
 \set VERBOSITY sqlstate
 SELECT frequent_strings_agg('a', 1.5);
