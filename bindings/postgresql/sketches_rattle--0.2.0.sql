@@ -286,7 +286,7 @@ CREATE FUNCTION count_min_final(internal) RETURNS count_min
 CREATE FUNCTION count_min_add(internal, text, double precision, double precision) RETURNS internal
     LANGUAGE C IMMUTABLE PARALLEL SAFE AS 'MODULE_PATHNAME', 'count_min_add_string_by_error';
 CREATE FUNCTION count_min_add(internal, text, anycompatible, double precision, double precision) RETURNS internal
-    LANGUAGE C IMMUTABLE PARALLEL SAFE AS 'MODULE_PATHNAME', 'count_min_add_string_by_error';
+    LANGUAGE C IMMUTABLE PARALLEL SAFE AS 'MODULE_PATHNAME', 'count_min_add_weighted_string_by_error';
 CREATE AGGREGATE count_min_agg(item text, relative_error double precision, confidence double precision) (
     SFUNC = count_min_add, STYPE = internal, SSPACE = 32768, FINALFUNC = count_min_final,
     COMBINEFUNC = sketch_combine, SERIALFUNC = sketch_serial, DESERIALFUNC = sketch_deserial, PARALLEL = SAFE);
@@ -296,7 +296,7 @@ CREATE AGGREGATE count_min_agg(item text, weight anycompatible, relative_error d
 CREATE FUNCTION count_min_add(internal, text, integer, integer) RETURNS internal
     LANGUAGE C IMMUTABLE PARALLEL SAFE AS 'MODULE_PATHNAME', 'count_min_add_string_by_size';
 CREATE FUNCTION count_min_add(internal, text, anycompatible, integer, integer) RETURNS internal
-    LANGUAGE C IMMUTABLE PARALLEL SAFE AS 'MODULE_PATHNAME', 'count_min_add_string_by_size';
+    LANGUAGE C IMMUTABLE PARALLEL SAFE AS 'MODULE_PATHNAME', 'count_min_add_weighted_string_by_size';
 CREATE AGGREGATE count_min_agg_sized(item text, num_hashes integer, num_buckets integer) (
     SFUNC = count_min_add, STYPE = internal, SSPACE = 32768, FINALFUNC = count_min_final,
     COMBINEFUNC = sketch_combine, SERIALFUNC = sketch_serial, DESERIALFUNC = sketch_deserial, PARALLEL = SAFE);
@@ -306,7 +306,7 @@ CREATE AGGREGATE count_min_agg_sized(item text, weight anycompatible, num_hashes
 CREATE FUNCTION count_min_add(internal, bigint, double precision, double precision) RETURNS internal
     LANGUAGE C IMMUTABLE PARALLEL SAFE AS 'MODULE_PATHNAME', 'count_min_add_bigint_by_error';
 CREATE FUNCTION count_min_add(internal, bigint, anycompatible, double precision, double precision) RETURNS internal
-    LANGUAGE C IMMUTABLE PARALLEL SAFE AS 'MODULE_PATHNAME', 'count_min_add_bigint_by_error';
+    LANGUAGE C IMMUTABLE PARALLEL SAFE AS 'MODULE_PATHNAME', 'count_min_add_weighted_bigint_by_error';
 CREATE AGGREGATE count_min_agg(item bigint, relative_error double precision, confidence double precision) (
     SFUNC = count_min_add, STYPE = internal, SSPACE = 32768, FINALFUNC = count_min_final,
     COMBINEFUNC = sketch_combine, SERIALFUNC = sketch_serial, DESERIALFUNC = sketch_deserial, PARALLEL = SAFE);
@@ -316,7 +316,7 @@ CREATE AGGREGATE count_min_agg(item bigint, weight anycompatible, relative_error
 CREATE FUNCTION count_min_add(internal, bigint, integer, integer) RETURNS internal
     LANGUAGE C IMMUTABLE PARALLEL SAFE AS 'MODULE_PATHNAME', 'count_min_add_bigint_by_size';
 CREATE FUNCTION count_min_add(internal, bigint, anycompatible, integer, integer) RETURNS internal
-    LANGUAGE C IMMUTABLE PARALLEL SAFE AS 'MODULE_PATHNAME', 'count_min_add_bigint_by_size';
+    LANGUAGE C IMMUTABLE PARALLEL SAFE AS 'MODULE_PATHNAME', 'count_min_add_weighted_bigint_by_size';
 CREATE AGGREGATE count_min_agg_sized(item bigint, num_hashes integer, num_buckets integer) (
     SFUNC = count_min_add, STYPE = internal, SSPACE = 32768, FINALFUNC = count_min_final,
     COMBINEFUNC = sketch_combine, SERIALFUNC = sketch_serial, DESERIALFUNC = sketch_deserial, PARALLEL = SAFE);
@@ -441,11 +441,11 @@ CREATE AGGREGATE signed_count_min_agg(item text, relative_error double precision
     MSFUNC = signed_count_min_enter, MINVFUNC = signed_count_min_leave, MSTYPE = internal, MSSPACE = 32768, MFINALFUNC = signed_count_min_of_frame,
     COMBINEFUNC = sketch_combine, SERIALFUNC = sketch_serial, DESERIALFUNC = sketch_deserial, PARALLEL = SAFE);
 CREATE FUNCTION signed_count_min_add(internal, text, anycompatible, double precision, double precision) RETURNS internal
-    LANGUAGE C IMMUTABLE PARALLEL SAFE AS 'MODULE_PATHNAME', 'signed_count_min_add_string_by_error';
+    LANGUAGE C IMMUTABLE PARALLEL SAFE AS 'MODULE_PATHNAME', 'signed_count_min_add_weighted_string_by_error';
 CREATE FUNCTION signed_count_min_enter(internal, text, anycompatible, double precision, double precision) RETURNS internal
-    LANGUAGE C IMMUTABLE PARALLEL SAFE AS 'MODULE_PATHNAME', 'signed_count_min_enter_string_by_error';
+    LANGUAGE C IMMUTABLE PARALLEL SAFE AS 'MODULE_PATHNAME', 'signed_count_min_enter_weighted_string_by_error';
 CREATE FUNCTION signed_count_min_leave(internal, text, anycompatible, double precision, double precision) RETURNS internal
-    LANGUAGE C IMMUTABLE PARALLEL SAFE AS 'MODULE_PATHNAME', 'signed_count_min_leave_string';
+    LANGUAGE C IMMUTABLE PARALLEL SAFE AS 'MODULE_PATHNAME', 'signed_count_min_leave_weighted_string';
 CREATE AGGREGATE signed_count_min_agg(item text, weight anycompatible, relative_error double precision, confidence double precision) (
     SFUNC = signed_count_min_add, STYPE = internal, SSPACE = 32768, FINALFUNC = signed_count_min_final,
     MSFUNC = signed_count_min_enter, MINVFUNC = signed_count_min_leave, MSTYPE = internal, MSSPACE = 32768, MFINALFUNC = signed_count_min_of_frame,
@@ -461,11 +461,11 @@ CREATE AGGREGATE signed_count_min_agg_sized(item text, num_hashes integer, num_b
     MSFUNC = signed_count_min_enter, MINVFUNC = signed_count_min_leave, MSTYPE = internal, MSSPACE = 32768, MFINALFUNC = signed_count_min_of_frame,
     COMBINEFUNC = sketch_combine, SERIALFUNC = sketch_serial, DESERIALFUNC = sketch_deserial, PARALLEL = SAFE);
 CREATE FUNCTION signed_count_min_add(internal, text, anycompatible, integer, integer) RETURNS internal
-    LANGUAGE C IMMUTABLE PARALLEL SAFE AS 'MODULE_PATHNAME', 'signed_count_min_add_string_by_size';
+    LANGUAGE C IMMUTABLE PARALLEL SAFE AS 'MODULE_PATHNAME', 'signed_count_min_add_weighted_string_by_size';
 CREATE FUNCTION signed_count_min_enter(internal, text, anycompatible, integer, integer) RETURNS internal
-    LANGUAGE C IMMUTABLE PARALLEL SAFE AS 'MODULE_PATHNAME', 'signed_count_min_enter_string_by_size';
+    LANGUAGE C IMMUTABLE PARALLEL SAFE AS 'MODULE_PATHNAME', 'signed_count_min_enter_weighted_string_by_size';
 CREATE FUNCTION signed_count_min_leave(internal, text, anycompatible, integer, integer) RETURNS internal
-    LANGUAGE C IMMUTABLE PARALLEL SAFE AS 'MODULE_PATHNAME', 'signed_count_min_leave_string';
+    LANGUAGE C IMMUTABLE PARALLEL SAFE AS 'MODULE_PATHNAME', 'signed_count_min_leave_weighted_string';
 CREATE AGGREGATE signed_count_min_agg_sized(item text, weight anycompatible, num_hashes integer, num_buckets integer) (
     SFUNC = signed_count_min_add, STYPE = internal, SSPACE = 32768, FINALFUNC = signed_count_min_final,
     MSFUNC = signed_count_min_enter, MINVFUNC = signed_count_min_leave, MSTYPE = internal, MSSPACE = 32768, MFINALFUNC = signed_count_min_of_frame,
@@ -481,11 +481,11 @@ CREATE AGGREGATE signed_count_min_agg(item bigint, relative_error double precisi
     MSFUNC = signed_count_min_enter, MINVFUNC = signed_count_min_leave, MSTYPE = internal, MSSPACE = 32768, MFINALFUNC = signed_count_min_of_frame,
     COMBINEFUNC = sketch_combine, SERIALFUNC = sketch_serial, DESERIALFUNC = sketch_deserial, PARALLEL = SAFE);
 CREATE FUNCTION signed_count_min_add(internal, bigint, anycompatible, double precision, double precision) RETURNS internal
-    LANGUAGE C IMMUTABLE PARALLEL SAFE AS 'MODULE_PATHNAME', 'signed_count_min_add_bigint_by_error';
+    LANGUAGE C IMMUTABLE PARALLEL SAFE AS 'MODULE_PATHNAME', 'signed_count_min_add_weighted_bigint_by_error';
 CREATE FUNCTION signed_count_min_enter(internal, bigint, anycompatible, double precision, double precision) RETURNS internal
-    LANGUAGE C IMMUTABLE PARALLEL SAFE AS 'MODULE_PATHNAME', 'signed_count_min_enter_bigint_by_error';
+    LANGUAGE C IMMUTABLE PARALLEL SAFE AS 'MODULE_PATHNAME', 'signed_count_min_enter_weighted_bigint_by_error';
 CREATE FUNCTION signed_count_min_leave(internal, bigint, anycompatible, double precision, double precision) RETURNS internal
-    LANGUAGE C IMMUTABLE PARALLEL SAFE AS 'MODULE_PATHNAME', 'signed_count_min_leave_bigint';
+    LANGUAGE C IMMUTABLE PARALLEL SAFE AS 'MODULE_PATHNAME', 'signed_count_min_leave_weighted_bigint';
 CREATE AGGREGATE signed_count_min_agg(item bigint, weight anycompatible, relative_error double precision, confidence double precision) (
     SFUNC = signed_count_min_add, STYPE = internal, SSPACE = 32768, FINALFUNC = signed_count_min_final,
     MSFUNC = signed_count_min_enter, MINVFUNC = signed_count_min_leave, MSTYPE = internal, MSSPACE = 32768, MFINALFUNC = signed_count_min_of_frame,
@@ -501,11 +501,11 @@ CREATE AGGREGATE signed_count_min_agg_sized(item bigint, num_hashes integer, num
     MSFUNC = signed_count_min_enter, MINVFUNC = signed_count_min_leave, MSTYPE = internal, MSSPACE = 32768, MFINALFUNC = signed_count_min_of_frame,
     COMBINEFUNC = sketch_combine, SERIALFUNC = sketch_serial, DESERIALFUNC = sketch_deserial, PARALLEL = SAFE);
 CREATE FUNCTION signed_count_min_add(internal, bigint, anycompatible, integer, integer) RETURNS internal
-    LANGUAGE C IMMUTABLE PARALLEL SAFE AS 'MODULE_PATHNAME', 'signed_count_min_add_bigint_by_size';
+    LANGUAGE C IMMUTABLE PARALLEL SAFE AS 'MODULE_PATHNAME', 'signed_count_min_add_weighted_bigint_by_size';
 CREATE FUNCTION signed_count_min_enter(internal, bigint, anycompatible, integer, integer) RETURNS internal
-    LANGUAGE C IMMUTABLE PARALLEL SAFE AS 'MODULE_PATHNAME', 'signed_count_min_enter_bigint_by_size';
+    LANGUAGE C IMMUTABLE PARALLEL SAFE AS 'MODULE_PATHNAME', 'signed_count_min_enter_weighted_bigint_by_size';
 CREATE FUNCTION signed_count_min_leave(internal, bigint, anycompatible, integer, integer) RETURNS internal
-    LANGUAGE C IMMUTABLE PARALLEL SAFE AS 'MODULE_PATHNAME', 'signed_count_min_leave_bigint';
+    LANGUAGE C IMMUTABLE PARALLEL SAFE AS 'MODULE_PATHNAME', 'signed_count_min_leave_weighted_bigint';
 CREATE AGGREGATE signed_count_min_agg_sized(item bigint, weight anycompatible, num_hashes integer, num_buckets integer) (
     SFUNC = signed_count_min_add, STYPE = internal, SSPACE = 32768, FINALFUNC = signed_count_min_final,
     MSFUNC = signed_count_min_enter, MINVFUNC = signed_count_min_leave, MSTYPE = internal, MSSPACE = 32768, MFINALFUNC = signed_count_min_of_frame,

@@ -128,13 +128,10 @@ static int64 numeric_weight(Datum datum)
 /* Returns the weight of the call's row. */
 static inline int64 weight_argument(FunctionCallInfo fcinfo, const State *state)
 {
-    switch (state->weights) {
-    case BIGINT_WEIGHT: return PG_GETARG_INT64(2);
-    case INTEGER_WEIGHT: return PG_GETARG_INT32(2);
-    case SMALLINT_WEIGHT: return PG_GETARG_INT16(2);
-    case NUMERIC_WEIGHT: return numeric_weight(PG_GETARG_DATUM(2));
-    }
-    pg_unreachable();
+    if (likely(state->weights == BIGINT_WEIGHT)) return PG_GETARG_INT64(2);
+    if (state->weights == INTEGER_WEIGHT) return PG_GETARG_INT32(2);
+    if (state->weights == SMALLINT_WEIGHT) return PG_GETARG_INT16(2);
+    return numeric_weight(PG_GETARG_DATUM(2));
 }
 
 /* --- Rows. --- */
@@ -146,40 +143,34 @@ static inline void check_size(FunctionCallInfo fcinfo, int number)
         ereport(ERROR, (errcode(ERRCODE_NULL_VALUE_NOT_ALLOWED), errmsg("a size of a sketch must not be null")));
 }
 
-/* The parts of a call that adds a row, known when the file is compiled. */
+/* The parts of a call that adds a row, known when the file is compiled. The call's arguments are the state, the item, a weight, which
+ * filters do not have, and sizes. */
 typedef struct Row {
     Kind kind;
     uint8 items;
+    int number; /* of the first argument that is a size: 3 after a weight, and 2 otherwise */
     Make make;
 } Row;
 
-/* Returns the number of the call's first argument that is a size. The arguments are the state, the item, a weight, which may be left
- * out and which filters do not have, and sizes: two, but of frequent items at most one, after a weight. */
-static inline int first_size(FunctionCallInfo fcinfo, Kind kind)
+/* Returns whether the call has weights. Calls of frequent items leave out the weight only if they leave out the sizes too. */
+static inline bool has_weights(FunctionCallInfo fcinfo, Row row)
 {
-    bool is_frequent = kind == FREQUENT_STRINGS || kind == FREQUENT_BIGINTS;
-    return is_frequent ? Min(PG_NARGS(), 3) : PG_NARGS() - 2;
-}
-
-/* Returns whether the call has weights. */
-static inline bool has_weights(FunctionCallInfo fcinfo, Kind kind)
-{
-    return kind != BLOOM_FILTER && first_size(fcinfo, kind) == 3;
+    bool is_frequent = row.kind == FREQUENT_STRINGS || row.kind == FREQUENT_BIGINTS;
+    return is_frequent ? PG_NARGS() > 2 : row.number == 3;
 }
 
 /* Puts an empty sketch of the first row's sizes into a state. */
 static void begin(FunctionCallInfo fcinfo, State *state, Row row)
 {
-    int number = first_size(fcinfo, row.kind);
     MemoryContext before;
     check_equality(fcinfo, 1);
-    if (has_weights(fcinfo, row.kind)) state->weights = type_of_weights(fcinfo);
-    for (int i = number; i < PG_NARGS(); i++) {
+    if (has_weights(fcinfo, row)) state->weights = type_of_weights(fcinfo);
+    for (int i = row.number; i < PG_NARGS(); i++) {
         check_size(fcinfo, i);
-        state->sizes[i - number] = PG_GETARG_DATUM(i);
+        state->sizes[i - row.number] = PG_GETARG_DATUM(i);
     }
     before = MemoryContextSwitchTo(state->context);
-    row.make(fcinfo, row.kind, &state->handle, number);
+    row.make(fcinfo, row.kind, &state->handle, row.number);
     MemoryContextSwitchTo(before);
     state->has_sketch = true;
 }
@@ -204,15 +195,15 @@ static inline void check_strings(State *state, size_t length)
 }
 
 /* Returns whether the row's item and its weight, if any, are not null. Other rows are ignored. */
-static inline bool is_counted(FunctionCallInfo fcinfo, Kind kind)
+static inline bool is_counted(FunctionCallInfo fcinfo, Row row)
 {
-    return !PG_ARGISNULL(1) && !(has_weights(fcinfo, kind) && PG_ARGISNULL(2));
+    return !PG_ARGISNULL(1) && !(has_weights(fcinfo, row) && PG_ARGISNULL(2));
 }
 
 /* Returns the row's weight, which is 1 if the call has none. */
-static inline int64 row_weight(FunctionCallInfo fcinfo, const State *state, Kind kind)
+static inline int64 row_weight(FunctionCallInfo fcinfo, const State *state, Row row)
 {
-    return has_weights(fcinfo, kind) ? weight_argument(fcinfo, state) : 1;
+    return has_weights(fcinfo, row) ? weight_argument(fcinfo, state) : 1;
 }
 
 /* Returns the row's item if it is a string. */
@@ -237,10 +228,10 @@ static pg_attribute_always_inline Datum add_row(FunctionCallInfo fcinfo, Row row
     State *state = state_argument(fcinfo, 0);
     int64 weight;
     ds_string string;
-    if (!is_counted(fcinfo, row.kind)) return state_result(fcinfo, state);
+    if (!is_counted(fcinfo, row)) return state_result(fcinfo, state);
     if (unlikely(state == NULL)) begin(fcinfo, state = new_state(fcinfo, row.kind, row.items), row);
-    else check_sizes(fcinfo, state, first_size(fcinfo, row.kind));
-    weight = row_weight(fcinfo, state, row.kind);
+    else check_sizes(fcinfo, state, row.number);
+    weight = row_weight(fcinfo, state, row);
     check_weight(row.kind, weight);
     string = row_string(fcinfo, row.items);
     check_result(add_item(fcinfo, state, row, string, weight));
@@ -248,24 +239,28 @@ static pg_attribute_always_inline Datum add_row(FunctionCallInfo fcinfo, Row row
     PG_RETURN_POINTER(state);
 }
 
-#define ROW(name, kind, items, make) \
+#define ROW(name, add, ...) \
     PG_FUNCTION_INFO_V1(name); \
     Datum name(PG_FUNCTION_ARGS) \
     { \
-        return add_row(fcinfo, (Row) {kind, items, make}); \
+        return add(fcinfo, (Row) {__VA_ARGS__}); \
     }
-#define ROWS(name, kind, items, prefix) \
-    ROW(name##_by_size, kind, items, prefix##_by_size) \
-    ROW(name##_by_error, kind, items, prefix##_by_error)
+#define ROWS(name, add, kind, items, number, prefix) \
+    ROW(name##_by_size, add, kind, items, number, prefix##_by_size) \
+    ROW(name##_by_error, add, kind, items, number, prefix##_by_error)
 
-ROWS(frequent_strings_add, FREQUENT_STRINGS, STRINGS, frequent)
-ROWS(frequent_bigints_add, FREQUENT_BIGINTS, BIGINTS, frequent)
-ROWS(count_min_add_string, COUNT_MIN, STRINGS, count)
-ROWS(count_min_add_bigint, COUNT_MIN, BIGINTS, count)
-ROWS(signed_count_min_add_string, SIGNED_COUNT_MIN, STRINGS, count)
-ROWS(signed_count_min_add_bigint, SIGNED_COUNT_MIN, BIGINTS, count)
-ROWS(bloom_filter_add_string, BLOOM_FILTER, STRINGS, filter)
-ROWS(bloom_filter_add_bigint, BLOOM_FILTER, BIGINTS, filter)
+ROWS(frequent_strings_add, add_row, FREQUENT_STRINGS, STRINGS, 3, frequent)
+ROWS(frequent_bigints_add, add_row, FREQUENT_BIGINTS, BIGINTS, 3, frequent)
+ROWS(count_min_add_string, add_row, COUNT_MIN, STRINGS, 2, count)
+ROWS(count_min_add_weighted_string, add_row, COUNT_MIN, STRINGS, 3, count)
+ROWS(count_min_add_bigint, add_row, COUNT_MIN, BIGINTS, 2, count)
+ROWS(count_min_add_weighted_bigint, add_row, COUNT_MIN, BIGINTS, 3, count)
+ROWS(signed_count_min_add_string, add_row, SIGNED_COUNT_MIN, STRINGS, 2, count)
+ROWS(signed_count_min_add_weighted_string, add_row, SIGNED_COUNT_MIN, STRINGS, 3, count)
+ROWS(signed_count_min_add_bigint, add_row, SIGNED_COUNT_MIN, BIGINTS, 2, count)
+ROWS(signed_count_min_add_weighted_bigint, add_row, SIGNED_COUNT_MIN, BIGINTS, 3, count)
+ROWS(bloom_filter_add_string, add_row, BLOOM_FILTER, STRINGS, 2, filter)
+ROWS(bloom_filter_add_bigint, add_row, BLOOM_FILTER, BIGINTS, 2, filter)
 
 /* --- Frames of windows that move: a row that leaves a frame is added again with its weight negated, so each row costs two updates.
  * The cells are then those of the frame's rows. The library's total counts all weights without their signs, so it is more than that
@@ -303,10 +298,10 @@ static pg_attribute_always_inline Datum enter_row(FunctionCallInfo fcinfo, Row r
     ds_string string;
     int32_t result;
     if (state == NULL) state = new_state(fcinfo, row.kind, row.items);
-    if (!is_counted(fcinfo, row.kind)) PG_RETURN_POINTER(state);
+    if (!is_counted(fcinfo, row)) PG_RETURN_POINTER(state);
     if (unlikely(!state->has_sketch)) begin(fcinfo, state, row);
-    else check_sizes(fcinfo, state, first_size(fcinfo, row.kind));
-    weight = row_weight(fcinfo, state, row.kind);
+    else check_sizes(fcinfo, state, row.number);
+    weight = row_weight(fcinfo, state, row);
     string = row_string(fcinfo, row.items);
     result = add_item(fcinfo, state, row, string, weight);
     if (unlikely(result == DS_WEIGHT_OVERFLOW)) {
@@ -325,9 +320,9 @@ static pg_attribute_always_inline Datum leave_row(FunctionCallInfo fcinfo, Row r
     State *state = state_argument(fcinfo, 0);
     int64 weight;
     int32_t result;
-    if (!is_counted(fcinfo, row.kind)) return state_result(fcinfo, state);
+    if (!is_counted(fcinfo, row)) return state_result(fcinfo, state);
     if (state == NULL || !state->has_sketch) elog(ERROR, "a row left a frame that does not have it");
-    weight = row_weight(fcinfo, state, row.kind);
+    weight = row_weight(fcinfo, state, row);
     state->frame.total -= magnitude(weight);
     if (--state->frame.rows == 0) {
         ds_free(&state->handle);
@@ -340,19 +335,14 @@ static pg_attribute_always_inline Datum leave_row(FunctionCallInfo fcinfo, Row r
     PG_RETURN_POINTER(state);
 }
 
-#define MOVE(name, move, items, make) \
-    PG_FUNCTION_INFO_V1(name); \
-    Datum name(PG_FUNCTION_ARGS) \
-    { \
-        return move(fcinfo, (Row) {SIGNED_COUNT_MIN, items, make}); \
-    }
-
-MOVE(signed_count_min_enter_string_by_size, enter_row, STRINGS, count_by_size)
-MOVE(signed_count_min_enter_string_by_error, enter_row, STRINGS, count_by_error)
-MOVE(signed_count_min_enter_bigint_by_size, enter_row, BIGINTS, count_by_size)
-MOVE(signed_count_min_enter_bigint_by_error, enter_row, BIGINTS, count_by_error)
-MOVE(signed_count_min_leave_string, leave_row, STRINGS, NULL)
-MOVE(signed_count_min_leave_bigint, leave_row, BIGINTS, NULL)
+ROWS(signed_count_min_enter_string, enter_row, SIGNED_COUNT_MIN, STRINGS, 2, count)
+ROWS(signed_count_min_enter_weighted_string, enter_row, SIGNED_COUNT_MIN, STRINGS, 3, count)
+ROWS(signed_count_min_enter_bigint, enter_row, SIGNED_COUNT_MIN, BIGINTS, 2, count)
+ROWS(signed_count_min_enter_weighted_bigint, enter_row, SIGNED_COUNT_MIN, BIGINTS, 3, count)
+ROW(signed_count_min_leave_string, leave_row, SIGNED_COUNT_MIN, STRINGS, 2, NULL)
+ROW(signed_count_min_leave_weighted_string, leave_row, SIGNED_COUNT_MIN, STRINGS, 3, NULL)
+ROW(signed_count_min_leave_bigint, leave_row, SIGNED_COUNT_MIN, BIGINTS, 2, NULL)
+ROW(signed_count_min_leave_weighted_bigint, leave_row, SIGNED_COUNT_MIN, BIGINTS, 3, NULL)
 
 PG_FUNCTION_INFO_V1(signed_count_min_of_frame);
 
