@@ -39,14 +39,14 @@ typedef struct State {
     uint8 kind;
     uint8 items;
     bool has_sketch;
-    WeightType weights;  /* the type of the call's weights, if it has any */
-    Datum sizes[2];      /* the size arguments of the first row */
-    Frame frame;         /* of a frame that moves */
-    Batch *batch;        /* in unions, after the first sketch */
-    size_t unchecked;    /* the bytes of strings that came after the limit was checked */
+    WeightType weights; /* the type of the call's weights, if it has any */
+    Datum sizes[2];     /* the size arguments of the first row */
+    Frame frame;        /* of a frame that moves */
+    Batch *batch;       /* in unions, after the first sketch */
+    size_t unchecked;   /* the bytes of strings that came after the limit was checked */
     const void *image;
     size_t image_bytes;
-    uint64 seed;         /* of the image */
+    uint64 seed; /* of the image */
 } State;
 
 /* What a worker passes on: a state as a bytea, which may lie at any multiple of 4 bytes. */
@@ -71,7 +71,7 @@ static MemoryContext aggregate_context(FunctionCallInfo fcinfo)
 /* Returns the state in an argument, or NULL. */
 static inline State *state_argument(FunctionCallInfo fcinfo, int number)
 {
-    return PG_ARGISNULL(number) ? NULL : (State *) PG_GETARG_POINTER(number);
+    return PG_ARGISNULL(number) ? NULL : (State *)PG_GETARG_POINTER(number);
 }
 
 /* Returns a state, or null, as the result of the call. */
@@ -209,7 +209,7 @@ static inline int64 row_weight(FunctionCallInfo fcinfo, const State *state, Row 
 /* Returns the row's item if it is a string. */
 static inline ds_string row_string(FunctionCallInfo fcinfo, uint8 items)
 {
-    return items == STRINGS ? string_argument(fcinfo, 1) : (ds_string) {NULL, 0};
+    return items == STRINGS ? string_argument(fcinfo, 1) : (ds_string){NULL, 0};
 }
 
 /* Adds the row's item to the state's sketch. Returns the library's result. */
@@ -243,7 +243,7 @@ static pg_attribute_always_inline Datum add_row(FunctionCallInfo fcinfo, Row row
     PG_FUNCTION_INFO_V1(name); \
     Datum name(PG_FUNCTION_ARGS) \
     { \
-        return add(fcinfo, (Row) {__VA_ARGS__}); \
+        return add(fcinfo, (Row){__VA_ARGS__}); \
     }
 #define ROWS(name, add, kind, items, number, prefix) \
     ROW(name##_by_size, add, kind, items, number, prefix##_by_size) \
@@ -278,7 +278,7 @@ static void settle(State *state)
         struct varlena *image = write_image(state->kind, &state->handle, VARHDRSZ);
         for (int i = 0; i < 8; i++) VARDATA(image)[TOTAL + i] = state->frame.total >> 8 * i & 0xff;
         ds_free(&state->handle);
-        read_image(state->kind, &state->handle, VARDATA(image), VARSIZE(image) - VARHDRSZ, SIZE_MAX);
+        read_image(state->kind, &state->handle, VARDATA(image), VARSIZE(image) - VARHDRSZ, status.seed, false);
         pfree(image);
     }
     MemoryContextSwitchTo(before);
@@ -287,7 +287,7 @@ static void settle(State *state)
 /* Returns a weight without its sign. */
 static inline uint64 magnitude(int64 weight)
 {
-    return weight < 0 ? -(uint64) weight : (uint64) weight;
+    return weight < 0 ? -(uint64)weight : (uint64)weight;
 }
 
 /* Adds a row to the state, which is never null here, as PostgreSQL requires. */
@@ -329,7 +329,7 @@ static pg_attribute_always_inline Datum leave_row(FunctionCallInfo fcinfo, Row r
         state->has_sketch = false;
         PG_RETURN_POINTER(state);
     }
-    result = add_item(fcinfo, state, row, row_string(fcinfo, row.items), (int64) -(uint64) weight);
+    result = add_item(fcinfo, state, row, row_string(fcinfo, row.items), (int64) - (uint64)weight);
     if (result == DS_WEIGHT_OVERFLOW) PG_RETURN_NULL();
     check_result(result);
     PG_RETURN_POINTER(state);
@@ -437,13 +437,13 @@ PG_FUNCTION_INFO_V1(state_serial);
 /* Returns a worker's state as bytes. */
 Datum state_serial(PG_FUNCTION_ARGS)
 {
-    State *state = (State *) PG_GETARG_POINTER(0);
+    State *state = (State *)PG_GETARG_POINTER(0);
     Message *message;
     uint64 seed;
     aggregate_context(fcinfo);
     flush(state);
     seed = handle_seed(state->kind, &state->handle);
-    message = (Message *) write_image(state->kind, &state->handle, offsetof(Message, image));
+    message = (Message *)write_image(state->kind, &state->handle, offsetof(Message, image));
     message->kind = state->kind;
     message->items = state->items;
     memset(message->zero, 0, sizeof message->zero);
@@ -457,7 +457,7 @@ PG_FUNCTION_INFO_V1(state_deserial);
 /* Returns a state that keeps a worker's bytes, which outlive it. So no sketch is made in a context that ends before the group. */
 Datum state_deserial(PG_FUNCTION_ARGS)
 {
-    Message *message = (Message *) PG_DETOAST_DATUM(PG_GETARG_DATUM(0));
+    Message *message = (Message *)PG_DETOAST_DATUM(PG_GETARG_DATUM(0));
     State *state = palloc0(sizeof(State));
     aggregate_context(fcinfo);
     if (VARSIZE(message) < offsetof(Message, image)) elog(ERROR, "the state of a worker is too short");

@@ -75,8 +75,8 @@ static Datum status_of(FunctionCallInfo fcinfo, Kind kind)
     if (kind == COUNT_MIN) check_result(ds_count_min_u64_get_status(&kept->handle, &status));
     else check_result(ds_count_min_i64_get_status(&kept->handle, &status));
     values[0] = Int64GetDatum(as_bigint(status.total_weight));
-    values[1] = Int32GetDatum((int32) status.num_hashes);
-    values[2] = Int64GetDatum((int64) status.num_buckets);
+    values[1] = Int32GetDatum((int32)status.num_hashes);
+    values[2] = Int64GetDatum((int64)status.num_buckets);
     values[3] = seed_value(status.seed);
     values[4] = items_name(kept->sketch);
     return kept_row(fcinfo, values, nulls);

@@ -22,7 +22,7 @@ static bool has_transition(Oid aggregate, Oid function)
     Form_pg_aggregate form;
     bool has;
     if (!HeapTupleIsValid(tuple)) return false;
-    form = (Form_pg_aggregate) GETSTRUCT(tuple);
+    form = (Form_pg_aggregate)GETSTRUCT(tuple);
     has = form->aggtransfn == function || form->aggmtransfn == function;
     ReleaseSysCache(tuple);
     return has;
@@ -31,10 +31,10 @@ static bool has_transition(Oid aggregate, Oid function)
 /* Returns the arguments of the aggregate that calls over a window, or an empty list. */
 static List *window_arguments(FunctionCallInfo fcinfo)
 {
-    WindowAggState *window = (WindowAggState *) fcinfo->context;
+    WindowAggState *window = (WindowAggState *)fcinfo->context;
     ListCell *cell;
     foreach (cell, window->funcs) {
-        WindowFunc *call = ((WindowFuncExprState *) lfirst(cell))->wfunc;
+        WindowFunc *call = ((WindowFuncExprState *)lfirst(cell))->wfunc;
         if (call->winagg && has_transition(call->winfnoid, fcinfo->flinfo->fn_oid)) return call->args;
     }
     return NIL;
@@ -49,21 +49,20 @@ static Node *argument_of(FunctionCallInfo fcinfo, int number)
     List *arguments = NIL;
     if (aggregate != NULL) arguments = aggregate->args, number--;
     else if (fcinfo->context != NULL && IsA(fcinfo->context, WindowAggState)) arguments = window_arguments(fcinfo), number--;
-    else if (call != NULL && IsA(call, FuncExpr)) arguments = ((FuncExpr *) call)->args;
+    else if (call != NULL && IsA(call, FuncExpr)) arguments = ((FuncExpr *)call)->args;
     if (number < 0 || number >= list_length(arguments)) return NULL;
     argument = list_nth(arguments, number);
-    return IsA(argument, TargetEntry) ? (Node *) ((TargetEntry *) argument)->expr : argument;
+    return IsA(argument, TargetEntry) ? (Node *)((TargetEntry *)argument)->expr : argument;
 }
 
 /* Returns what a cast to text that the statement does not write is of, or null if there is none. */
 static Node *cast_argument(Node *node)
 {
-    if (IsA(node, RelabelType) && ((RelabelType *) node)->relabelformat != COERCE_EXPLICIT_CAST)
-        return (Node *) ((RelabelType *) node)->arg;
-    if (IsA(node, CoerceViaIO) && ((CoerceViaIO *) node)->coerceformat != COERCE_EXPLICIT_CAST)
-        return (Node *) ((CoerceViaIO *) node)->arg;
-    if (IsA(node, FuncExpr) && ((FuncExpr *) node)->funcformat == COERCE_IMPLICIT_CAST)
-        return linitial(((FuncExpr *) node)->args);
+    if (IsA(node, RelabelType) && ((RelabelType *)node)->relabelformat != COERCE_EXPLICIT_CAST)
+        return (Node *)((RelabelType *)node)->arg;
+    if (IsA(node, CoerceViaIO) && ((CoerceViaIO *)node)->coerceformat != COERCE_EXPLICIT_CAST)
+        return (Node *)((CoerceViaIO *)node)->arg;
+    if (IsA(node, FuncExpr) && ((FuncExpr *)node)->funcformat == COERCE_IMPLICIT_CAST) return linitial(((FuncExpr *)node)->args);
     return NULL;
 }
 
@@ -80,8 +79,7 @@ void check_equality(FunctionCallInfo fcinfo, int number)
     Oid collation = PG_GET_COLLATION();
     Node *argument = argument_of(fcinfo, number), *inner;
     if (OidIsValid(collation) && !get_collation_isdeterministic(collation))
-        ereport(ERROR, (errcode(ERRCODE_FEATURE_NOT_SUPPORTED),
-                        errmsg("sketches do not support nondeterministic collations"),
+        ereport(ERROR, (errcode(ERRCODE_FEATURE_NOT_SUPPORTED), errmsg("sketches do not support nondeterministic collations"),
                         errhint("Sketches compare strings by their bytes. Write an expression with equal bytes for equal items, as "
                                 "lower(item COLLATE \"C\").")));
     if (argument == NULL || exprType(argument) != TEXTOID) return;

@@ -65,7 +65,7 @@ static void raise_total(size_t bytes)
     ereport(ERROR, (errcode(ERRCODE_OUT_OF_MEMORY),
                     errmsg("the sketches of a statement would take %zu bytes, more than sketches_rattle.max_statement_memory, "
                            "which is %zu bytes",
-                           bytes, (size_t) max_statement_kilobytes * 1024)));
+                           bytes, (size_t)max_statement_kilobytes * 1024)));
 }
 
 void raise_result(int32_t result)
@@ -110,9 +110,9 @@ void raise_sizes(void)
 
 void raise_limit(size_t limit, uint64 bytes)
 {
-    const char *setting = limit == (size_t) max_user_bytes    ? "sketches_rattle.max_user_bytes"
-                          : limit == (size_t) max_image_bytes ? "sketches_rattle.max_image_bytes"
-                                                              : "sketches_rattle.max_frequent_bytes";
+    const char *setting = limit == (size_t)max_user_bytes    ? "sketches_rattle.max_user_bytes"
+                          : limit == (size_t)max_image_bytes ? "sketches_rattle.max_image_bytes"
+                                                             : "sketches_rattle.max_frequent_bytes";
     if (bytes == 0)
         ereport(ERROR, (errcode(ERRCODE_PROGRAM_LIMIT_EXCEEDED),
                         errmsg("a sketch takes more than %s, which is %zu bytes", setting, limit)));
@@ -131,5 +131,5 @@ void raise_stored(uint64 bytes)
 int64 as_bigint(uint64 number)
 {
     if (number > PG_INT64_MAX) ereport(ERROR, (errcode(ERRCODE_NUMERIC_VALUE_OUT_OF_RANGE), errmsg("bigint out of range")));
-    return (int64) number;
+    return (int64)number;
 }

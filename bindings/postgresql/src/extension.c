@@ -20,7 +20,8 @@ PGDLLEXPORT void _PG_init(void);
 
 /* Defines a setting of a number of bytes. A value that was set before the library was loaded is an error here if it is no number of
  * this range: PostgreSQL would only warn, and take the default. */
-static void define_bytes(const char *name, const char *description, const char *more, int *variable, int initial, GucContext context)
+static void define_bytes(const char *name, const char *description, const char *more, int *variable, int initial,
+                         GucContext context)
 {
     const char *given = GetConfigOption(name, true, false), *hint = NULL;
     int bytes = initial;
@@ -37,11 +38,12 @@ void _PG_init(void)
     define_bytes("sketches_rattle.max_image_bytes", "Sets the most bytes that a sketch may take.",
                  "Strings of a sketch are counted.", &max_image_bytes, 32 * 1024 * 1024, PGC_USERSET);
     define_bytes("sketches_rattle.max_frequent_bytes", "Sets the most bytes that a sketch of frequent items may take.",
-                 "Strings count at most 64 bytes each. Larger sketches take longer to cancel.", &max_frequent_bytes, 8 * 1024 * 1024,
-                 PGC_USERSET);
+                 "Strings count at most 64 bytes each. Larger sketches take longer to cancel.", &max_frequent_bytes,
+                 8 * 1024 * 1024, PGC_USERSET);
     define_bytes("sketches_rattle.max_user_bytes", "Sets the most bytes that a sketch may take, whatever a user sets.",
                  "Only superusers can change it.", &max_user_bytes, MAX_BYTES, PGC_SUSET);
-    DefineCustomIntVariable("sketches_rattle.max_statement_memory", "Sets the most memory that all sketches of a statement may take.",
+    DefineCustomIntVariable("sketches_rattle.max_statement_memory",
+                            "Sets the most memory that all sketches of a statement may take.",
                             "A parallel worker has as much again. Only superusers can change it.", &max_statement_kilobytes,
                             1024 * 1024, 1024, MAX_KILOBYTES, PGC_SUSET, GUC_UNIT_KB, NULL, NULL, NULL);
 #if PG_VERSION_NUM >= 150000

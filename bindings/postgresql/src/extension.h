@@ -79,13 +79,7 @@ int64 as_bigint(uint64 number);
 /* --- sketch.c --- */
 
 /* The kinds of sketches, a type each. The numbers are stored. */
-typedef enum Kind {
-    FREQUENT_STRINGS = 1,
-    FREQUENT_BIGINTS = 2,
-    COUNT_MIN = 3,
-    SIGNED_COUNT_MIN = 4,
-    BLOOM_FILTER = 5
-} Kind;
+typedef enum Kind { FREQUENT_STRINGS = 1, FREQUENT_BIGINTS = 2, COUNT_MIN = 3, SIGNED_COUNT_MIN = 4, BLOOM_FILTER = 5 } Kind;
 
 /* The types of a sketch's items, as bits. Filters and counts may have both, and have none before their first item. The numbers are
  * stored. */
@@ -93,8 +87,8 @@ enum { NO_ITEMS = 0, STRINGS = 1, BIGINTS = 2 };
 
 /* A stored sketch: a header and the image that all interfaces of the library read and write. */
 typedef struct Sketch {
-    int32 length;      /* PostgreSQL's own: of the whole */
-    uint8 format[4];   /* "SKR" and the version of this format */
+    int32 length;    /* PostgreSQL's own: of the whole */
+    uint8 format[4]; /* "SKR" and the version of this format */
     uint8 kind;
     uint8 items;
     uint8 zero[2];
@@ -109,7 +103,7 @@ typedef struct Sketch {
 static inline uint64 seed_of(const Sketch *sketch)
 {
     uint64 seed = 0;
-    for (int i = 0; i < 8; i++) seed |= (uint64) sketch->seed[i] << 8 * i;
+    for (int i = 0; i < 8; i++) seed |= (uint64)sketch->seed[i] << 8 * i;
     return seed;
 }
 
@@ -132,7 +126,7 @@ static inline size_t limit_of_all(void)
 static inline size_t limit_of(Kind kind)
 {
     bool is_frequent = kind == FREQUENT_STRINGS || kind == FREQUENT_BIGINTS;
-    return is_frequent ? Min(limit_of_all(), (size_t) max_frequent_bytes) : limit_of_all();
+    return is_frequent ? Min(limit_of_all(), (size_t)max_frequent_bytes) : limit_of_all();
 }
 
 /* Raises the error of a sketch that exceeds a limit. `bytes` is 0 if they are not known. */
@@ -188,7 +182,7 @@ static inline ds_string string_argument(FunctionCallInfo fcinfo, int number)
     ds_string string;
     if (unlikely(VARATT_IS_COMPRESSED(argument) || VARATT_IS_EXTERNAL(argument)))
         argument = PG_DETOAST_DATUM_PACKED(PointerGetDatum(argument));
-    string.bytes = (const uint8_t *) VARDATA_ANY(argument);
+    string.bytes = (const uint8_t *)VARDATA_ANY(argument);
     string.length = VARSIZE_ANY_EXHDR(argument);
     return likely(database_encoding == PG_UTF8) ? string : converted(string);
 }
@@ -204,11 +198,9 @@ Datum seed_value(uint64 seed);
 
 /* --- image_items.c --- */
 
-/* Returns the bytes that the library counts for the strings of an image, and that do not count for `max_frequent_bytes`. */
-size_t uncounted_bytes(const void *image, size_t length);
-
-/* Raises an error if a string of an image of frequent strings has a zero byte. */
-void check_zero_bytes(const void *image, size_t length);
+/* Raises an error if a string of an image of frequent strings has a zero byte. Returns the bytes of strings that the library counts,
+ * and that do not count for `max_frequent_bytes`. */
+size_t check_zero_bytes(const void *image, size_t length);
 
 /* Raises an error if an image can be of frequent strings alone, and not of bigints. */
 void check_bigints(const void *image, size_t length);

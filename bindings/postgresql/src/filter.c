@@ -40,7 +40,7 @@ Datum bloom_filter_status(PG_FUNCTION_ARGS)
     check_result(ds_bloom_get_status(&kept->handle, &status));
     values[0] = Int64GetDatum(as_bigint(status.bits_used));
     values[1] = Int64GetDatum(as_bigint(status.capacity));
-    values[2] = Int32GetDatum((int32) status.num_hashes);
+    values[2] = Int32GetDatum((int32)status.num_hashes);
     values[3] = seed_value(status.seed);
     values[4] = items_name(kept->sketch);
     return kept_row(fcinfo, values, nulls);

@@ -42,11 +42,10 @@ static Datum bounds_row(FunctionCallInfo fcinfo, Kind kind)
 /* Begins a result of many rows, which are stored before the call returns. */
 static Tuplestorestate *begin_rows(FunctionCallInfo fcinfo, TupleDesc *row)
 {
-    ReturnSetInfo *result = (ReturnSetInfo *) fcinfo->resultinfo;
+    ReturnSetInfo *result = (ReturnSetInfo *)fcinfo->resultinfo;
     MemoryContext before;
     if (result == NULL || !IsA(result, ReturnSetInfo) || (result->allowedModes & SFRM_Materialize) == 0)
-        ereport(ERROR, (errcode(ERRCODE_FEATURE_NOT_SUPPORTED),
-                        errmsg("the function returns rows in a place that takes none")));
+        ereport(ERROR, (errcode(ERRCODE_FEATURE_NOT_SUPPORTED), errmsg("the function returns rows in a place that takes none")));
     before = MemoryContextSwitchTo(result->econtext->ecxt_per_query_memory);
     if (get_call_result_type(fcinfo, NULL, row) != TYPEFUNC_COMPOSITE) elog(ERROR, "return type must be a row type");
     result->returnMode = SFRM_Materialize;
@@ -68,10 +67,10 @@ static bool no_false_negatives(FunctionCallInfo fcinfo)
 /* Returns a string of a sketch in the database's encoding. */
 static Datum string_value(const uint8_t *bytes, size_t length)
 {
-    char *own = pg_any_to_server((const char *) bytes, (int) length, PG_UTF8);
-    size_t own_length = own == (const char *) bytes ? length : strlen(own);
-    Datum value = PointerGetDatum(cstring_to_text_with_len(own, (int) own_length));
-    if (own != (const char *) bytes) pfree(own);
+    char *own = pg_any_to_server((const char *)bytes, (int)length, PG_UTF8);
+    size_t own_length = own == (const char *)bytes ? length : strlen(own);
+    Datum value = PointerGetDatum(cstring_to_text_with_len(own, (int)own_length));
+    if (own != (const char *)bytes) pfree(own);
     return value;
 }
 
@@ -138,16 +137,15 @@ static Datum rows_of(FunctionCallInfo fcinfo, Kind kind)
     for (size_t i = 0; i < rows.count; i++) {
         Datum values[4];
         CHECK_FOR_INTERRUPTS();
-        values[0] = kind == FREQUENT_STRINGS
-                        ? string_value(rows.bytes + rows.offsets[i], rows.offsets[i + 1] - rows.offsets[i])
-                        : Int64GetDatum(rows.bigints[i]);
+        values[0] = kind == FREQUENT_STRINGS ? string_value(rows.bytes + rows.offsets[i], rows.offsets[i + 1] - rows.offsets[i])
+                                             : Int64GetDatum(rows.bigints[i]);
         values[1] = Int64GetDatum(as_bigint(rows.bounds[i].estimate));
         values[2] = Int64GetDatum(as_bigint(rows.bounds[i].lower_bound));
         values[3] = Int64GetDatum(as_bigint(rows.bounds[i].upper_bound));
         tuplestore_putvalues(store, row, values, nulls);
         if (kind == FREQUENT_STRINGS) pfree(DatumGetPointer(values[0]));
     }
-    return (Datum) 0;
+    return (Datum)0;
 }
 
 /* --- Status. --- */

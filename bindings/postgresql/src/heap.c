@@ -51,7 +51,7 @@ static Account *account_of(MemoryContext context)
 /* Returns the account of a context if all sketches may take `more` bytes, or null. */
 static Account *account_with_room(MemoryContext context, size_t more)
 {
-    size_t limit = (size_t) max_statement_kilobytes * 1024;
+    size_t limit = (size_t)max_statement_kilobytes * 1024;
     if (!AllocHugeSizeIsValid(more)) return NULL;
     if (total <= limit && more <= limit - total) return account_of(context);
     refused = total + more;
@@ -61,7 +61,7 @@ static Account *account_with_room(MemoryContext context, size_t more)
 /* Counts a block that a context has now, and not the `before` bytes that it had. */
 static void count_block(Account *account, const void *block, size_t before)
 {
-    size_t bytes = GetMemoryChunkSpace((void *) block);
+    size_t bytes = GetMemoryChunkSpace((void *)block);
     account->bytes += bytes - before;
     total += bytes - before;
 }
@@ -71,7 +71,7 @@ static void *allocate(void *unused, size_t size)
 {
     Account *account = account_with_room(CurrentMemoryContext, size);
     void *block;
-    (void) unused;
+    (void)unused;
     if (account == NULL) return NULL;
     block = MemoryContextAllocExtended(account->context, size, MCXT_ALLOC_HUGE | MCXT_ALLOC_NO_OOM);
     if (block != NULL) count_block(account, block, 0);
@@ -84,10 +84,10 @@ static void *reallocate(void *unused, void *block, size_t kept, size_t size)
     size_t before = GetMemoryChunkSpace(block);
     Account *account = account_with_room(GetMemoryChunkContext(block), size > before ? size - before : 0);
     void *moved;
-    (void) unused;
+    (void)unused;
     if (account == NULL || !AllocHugeSizeIsValid(size)) return NULL;
 #if PG_VERSION_NUM >= 150000
-    (void) kept;
+    (void)kept;
     moved = repalloc_extended(block, size, MCXT_ALLOC_HUGE | MCXT_ALLOC_NO_OOM);
 #else
     moved = MemoryContextAllocExtended(account->context, size, MCXT_ALLOC_HUGE | MCXT_ALLOC_NO_OOM);
@@ -104,7 +104,7 @@ static void *reallocate(void *unused, void *block, size_t kept, size_t size)
 static void deallocate(void *unused, void *block)
 {
     Account *account = account_of(GetMemoryChunkContext(block));
-    (void) unused;
+    (void)unused;
     if (account != NULL) {
         account->bytes -= GetMemoryChunkSpace(block);
         total -= GetMemoryChunkSpace(block);

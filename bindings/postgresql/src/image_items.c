@@ -6,7 +6,7 @@
 static uint64 number_at(const uint8 *image, int bytes)
 {
     uint64 number = 0;
-    for (int i = 0; i < bytes; i++) number |= (uint64) image[i] << 8 * i;
+    for (int i = 0; i < bytes; i++) number |= (uint64)image[i] << 8 * i;
     return number;
 }
 
@@ -26,29 +26,22 @@ static bool string_at(const uint8 *image, size_t length, size_t at, ds_string *s
     return string->length <= length - at - 4;
 }
 
-/* The library counts all bytes after the weights. */
-size_t uncounted_bytes(const void *image, size_t length)
-{
-    uint64 count = count_of(image, length);
-    size_t bytes = count == 0 ? 0 : length - WEIGHTS - 8 * count;
-    return bytes - Min(bytes, COUNTED_BYTES * count);
-}
-
-void check_zero_bytes(const void *bytes, size_t length)
+size_t check_zero_bytes(const void *bytes, size_t length)
 {
     const uint8 *image = bytes;
     uint64 count = count_of(image, length);
-    size_t at = WEIGHTS + 8 * count;
+    size_t first = WEIGHTS + 8 * count, at = first;
     ds_string string;
     for (uint64 i = 0; i < count && string_at(image, length, at, &string); i++) {
         const uint8 *zero = string.length > 0 ? memchr(string.bytes, 0, string.length) : NULL;
         if (zero != NULL)
             ereport(ERROR, (errcode(ERRCODE_CHARACTER_NOT_IN_REPERTOIRE),
                             errmsg("string " UINT64_FORMAT " of the image has a zero byte, at byte %zu of the image", i + 1,
-                                   (size_t) (zero - image)),
+                                   (size_t)(zero - image)),
                             errdetail("Strings of PostgreSQL have none.")));
         at += 4 + string.length;
     }
+    return at - first - Min(at - first, COUNTED_BYTES * count);
 }
 
 void check_bigints(const void *bytes, size_t length)

@@ -16,10 +16,10 @@
 
 /* All but the last sketch are at most this many and take at most these bytes, or `work_mem` if it is more. */
 #define USUAL_SKETCHES 32
-#define USUAL_BYTES ((size_t) 16 * 1024 * 1024)
+#define USUAL_BYTES ((size_t)16 * 1024 * 1024)
 
 /* With those that came again they take at most these bytes, and at most a quarter of what a statement may take. */
-#define MAX_BYTES ((size_t) 256 * 1024 * 1024)
+#define MAX_BYTES ((size_t)256 * 1024 * 1024)
 
 /* If there is no more room, a sketch that comes again is the next to be forgotten, but for each 8th one. That one stays, so that a
  * later loop over other sketches gets its own kept. (The bimodal insertion of Qureshi et al. 2007.) */
@@ -48,7 +48,7 @@ typedef struct Place {
 #define SH_ELEMENT_TYPE Place
 #define SH_KEY_TYPE uint64
 #define SH_KEY hash
-#define SH_HASH_KEY(table, key) ((uint32) (key))
+#define SH_HASH_KEY(table, key) ((uint32)(key))
 #define SH_EQUAL(table, one, other) ((one) == (other))
 #define SH_SCOPE static inline
 #define SH_DECLARE
@@ -57,15 +57,15 @@ typedef struct Place {
 
 /* A function's sketches, of which no two keys have one hash. */
 typedef struct Cache {
-    Kept *last;           /* the one that was used last, or null if it was forgotten */
-    dlist_head by_use;    /* the next one to be forgotten comes last */
-    Kept *spare;          /* empty, or null */
+    Kept *last;        /* the one that was used last, or null if it was forgotten */
+    dlist_head by_use; /* the next one to be forgotten comes last */
+    Kept *spare;       /* empty, or null */
     places_hash *places;
     Forgotten *forgotten; /* by remainders of hashes, or null before the first */
     uint32 max_sketches;
     uint32 turn;
     size_t bytes;
-    size_t more_bytes;    /* beyond the usual, for sketches that came again */
+    size_t more_bytes; /* beyond the usual, for sketches that came again */
     TupleDesc row;
     MemoryContextCallback at_end;
 } Cache;
@@ -76,7 +76,7 @@ static size_t all_bytes;
 /* Takes off what a function kept, when its expression ends. */
 static void end_cache(void *argument)
 {
-    all_bytes -= ((Cache *) argument)->bytes;
+    all_bytes -= ((Cache *)argument)->bytes;
 }
 
 /* Returns the function's cache, which lives as long as the expression. */
@@ -106,13 +106,13 @@ static inline bool is_key(const Kept *kept, const void *datum, size_t bytes)
     if (kept->key_bytes != bytes) return false;
     if (bytes <= SHORT_KEY || kept->address != datum) return memcmp(kept->key, datum, bytes) == 0;
     return memcmp(kept->key, datum, ENDS) == 0 &&
-           memcmp((const char *) kept->key + bytes - ENDS, (const char *) datum + bytes - ENDS, ENDS) == 0;
+           memcmp((const char *)kept->key + bytes - ENDS, (const char *)datum + bytes - ENDS, ENDS) == 0;
 }
 
 /* Returns a hash of a key's first bytes, which have its checksum, and of its length. */
 static uint64 hash_of(const void *key, size_t bytes)
 {
-    return hash_bytes_extended(key, (int) Min(bytes, ENDS), bytes);
+    return hash_bytes_extended(key, (int)Min(bytes, ENDS), bytes);
 }
 
 /* Counts the bytes of a kept sketch. */
@@ -129,7 +129,7 @@ static void forget(FunctionCallInfo fcinfo, Cache *cache, Kept *kept)
 {
     if (cache->forgotten == NULL)
         cache->forgotten = MemoryContextAllocZero(fcinfo->flinfo->fn_mcxt, NUM_FORGOTTEN * sizeof(Forgotten));
-    cache->forgotten[kept->hash % NUM_FORGOTTEN] = (Forgotten) {kept->hash, kept->bytes};
+    cache->forgotten[kept->hash % NUM_FORGOTTEN] = (Forgotten){kept->hash, kept->bytes};
     if (cache->last == kept) cache->last = NULL;
     places_delete(cache->places, kept->hash);
     dlist_delete(&kept->by_use);
@@ -147,13 +147,13 @@ static void forget(FunctionCallInfo fcinfo, Cache *cache, Kept *kept)
 /* Returns the bytes that a function may keep without sketches that came again. */
 static size_t usual_bytes(void)
 {
-    return Max(USUAL_BYTES, (size_t) work_mem * 1024);
+    return Max(USUAL_BYTES, (size_t)work_mem * 1024);
 }
 
 /* Returns the bytes that all sketches of a statement may take. */
 static size_t statement_bytes(void)
 {
-    return (size_t) max_statement_kilobytes * 1024;
+    return (size_t)max_statement_kilobytes * 1024;
 }
 
 /* Returns the bytes that a function may keep now. */
@@ -189,10 +189,9 @@ static Kept *spare(FunctionCallInfo fcinfo, Cache *cache)
 {
     MemoryContext context = fcinfo->flinfo->fn_mcxt;
     if (cache->spare == NULL) cache->spare = MemoryContextAllocZero(context, sizeof(Kept));
-    if (cache->spare->context == NULL)
-        cache->spare->context = AllocSetContextCreate(context, "kept sketch", ALLOCSET_SMALL_SIZES);
+    if (cache->spare->context == NULL) cache->spare->context = AllocSetContextCreate(context, "kept sketch", ALLOCSET_SMALL_SIZES);
     MemoryContextReset(cache->spare->context);
-    *cache->spare = (Kept) {.context = cache->spare->context};
+    *cache->spare = (Kept){.context = cache->spare->context};
     return cache->spare;
 }
 
@@ -242,7 +241,7 @@ static Kept *look_up(FunctionCallInfo fcinfo, Cache *cache, struct varlena *datu
 Kept *kept_argument(FunctionCallInfo fcinfo, Kind kind)
 {
     Cache *cache = cache_of(fcinfo);
-    struct varlena *datum = (struct varlena *) PG_GETARG_POINTER(0);
+    struct varlena *datum = (struct varlena *)PG_GETARG_POINTER(0);
     size_t bytes;
     /* A pointer to memory is no key. */
     if (VARATT_IS_EXTERNAL(datum) && !VARATT_IS_EXTERNAL_ONDISK(datum)) datum = PG_DETOAST_DATUM(PointerGetDatum(datum));

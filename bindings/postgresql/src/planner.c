@@ -25,8 +25,8 @@
 /* Returns the item's expression without a cast that keeps it: to bigint from a smaller integer. */
 static Node *without_cast(Node *item)
 {
-    if (IsA(item, FuncExpr) && ((FuncExpr *) item)->funcresulttype == INT8OID && list_length(((FuncExpr *) item)->args) == 1) {
-        Node *inner = linitial(((FuncExpr *) item)->args);
+    if (IsA(item, FuncExpr) && ((FuncExpr *)item)->funcresulttype == INT8OID && list_length(((FuncExpr *)item)->args) == 1) {
+        Node *inner = linitial(((FuncExpr *)item)->args);
         Oid type = exprType(inner);
         if (type == INT4OID || type == INT2OID) return inner;
     }
@@ -36,11 +36,11 @@ static Node *without_cast(Node *item)
 /* Returns the share of a column's values that a filter contains, by its number of items and its false-positive rate. */
 static double modelled(ds_bloom_status status, VariableStatData *column)
 {
-    double fill = (double) status.bits_used / (double) status.capacity;
+    double fill = (double)status.bits_used / (double)status.capacity;
     double false_positives = pow(fill, status.num_hashes), items, distinct, share = DEFAULT_SHARE;
     bool is_default = true;
     if (status.bits_used == status.capacity) return 1;
-    items = -(double) status.capacity / status.num_hashes * log1p(-fill);
+    items = -(double)status.capacity / status.num_hashes * log1p(-fill);
     distinct = get_variable_numdistinct(column, &is_default);
     if (!is_default && distinct >= 1) share = Min(1, items / distinct);
     return share + (1 - share) * false_positives;
@@ -53,7 +53,7 @@ static double estimated(ds_bloom_status status, VariableStatData *column, FmgrIn
     int size = 0;
     double model = modelled(status, column);
     if (!HeapTupleIsValid(column->statsTuple)) return model;
-    nulls = ((Form_pg_statistic) GETSTRUCT(column->statsTuple))->stanullfrac;
+    nulls = ((Form_pg_statistic)GETSTRUCT(column->statsTuple))->stanullfrac;
     of_common = mcv_selectivity(column, contains, collation, filter, false, &common);
     others = histogram_selectivity(column, contains, collation, filter, false, MIN_HISTOGRAM, 1, &size);
     if (others < 0) others = model;
@@ -96,14 +96,14 @@ PG_FUNCTION_INFO_V1(bloom_filter_contains_support);
 /* Serves the planner's request for the selectivity of `contains`. */
 Datum bloom_filter_contains_support(PG_FUNCTION_ARGS)
 {
-    Node *node = (Node *) PG_GETARG_POINTER(0);
-    SupportRequestSelectivity *request = (SupportRequestSelectivity *) node;
+    Node *node = (Node *)PG_GETARG_POINTER(0);
+    SupportRequestSelectivity *request = (SupportRequestSelectivity *)node;
     Node *filter;
     if (!IsA(node, SupportRequestSelectivity) || list_length(request->args) != 2) PG_RETURN_POINTER(NULL);
     filter = estimate_expression_value(request->root, linitial(request->args));
     if (!IsA(filter, Const)) request->selectivity = DEFAULT_SHARE;
-    else if (((Const *) filter)->constisnull) request->selectivity = 0;
-    else request->selectivity = known_share(request, (Const *) filter);
+    else if (((Const *)filter)->constisnull) request->selectivity = 0;
+    else request->selectivity = known_share(request, (Const *)filter);
     request->selectivity = Min(1, Max(0, request->selectivity));
     PG_RETURN_POINTER(request);
 }

@@ -11,7 +11,7 @@ static uint64 inverse(double fraction, const char *message)
     number = 1 / fraction;
     nearest = rint(number);
     if (fabs(number - nearest) > nearest * 1e-9) nearest = ceil(number);
-    return nearest < 9.2e18 ? (uint64) nearest : PG_INT64_MAX;
+    return nearest < 9.2e18 ? (uint64)nearest : PG_INT64_MAX;
 }
 
 /* Returns 1 / `relative_error` as a whole number. */
@@ -25,7 +25,7 @@ static void make_frequent(Kind kind, ds_sketch *handle, int64 max_map_size)
 {
     size_t sample = ds_frequent_items_max_sample_size(max_map_size);
     if (max_map_size < 0) check_result(DS_MAP_SIZE_TOO_SMALL);
-    check_bytes(limit_of(kind), (uint64) max_map_size * (kind == FREQUENT_STRINGS ? BYTES_OF_SLOT : 28));
+    check_bytes(limit_of(kind), (uint64)max_map_size * (kind == FREQUENT_STRINGS ? BYTES_OF_SLOT : 28));
     check_result(kind == FREQUENT_STRINGS ? ds_frequent_items_string_new(handle, max_map_size, sample)
                                           : ds_frequent_items_i64_new(handle, max_map_size, sample));
 }
@@ -35,9 +35,9 @@ static void make_count(Kind kind, ds_sketch *handle, int64 num_hashes, int64 num
 {
     if (num_hashes < 0 || num_hashes > UINT8_MAX) check_result(DS_BAD_NUM_HASHES);
     if (num_buckets < 0) check_result(DS_BAD_NUM_BUCKETS);
-    check_bytes(limit_of(kind), (uint64) num_hashes * (num_buckets + 1) * 8);
-    check_result(kind == COUNT_MIN ? ds_count_min_u64_new(handle, (uint8_t) num_hashes, (uint32_t) num_buckets, DEFAULT_SEED)
-                                   : ds_count_min_i64_new(handle, (uint8_t) num_hashes, (uint32_t) num_buckets, DEFAULT_SEED));
+    check_bytes(limit_of(kind), (uint64)num_hashes * (num_buckets + 1) * 8);
+    check_result(kind == COUNT_MIN ? ds_count_min_u64_new(handle, (uint8_t)num_hashes, (uint32_t)num_buckets, DEFAULT_SEED)
+                                   : ds_count_min_i64_new(handle, (uint8_t)num_hashes, (uint32_t)num_buckets, DEFAULT_SEED));
 }
 
 /* Makes a filter. */
@@ -45,8 +45,8 @@ static void make_filter(Kind kind, ds_sketch *handle, int64 num_bits, int64 num_
 {
     if (num_bits < 0) check_result(DS_BAD_NUM_BITS);
     if (num_hashes < 0 || num_hashes > UINT16_MAX) check_result(DS_BAD_NUM_HASHES);
-    check_bytes(limit_of(kind), (uint64) num_bits / 8);
-    check_result(ds_bloom_new(handle, num_bits, (uint16_t) num_hashes, DEFAULT_SEED));
+    check_bytes(limit_of(kind), (uint64)num_bits / 8);
+    check_result(ds_bloom_new(handle, num_bits, (uint16_t)num_hashes, DEFAULT_SEED));
 }
 
 void frequent_by_size(FunctionCallInfo fcinfo, Kind kind, ds_sketch *handle, int number)

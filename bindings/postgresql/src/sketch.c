@@ -67,11 +67,9 @@ int32_t merge_all(Kind kind, ds_sketch *handle, ds_sketch *others, size_t count)
 
 void read_image(Kind kind, ds_sketch *handle, const void *image, size_t length, uint64 seed, bool has_limits)
 {
-    size_t uncounted = kind == FREQUENT_STRINGS ? uncounted_bytes(image, length) : 0;
+    size_t uncounted = kind == FREQUENT_STRINGS ? check_zero_bytes(image, length) : 0;
     size_t max_bytes = Min(limit_of_all(), limit_of(kind) + uncounted);
-    int32_t result;
-    if (kind == FREQUENT_STRINGS) check_zero_bytes(image, length);
-    result = deserialize(kind, handle, image, length, seed, has_limits ? max_bytes : SIZE_MAX);
+    int32_t result = deserialize(kind, handle, image, length, seed, has_limits ? max_bytes : SIZE_MAX);
     if (result == DS_TABLE_TOO_LARGE && has_limits) raise_limit(max_bytes == limit_of_all() ? max_bytes : limit_of(kind), 0);
     check_result(result);
     CHECK_FOR_INTERRUPTS();
@@ -84,7 +82,7 @@ struct varlena *write_image(Kind kind, ds_sketch *handle, size_t header)
     check_result(serialized_bytes(kind, handle, &bytes));
     if (bytes > MaxAllocSize - header) raise_stored(bytes);
     whole = palloc_extended(header + bytes, MCXT_ALLOC_HUGE);
-    check_result(serialize(kind, handle, (uint8_t *) whole + header, bytes, &bytes));
+    check_result(serialize(kind, handle, (uint8_t *)whole + header, bytes, &bytes));
     SET_VARSIZE(whole, header + bytes);
     CHECK_FOR_INTERRUPTS();
     return whole;
@@ -115,7 +113,7 @@ static pg_crc32c checksum_of(const Sketch *sketch)
 /* Writes the header of a sketch whose image is written. */
 static Sketch *finish(struct varlena *whole, Kind kind, uint8 items, uint64 seed)
 {
-    Sketch *sketch = (Sketch *) whole;
+    Sketch *sketch = (Sketch *)whole;
     pg_crc32c crc;
     memcpy(sketch->format, format, sizeof format);
     sketch->kind = kind;
@@ -162,7 +160,7 @@ static bool has_checksum(const Sketch *sketch)
 
 Sketch *detoast_sketch(Datum datum, Kind kind)
 {
-    Sketch *sketch = (Sketch *) PG_DETOAST_DATUM(datum);
+    Sketch *sketch = (Sketch *)PG_DETOAST_DATUM(datum);
     if (has_other_version(sketch))
         ereport(ERROR, (errcode(ERRCODE_DATA_CORRUPTED),
                         errmsg("a stored sketch is damaged, or has version %d of the stored form", sketch->format[3]),
@@ -230,7 +228,7 @@ static Sketch *import_image(Kind kind, uint8 items, const void *image, size_t le
     if (kind != FREQUENT_STRINGS && kind != FREQUENT_BIGINTS) return sketch;
     if (IMAGE_BYTES(sketch) != length) return sketch;
     memcpy(sketch->image, image, length);
-    return finish((struct varlena *) sketch, kind, items, 0);
+    return finish((struct varlena *)sketch, kind, items, 0);
 }
 
 /* Returns a stored sketch from the bytes after a sketch's length, which may be untrusted. `damaged` is the SQLSTATE of an error. */
@@ -262,8 +260,8 @@ static Datum type_in(FunctionCallInfo fcinfo, Kind kind)
     Sketch *sketch;
     if (text[length] != '\0') ereport(ERROR, (errcode(ERRCODE_INVALID_TEXT_REPRESENTATION), errmsg("the sketch is not base64")));
     for (size_t start = 0; start < length; start += LETTERS_IN_BLOCK) {
-        int part = pg_b64_decode(text + start, (int) Min(length - start, LETTERS_IN_BLOCK), (void *) (bytes + written),
-                                 (int) (length / 4 * 3 + 3 - written));
+        int part = pg_b64_decode(text + start, (int)Min(length - start, LETTERS_IN_BLOCK), (void *)(bytes + written),
+                                 (int)(length / 4 * 3 + 3 - written));
         if (part < 0) ereport(ERROR, (errcode(ERRCODE_INVALID_TEXT_REPRESENTATION), errmsg("the sketch is not base64")));
         written += part;
         CHECK_FOR_INTERRUPTS();
@@ -279,7 +277,7 @@ static Sketch *any_sketch(FunctionCallInfo fcinfo)
     struct varlena *sketch = PG_DETOAST_DATUM(PG_GETARG_DATUM(0));
     if (VARSIZE(sketch) < offsetof(Sketch, image))
         ereport(ERROR, (errcode(ERRCODE_DATA_CORRUPTED), errmsg("a stored sketch is damaged")));
-    return detoast_sketch(PointerGetDatum(sketch), ((Sketch *) sketch)->kind);
+    return detoast_sketch(PointerGetDatum(sketch), ((Sketch *)sketch)->kind);
 }
 
 PG_FUNCTION_INFO_V1(sketch_out);
@@ -294,8 +292,8 @@ Datum sketch_out(PG_FUNCTION_ARGS)
     if (capacity >= MaxAllocSize) raise_stored(length);
     text = palloc(capacity + 1);
     for (size_t start = 0; start < length; start += BYTES_IN_BLOCK) {
-        int part = pg_b64_encode((const void *) (bytes + start), (int) Min(length - start, BYTES_IN_BLOCK), text + written,
-                                 (int) (capacity - written));
+        int part = pg_b64_encode((const void *)(bytes + start), (int)Min(length - start, BYTES_IN_BLOCK), text + written,
+                                 (int)(capacity - written));
         if (part < 0) elog(ERROR, "base64 has no room");
         written += part;
         CHECK_FOR_INTERRUPTS();
@@ -307,7 +305,7 @@ Datum sketch_out(PG_FUNCTION_ARGS)
 /* Returns a sketch from its binary form, which is the bytes after its length. */
 static Datum type_recv(FunctionCallInfo fcinfo, Kind kind)
 {
-    StringInfo message = (StringInfo) PG_GETARG_POINTER(0);
+    StringInfo message = (StringInfo)PG_GETARG_POINTER(0);
     int length = message->len - message->cursor;
     PG_RETURN_POINTER(import(kind, pq_getmsgbytes(message, length), length, ERRCODE_INVALID_BINARY_REPRESENTATION));
 }
@@ -354,7 +352,7 @@ static uint64 seed_argument(FunctionCallInfo fcinfo, int number)
     uint64 seed;
     errno = 0;
     seed = strtou64(digits, &end, 10);
-    if (!isdigit((unsigned char) digits[0]) || *end != '\0' || errno != 0 ||
+    if (!isdigit((unsigned char)digits[0]) || *end != '\0' || errno != 0 ||
         !DatumGetBool(DirectFunctionCall2(numeric_eq, given, whole)))
         raise_argument("the seed must be a whole number from 0 to 18446744073709551615");
     pfree(digits);
@@ -404,9 +402,9 @@ ds_string converted(ds_string string)
 {
     char *utf8;
     database_encoding = GetDatabaseEncoding();
-    utf8 = pg_server_to_any((const char *) string.bytes, (int) string.length, PG_UTF8);
-    if (utf8 == (const char *) string.bytes) return string;
-    return (ds_string) {(const uint8_t *) utf8, strlen(utf8)};
+    utf8 = pg_server_to_any((const char *)string.bytes, (int)string.length, PG_UTF8);
+    if (utf8 == (const char *)string.bytes) return string;
+    return (ds_string){(const uint8_t *)utf8, strlen(utf8)};
 }
 
 void check_items(const Sketch *sketch, uint8 items)
@@ -492,7 +490,7 @@ PG_FUNCTION_INFO_V1(sketch_hash);
 Datum sketch_hash(PG_FUNCTION_ARGS)
 {
     Sketch *sketch = any_sketch(fcinfo);
-    Datum hash = hash_any(sketch->image, (int) IMAGE_BYTES(sketch));
+    Datum hash = hash_any(sketch->image, (int)IMAGE_BYTES(sketch));
     PG_FREE_IF_COPY(sketch, 0);
     return hash;
 }
@@ -503,7 +501,7 @@ PG_FUNCTION_INFO_V1(sketch_hash_extended);
 Datum sketch_hash_extended(PG_FUNCTION_ARGS)
 {
     Sketch *sketch = any_sketch(fcinfo);
-    Datum hash = hash_any_extended(sketch->image, (int) IMAGE_BYTES(sketch), (uint64) PG_GETARG_INT64(1));
+    Datum hash = hash_any_extended(sketch->image, (int)IMAGE_BYTES(sketch), (uint64)PG_GETARG_INT64(1));
     PG_FREE_IF_COPY(sketch, 0);
     return hash;
 }

@@ -21,7 +21,7 @@ typedef struct Mark {
 
 static void unmark(void *mark)
 {
-    VALGRIND_MAKE_MEM_DEFINED(((Mark *) mark)->block, ((Mark *) mark)->size + MARKED_BYTES);
+    VALGRIND_MAKE_MEM_DEFINED(((Mark *)mark)->block, ((Mark *)mark)->size + MARKED_BYTES);
 }
 
 /* Returns a block of the context, with a mark after it, or null if there is no memory and the flags allow that. */
@@ -57,6 +57,6 @@ static inline void *marked_realloc(void *block, Size kept, Size size, int flags)
 #define MemoryContextAllocZero(context, size) marked_alloc(context, size, MCXT_ALLOC_ZERO)
 #define MemoryContextAllocExtended(context, size, flags) marked_alloc(context, size, flags)
 #define repalloc_extended(block, size, flags) marked_realloc(block, kept, size, flags)
-#define pfree(block) ((void) (block))
+#define pfree(block) ((void)(block))
 
 #endif

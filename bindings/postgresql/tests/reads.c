@@ -64,17 +64,17 @@ int main(int argc, char **argv)
     checked(ds_bloom_deserialize(&filter, bytes, length, limit), "filter");
     for (int i = 0; i < 200; i++) {
         char item[32];
-        size_t size = (size_t) snprintf(item, sizeof item, "item-%d", i);
+        size_t size = (size_t)snprintf(item, sizeof item, "item-%d", i);
         uint64_t estimate = 0;
         int64_t with_sign = 0;
-        checked(ds_frequent_items_string_bounds(&strings, (uint8_t *) item, size, &of_string), "bounds");
+        checked(ds_frequent_items_string_bounds(&strings, (uint8_t *)item, size, &of_string), "bounds");
         checked(ds_frequent_items_i64_bounds(&bigints, i, &of_bigint), "bounds");
-        checked(ds_count_min_u64_estimate_string(&counts, (uint8_t *) item, size, &estimate), "estimate");
+        checked(ds_count_min_u64_estimate_string(&counts, (uint8_t *)item, size, &estimate), "estimate");
         checked(ds_count_min_i64_estimate_i64(&signed_counts, i, &with_sign), "estimate");
-        printf("%d %llu %llu %llu %llu %llu %lld %d\n", i, (unsigned long long) of_string.lower_bound,
-               (unsigned long long) of_string.upper_bound, (unsigned long long) of_bigint.lower_bound,
-               (unsigned long long) of_bigint.upper_bound, (unsigned long long) estimate, (long long) with_sign,
-               (int) checked(ds_bloom_contains_i64(&filter, i), "contains"));
+        printf("%d %llu %llu %llu %llu %llu %lld %d\n", i, (unsigned long long)of_string.lower_bound,
+               (unsigned long long)of_string.upper_bound, (unsigned long long)of_bigint.lower_bound,
+               (unsigned long long)of_bigint.upper_bound, (unsigned long long)estimate, (long long)with_sign,
+               (int)checked(ds_bloom_contains_i64(&filter, i), "contains"));
     }
     checked(ds_frequent_items_string_new(&strings, 64, ds_frequent_items_max_sample_size(64)), "new");
     checked(ds_frequent_items_i64_new(&bigints, 64, ds_frequent_items_max_sample_size(64)), "new");
@@ -83,10 +83,10 @@ int main(int argc, char **argv)
     checked(ds_bloom_new(&filter, 4096, 5, 9001), "new");
     for (int i = 0; i < 100; i++) {
         char item[32];
-        size_t size = (size_t) snprintf(item, sizeof item, "item-%d", i);
-        checked(ds_frequent_items_string_update(&strings, (uint8_t *) item, size, (uint64_t) i + 1), "update");
-        checked(ds_frequent_items_i64_update(&bigints, i, (uint64_t) i + 1), "update");
-        checked(ds_count_min_u64_update_string(&counts, (uint8_t *) item, size, (uint64_t) i + 1), "update");
+        size_t size = (size_t)snprintf(item, sizeof item, "item-%d", i);
+        checked(ds_frequent_items_string_update(&strings, (uint8_t *)item, size, (uint64_t)i + 1), "update");
+        checked(ds_frequent_items_i64_update(&bigints, i, (uint64_t)i + 1), "update");
+        checked(ds_count_min_u64_update_string(&counts, (uint8_t *)item, size, (uint64_t)i + 1), "update");
         checked(ds_count_min_i64_update_i64(&signed_counts, i, i + 1), "update");
         checked(ds_bloom_insert_i64(&filter, i), "insert");
     }
