@@ -199,7 +199,7 @@ def seeds(tests):
                                         ("of a group", f"SELECT {name}_union(sketch) AS s FROM seeded, generate_series(1, 9)", 45)]:
                 cursor.execute(f"SELECT (sketch_status(s)).seed, sketch_estimate(s, 'ab') FROM ({query}) AS t")
                 tests.check(f"{name}, seed {seed}: a union {what}", cursor.fetchone() == (seed, wanted))
-            other = f"(SELECT {name}_agg('ab', 1, 3, 97))"
+            other = f"(SELECT {name}_agg_sized('ab', 1, 3, 97))"
             for query in [f"SELECT sketch | {other} FROM seeded",
                           f"SELECT {name}_union(s) FROM (SELECT sketch FROM seeded UNION ALL {other}) AS t(s)"]:
                 code = code_of(cursor, query)

@@ -63,7 +63,7 @@ def kept_in_part(tests):
     """Sketches that take more than there is room for: a part of them is kept, and the others are read again at each row."""
     with tests.main.session(max_parallel_workers_per_gather=0) as session, session.cursor() as cursor:
         cursor.execute("CREATE TEMP TABLE loop (sketch count_min); ALTER TABLE loop ALTER sketch SET STORAGE external;"
-                       "INSERT INTO loop SELECT count_min_agg(j, 1, 5, 100000 + j) FROM generate_series(1, 6) AS j GROUP BY j;"
+                       "INSERT INTO loop SELECT count_min_agg_sized(j, 1, 5, 100000 + j) FROM generate_series(1, 6) AS j GROUP BY j;"
                        "SET sketches_rattle.max_statement_memory = '256MB'")
         calls = ", ".join(f"sum(sketch_estimate(sketch, k + {number}))" for number in range(20))
         error = error_of(cursor, f"SELECT {calls} FROM generate_series(1, 3) AS k, loop")
@@ -71,7 +71,7 @@ def kept_in_part(tests):
         row = cursor.fetchone() if error is None else ()
         tests.check("each call finds its keys", list(row) == [max(0, min(3, 6 - number)) for number in range(20)], row)
         # Twelve filters of 2 MB each, of which 16 MB have room for seven.
-        cursor.execute("DROP TABLE loop; CREATE TEMP TABLE loop AS SELECT j, bloom_filter_agg(j, 16000000, 5) AS filter "
+        cursor.execute("DROP TABLE loop; CREATE TEMP TABLE loop AS SELECT j, bloom_filter_agg_sized(j, 16000000, 5) AS filter "
                        "FROM generate_series(1, 12) AS j GROUP BY j; SET sketches_rattle.max_statement_memory = '64MB'")
         asked = "SELECT sum((SELECT count(*) FROM loop WHERE sketch_contains(filter, k))) FROM generate_series(1, {}) AS k"
         blocks = []
