@@ -81,6 +81,17 @@ def kept_in_part(tests):
             tests.check(f"{keys} keys are found", cursor.fetchone() == (min(keys, 12),))
             blocks.append(toast_blocks(cursor) - before)
         tests.check("a third of the reads of filters or more are spared", 12 * 200 < blocks[0] and blocks[1] < 30 * blocks[0] * 2 / 3, blocks)
+        # With room for all, each is read at most twice, in each statement anew: what a statement keeps is not counted after its end.
+        cursor.execute("SET sketches_rattle.max_statement_memory = '128MB'")
+        for number in range(5):
+            before = toast_blocks(cursor)
+            cursor.execute(asked.format(30))
+            read = toast_blocks(cursor) - before
+            tests.check(f"statement {number} has room for all filters", blocks[0] < read <= 2 * blocks[0], (read, blocks))
+            cursor.execute("SET statement_timeout = '100ms'")
+            code = code_of(cursor, asked.format(10**7))
+            tests.check("a cancel of a loop", code == "57014", code)
+            cursor.execute("RESET statement_timeout")
 
 
 def planned(tests):
