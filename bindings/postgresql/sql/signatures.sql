@@ -85,9 +85,20 @@ SELECT frequent_strings_agg('a', 1.5);
 SELECT frequent_strings_agg('a', true);
 \set VERBOSITY default
 
--- Items of other types, by a text or a number that is equal for equal items.
-SELECT sketch_contains(bloom_filter_agg(u::text, 10, 0.01), 'F0EEBC99-9C0B-4EF8-BB6D-6BB9BD380A11'::uuid::text) AS uuid,
+-- Items of other types by their own bytes. Equal items have equal bytes.
+CREATE TEMP TABLE others AS SELECT * FROM (VALUES ('f0eebc99-9c0b-4ef8-bb6d-6bb9bd380a11'::uuid, '\x00ff'::bytea, 1.5, date '2026-02-03',
+    timestamp '2026-02-03 04:05:06.000007', timestamptz '2026-02-03 04:05:06+01', '-0'::double precision, 4294967295::oid))
+    AS v(u, b, n, d, t, z, x, o);
+SELECT sketch_contains(bloom_filter_agg(encode(uuid_send(u), 'hex'), 10, 0.01),
+        encode(uuid_send('F0EEBC99-9C0B-4EF8-BB6D-6BB9BD380A11'), 'hex')) AS uuid,
     sketch_contains(bloom_filter_agg(encode(b, 'hex'), 10, 0.01), encode('\x00ff', 'hex')) AS bytea,
     sketch_contains(bloom_filter_agg(trim_scale(n)::text, 10, 0.01), trim_scale(1.50)::text) AS numeric,
-    sketch_contains(bloom_filter_agg(d - date '2000-01-01', 10, 0.01), date '2026-02-03' - date '2000-01-01') AS date
-FROM (VALUES ('f0eebc99-9c0b-4ef8-bb6d-6bb9bd380a11'::uuid, '\x00ff'::bytea, 1.5, date '2026-02-03')) AS v(u, b, n, d);
+    sketch_contains(bloom_filter_agg(encode(date_send(d), 'hex'), 10, 0.01), encode(date_send('03 Feb 2026'), 'hex')) AS date
+FROM others;
+SELECT sketch_contains(bloom_filter_agg(encode(timestamp_send(t), 'hex'), 10, 0.01),
+        encode(timestamp_send('2026-02-03 04:05:06.0000070'), 'hex')) AS timestamp,
+    sketch_contains(bloom_filter_agg(encode(timestamptz_send(z), 'hex'), 10, 0.01),
+        encode(timestamptz_send('2026-02-03 03:05:06+00'), 'hex')) AS timestamptz,
+    sketch_contains(bloom_filter_agg(encode(float8send(x + 0), 'hex'), 10, 0.01), encode(float8send(0.0 + 0), 'hex')) AS double,
+    sketch_contains(bloom_filter_agg(o::bigint, 10, 0.01), 4294967295) AS oid
+FROM others;
