@@ -213,7 +213,7 @@ PyDoc_STRVAR(deserialize_doc,
 "say which, and an image of other items may be read as garbage. An image has no sample size: without\n"
 "`sample_size` it is the largest. It has no key either: without `key` the sketch gets a drawn one.\n\n"
 "Raise 'TableTooLarge' if the table, with the bytes of all strings, would take more than `max_bytes`; None is no limit.\n"
-"Bytes are read in place, and any other buffer is copied first, up to the limit.\n\n"
+"Bytes are read in place, and any other buffer is copied first, up to the limit and the end of the string there.\n\n"
 ">>> import datasketches_rattle as ds\n"
 ">>> heavy = ds.FrequentItemsSketch(64)\n"
 ">>> heavy.update(7, 30)\n"
@@ -232,6 +232,7 @@ static PyObject *frequent_read(PyObject *type, PyObject *args, PyObject *keyword
     if (!PyArg_ParseTupleAndKeywords(args, keywords, format, names, &image.view, &item, &limit_object, &sample_object, &key_object))
         return NULL;
     const Kind *kind = kind_named(item);
+    image.has_strings = kind != NULL && kind->with_texts;
     bool ready = kind != NULL && limit_of(limit_object, &limit) &&
                  (sample_object == Py_None || natural_of(sample_object, "sample_size", &sample)) && key_or_none(key_object, &key) &&
                  image_take(&image, limit);

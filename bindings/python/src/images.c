@@ -14,13 +14,33 @@ bool is_constant(const Py_buffer *view)
     return owner != NULL && PyBytes_CheckExact(owner);
 }
 
+/* Returns the end of the string of an image that begins before `cut` and ends after it. Returns `cut` if there is none, or if it is not
+ * all there. */
+static size_t end_of_string(const uint8_t *bytes, size_t length, size_t cut)
+{
+    uint32_t count, string;
+    memcpy(&count, bytes + 8, sizeof count);
+    if ((bytes[0] & 63) != 4 || 8 * (uint64_t)count > length - LONGEST_PREAMBLE) return cut;
+    size_t at = LONGEST_PREAMBLE + 8 * (size_t)count;
+    for (uint32_t i = 0; i < count && at < cut; i++) {
+        if (length - at < sizeof string) return cut;
+        memcpy(&string, bytes + at, sizeof string);
+        if (string > length - at - sizeof string) return cut;
+        at += sizeof string + string;
+    }
+    return at > cut ? at : cut;
+}
+
 bool image_take(Image *image, size_t limit)
 {
     image->bytes = image->view.buf;
     image->length = (size_t)image->view.len;
     if (is_constant(&image->view)) return true;
     image->is_cut = image->length > LONGEST_PREAMBLE && image->length - LONGEST_PREAMBLE > limit;
-    if (image->is_cut) image->length = limit + LONGEST_PREAMBLE;
+    if (image->is_cut) {
+        size_t cut = limit + LONGEST_PREAMBLE;
+        image->length = image->has_strings ? end_of_string(image->bytes, image->length, cut) : cut;
+    }
     image->copy = PyMem_RawMalloc(image->length);
     if (image->copy == NULL) {
         PyErr_NoMemory();
@@ -47,10 +67,14 @@ static uint64_t checked_bytes(const uint8_t *header)
     }
 }
 
-/* A part that ends too early is of an image that does so too, or that exceeds the limit. */
+/* A part that ends too early is of an image that does so too, or that exceeds the limit. Strings that end too early do so in the whole
+ * image, since the string at the end of the part is there. */
 int32_t image_answer(const Image *image, int32_t answer)
 {
-    if (!image->is_cut || answer != DS_INSUFFICIENT_DATA || checked_bytes(image->bytes) > (uint64_t)image->view.len) return answer;
+    uint64_t checked;
+    if (!image->is_cut || answer != DS_INSUFFICIENT_DATA) return answer;
+    checked = checked_bytes(image->bytes);
+    if (checked > (uint64_t)image->view.len || (image->has_strings && checked <= image->length)) return answer;
     return DS_TABLE_TOO_LARGE;
 }
 

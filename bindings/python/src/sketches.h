@@ -126,7 +126,8 @@ typedef struct {
     const uint8_t *bytes;
     size_t length;
     uint8_t *copy;
-    bool is_cut;
+    bool has_strings; /* whether it is read as one of frequent strings */
+    bool is_cut;      /* whether the copy is of a part: as far as a limit may accept, and to the end of the string there */
     Py_buffer view;
 } Image;
 

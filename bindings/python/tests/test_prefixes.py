@@ -124,16 +124,13 @@ class Prefixes(unittest.TestCase):
 
     def test_limit_of_strings(self):
         """A limit counts the strings up to the first that cannot be read."""
-        image = bytes(frequent(["ab", "cde"], item=str))
-        for place, fault in ((len(image) - 1, "InvalidUtf8"), (len(image) - 8, "InsufficientData")):
+        image = bytes(frequent(["abc", "def"], item=str))
+        # Each string takes seven bytes with its length. The second one gets a wrong last byte, or a length beyond the end.
+        for damaged, fault in ((image[:-1] + b"\xff", "InvalidUtf8"), (image[:-7] + b"\xff" * 4 + image[-3:], "InsufficientData")):
             for after in (b"", 50 * image):
-                damaged = bytearray(image + after)
-                damaged[place] = 255
-                if fault == "InsufficientData":
-                    damaged[place:place + 4] = b"\xff\xff\xff\xff"
-                for read in STRINGS[:2]:
-                    self.assertEqual(outcome(read, bytes(damaged), max_bytes=8 * 44 + 7), ("InvalidData", fault))
-                    self.assertEqual(outcome(read, bytes(damaged), max_bytes=8 * 44 + 5)[1], "TableTooLarge")
+                for read in STRINGS:
+                    self.assertEqual(outcome(read, damaged + after, max_bytes=8 * 44 + 7), ("InvalidData", fault))
+                    self.assertEqual(outcome(read, damaged + after, max_bytes=8 * 44 + 6)[1], "TableTooLarge")
 
     def test_arguments(self):
         load = ds.CountMinSketch(3, 7, seed=5)
