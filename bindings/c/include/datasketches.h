@@ -20,9 +20,8 @@
  *     DS_INVALID_UTF8, DS_BAD_FRACTION.
  *  3. Errors of handles: DS_NO_SKETCH if the handle has no sketch, DS_WRONG_KIND if its sketch is of a kind without this call,
  *     or is shared and the call changes it; of several handles, the first one's that has such an error, in the order of arguments
- *     and of an array. All calls return these but `ds_free`, those whose names end in `_new`, `_deserialize`,
- *     `_deserialize_prefix` or `_with_key`, those on images in place, and the calls for sizes at the end. `ds_clone`,
- *     `ds_memory_bytes`, `ds_freeze`, `ds_share` and `ds_thaw` take any kind.
+ *     and of an array. All calls return these but `ds_free`, those whose names end in `_new`, `ds_deserialize`,
+ *     `ds_deserialize_prefix`, those on images in place, and the calls for sizes at the end.
  *  4. The errors in the call's comment, in their order there. DS_NO_MEMORY comes when an allocation fails, which may be earlier.
  *     DS_NO_ROOM of `serialize` and `rows` comes last.
  *
@@ -149,18 +148,112 @@ enum { DS_SKETCH_ERRORS(DS_AS_CONSTANT) DS_MIN_RESULT = -44 };
 const char *ds_result_name(int32_t result);
 const char *ds_result_message(int32_t result);
 
-/* Frees the handle's sketch, of any kind, if any. The handle is then DS_NONE, and may be freed again. `ds_free(NULL)` does
- * nothing. */
+/* --- Sketches of any kind. The calls of this section take each kind, unless they say otherwise. --- */
+
+/* The kinds of sketches. */
+enum {
+    DS_BLOOM = 1,                /* a Bloom filter */
+    DS_COUNT_MIN_U64 = 2,        /* a Count-Min sketch with weights in uint64_t */
+    DS_COUNT_MIN_I64 = 3,        /* a Count-Min sketch with weights in int64_t */
+    DS_FREQUENT_ITEMS_U64 = 4,   /* frequent items that are uint64_t */
+    DS_FREQUENT_ITEMS_I64 = 5,   /* frequent items that are int64_t */
+    DS_FREQUENT_ITEMS_STRING = 6 /* frequent items that are strings */
+};
+
+/* Frees the handle's sketch, if any. The handle is then DS_NONE, and may be freed again. `ds_free(NULL)` does nothing. */
 void ds_free(ds_sketch *handle);
 
-/* Puts a copy of the other handle's sketch, of any kind, into this handle. The other handle keeps its own. The copy of a shared
- * sketch is not shared. Returns DS_NO_SKETCH if the other handle has none, and DS_NO_MEMORY if memory runs out. */
+/* Puts a copy of the other handle's sketch into this handle. The other handle keeps its own. The copy of a shared sketch is not
+ * shared. Returns DS_NO_SKETCH if the other handle has none, and DS_NO_MEMORY if memory runs out. */
 int32_t ds_clone(ds_sketch *handle, ds_sketch *other);
 
-/* Writes how many bytes the handle's sketch takes, of any kind, by a formula. A filter takes 8 for each 64 bits. A Count-Min
- * sketch takes 8 for each cell and each row. A frequent-items sketch takes 28 for each slot of a table of numbers, or 44 for
- * each slot of a table of strings and the bytes of the strings. Returns DS_NO_SKETCH if the handle has none. */
+/* Removes all items and weights. Sizes, seed and key stay as they were. Only a Count-Min sketch allocates, a new one, and returns
+ * DS_NO_MEMORY if memory runs out. */
+int32_t ds_reset(ds_sketch *handle);
+
+/* Merges the other handle's sketch, of the same kind, into this one, which then stands for both histories. The other sketch stays
+ * as it was. A filter gets the other's positions, as a union. A Count-Min sketch gets the other's cells and total. A sketch of
+ * frequent items keeps its own sizes. Returns DS_MISMATCH if two filters differ in bits, hashes or seed, or two Count-Min sketches
+ * in hashes, buckets or seed. Returns DS_WEIGHT_OVERFLOW if the totals together exceed 2^64 - 1, or 2^63 - 1 for weights in int64_t.
+ * Returns DS_NO_MEMORY. */
+int32_t ds_merge(ds_sketch *handle, ds_sketch *other);
+
+/* Merges the sketches of all other handles, of an array, into this one, in order and in one call. All are of the same kind. A
+ * sketch of frequent items is copied once, where a merge for each copies it each time. The others stay as they were. Returns
+ * DS_NO_MEMORY, for a list of two words a sketch, and then the errors of `ds_merge`: DS_MISMATCH if one differs, and
+ * DS_WEIGHT_OVERFLOW if all totals together exceed the limit. */
+int32_t ds_merge_all(ds_sketch *handle, ds_sketch *others, size_t count);
+
+/* Returns DS_YES if both sketches, of one kind, are equal, and DS_NO otherwise. Both stay as they were. Filters are equal if they
+ * have the same bits, hashes, seed and positions. Count-Min sketches are equal if they have the same hashes, buckets, seed, total
+ * and cells. Sketches of frequent items are not compared: DS_WRONG_KIND. */
+int32_t ds_equal(ds_sketch *handle, ds_sketch *other);
+
+/* Writes how many bytes the handle's sketch takes, by a formula. A filter takes 8 for each 64 bits. A Count-Min sketch takes 8
+ * for each cell and each row. A frequent-items sketch takes 28 for each slot of a table of numbers, or 44 for each slot of a table
+ * of strings and the bytes of the strings. Returns DS_NO_SKETCH if the handle has none. */
 int32_t ds_memory_bytes(ds_sketch *handle, size_t *bytes);
+
+/* A sketch's numbers. Those of other kinds are 0. */
+typedef struct ds_status {
+    uint64_t seed;                 /* filters and Count-Min */
+    uint64_t num_bits;             /* filters: all bits */
+    uint64_t bits_used;            /* filters: set bits */
+    uint64_t total_weight;         /* Count-Min and frequent items */
+    uint64_t maximum_error;        /* frequent items: the upper bound less the lower bound, of each item */
+    uint64_t num_active_items;     /* frequent items: tracked items, each with a counter */
+    uint64_t maximum_map_capacity; /* frequent items: the most counters, at `max_map_size` */
+    uint64_t current_map_capacity; /* frequent items: the most counters before the table grows */
+    uint64_t max_map_size;         /* frequent items: the most slots of the table */
+    uint64_t sample_size;          /* frequent items: how many counters a purge samples */
+    uint32_t num_buckets;          /* Count-Min: cells of a row */
+    uint16_t num_hashes;           /* filters: positions of an item. Count-Min: rows */
+    uint16_t kind;                 /* of the sketch: DS_BLOOM .. */
+} ds_status;
+
+/* Writes the sketch's numbers. */
+int32_t ds_get_status(ds_sketch *handle, ds_status *status);
+
+/* Writes the length in bytes of the sketch's image. A filter's is 24 if no bit is set, and otherwise 32 and 8 for each word of 64
+ * bits. A Count-Min sketch's is 16 if the total is 0, and otherwise 24 and 8 for each cell. That of frequent items is 8 if the
+ * total is 0, and otherwise 32, and for each counter 16 for a number, or 12 and the bytes of a string. It takes one pass over
+ * a table of frequent strings, and returns DS_ITEM_TOO_LONG if a string has 2^32 bytes or more. Does not allocate. */
+int32_t ds_serialized_bytes(ds_sketch *handle, size_t *bytes);
+
+/* Writes the sketch's image to the front of `out`, and the image's length in bytes to `written`. The rest of `out` stays as it
+ * was. The image of a Count-Min sketch is without its seed, and that of frequent items without its sample size and its key. Returns
+ * the error of the call above, or DS_NO_ROOM if the image is longer than `capacity`: then `written` is its length. Does not
+ * allocate. */
+int32_t ds_serialize(ds_sketch *handle, uint8_t *out, size_t capacity, size_t *written);
+
+/* A key of two words, under which the table of a sketch of frequent items hashes. */
+typedef struct ds_key {
+    uint64_t k0;
+    uint64_t k1;
+} ds_key;
+
+/* The seed of filters and Count-Min sketches unless another is chosen. */
+#define DS_DEFAULT_SEED 9001
+
+/* What an image does not say. */
+typedef struct ds_image_options {
+    size_t max_bytes;  /* how many bytes the sketch may take, by the formula of `ds_memory_bytes` */
+    uint64_t seed;     /* of a Count-Min sketch. Other kinds do without */
+    const ds_key *key; /* of a sketch of frequent items, or null: then one is drawn. Other kinds do without */
+} ds_image_options;
+
+/* Reads a sketch of a kind from its image and puts it into the handle. A sketch of frequent items gets the largest sample size.
+ *
+ * Returns DS_WRONG_KIND if `kind` is no kind. Returns DS_NO_RANDOM if a key is drawn and the system has no random bytes. Returns
+ * the error of the image's first failed check. Returns DS_TABLE_TOO_LARGE if the sketch takes more than `max_bytes`, and
+ * DS_NO_MEMORY. Before both come the checks of the image's length and fields, after them those of the number of set bits, of the
+ * total and the cells, or of the weights and the items. */
+int32_t ds_deserialize(ds_sketch *handle, int32_t kind, const uint8_t *image, size_t length, const ds_image_options *options);
+
+/* Reads a sketch from the image at the front of `image` and puts it into the handle, as `ds_deserialize` does. Writes the number of
+ * bytes that the image takes to `used`. The bytes after it are ignored, so images can stand one after another. */
+int32_t ds_deserialize_prefix(ds_sketch *handle, int32_t kind, const uint8_t *image, size_t length,
+                              const ds_image_options *options, size_t *used);
 
 /* --- Sharing: several handles of one sketch, as for threads that read it at once. Calls that read a sketch take a shared one:
  * queries, statuses, images, rows, clones and comparisons, and merges as one of the others. They need no lock. Calls that change a
@@ -198,16 +291,8 @@ int32_t ds_set_allocator(const ds_allocator *allocator);
 /* --- Bloom filters: sets of items. An item that was inserted is contained, unless a later intersection, difference or reset
  * removed some of its positions. An item that was not inserted may be contained too: a false positive. --- */
 
-/* A filter's numbers. */
-typedef struct ds_bloom_status {
-    uint64_t bits_used;  /* set bits */
-    uint64_t capacity;   /* all bits */
-    uint64_t seed;
-    uint16_t num_hashes; /* positions of an item */
-} ds_bloom_status;
-
 /* Puts an empty filter into the handle, with at least `num_bits` bits, from 1 to 137438953152, rounded up to words of 64, and
- * with 1 to 32767 hashes. The library's default seed is 9001. Returns DS_BAD_NUM_BITS, DS_BAD_NUM_HASHES, or DS_NO_MEMORY. */
+ * with 1 to 32767 hashes. Returns DS_BAD_NUM_BITS, DS_BAD_NUM_HASHES, or DS_NO_MEMORY. */
 int32_t ds_bloom_new(ds_sketch *handle, uint64_t num_bits, uint16_t num_hashes, uint64_t seed);
 
 /* Inserts an item. */
@@ -259,45 +344,14 @@ int32_t ds_bloom_contains_and_insert_all_string(ds_sketch *handle, const uint8_t
 int32_t ds_bloom_contains_and_insert_all_string_pairs(ds_sketch *handle, const ds_string *strings, size_t count, bool *results,
                                                       size_t num_results);
 
-/* Adds the other filter's positions, keeps those that both have, or removes the other's. The other filter stays as it was.
+/* Keeps the positions that both filters have, or removes the other's. The other filter stays as it was. `ds_merge` unites.
  * Returns DS_MISMATCH if bits, hashes or seeds differ. */
-int32_t ds_bloom_union(ds_sketch *handle, ds_sketch *other);
 int32_t ds_bloom_intersect(ds_sketch *handle, ds_sketch *other);
 int32_t ds_bloom_difference(ds_sketch *handle, ds_sketch *other);
 
-/* Adds the positions of all other filters, of an array of handles, in one call. The others stay as they were. Returns
- * DS_NO_MEMORY, for a list of two words a filter, and then DS_MISMATCH if bits, hashes or seeds of one differ. */
-int32_t ds_bloom_union_all(ds_sketch *handle, ds_sketch *others, size_t count);
-
-/* Returns DS_YES if both filters have the same bits, hashes, seed and positions, and DS_NO otherwise. Both stay as they were. */
-int32_t ds_bloom_equal(ds_sketch *handle, ds_sketch *other);
-
-/* Removes all positions. */
-int32_t ds_bloom_reset(ds_sketch *handle);
-
-/* Writes the filter's numbers. */
-int32_t ds_bloom_get_status(ds_sketch *handle, ds_bloom_status *status);
-
-/* Writes the length in bytes of the filter's image, in constant time: 24 if no bit is set, and otherwise 32 and 8 for each word
- * of 64 bits. */
-int32_t ds_bloom_serialized_bytes(ds_sketch *handle, size_t *bytes);
-
-/* Writes the filter's image to the front of `out`, and the image's length in bytes to `written`. The rest of `out` stays as it
- * was. Returns DS_NO_ROOM if the image is longer than `capacity`: then `written` is its length. Does not allocate. */
-int32_t ds_bloom_serialize(ds_sketch *handle, uint8_t *out, size_t capacity, size_t *written);
-
-/* Reads a filter from its image and puts it into the handle. Returns the error of the image's first failed check. Returns
- * DS_TABLE_TOO_LARGE if the words, of 8 bytes each, take more than `max_bytes`, and DS_NO_MEMORY. Before both come the checks of
- * the image's length and fields. DS_BAD_BIT_COUNT comes after them. */
-int32_t ds_bloom_deserialize(ds_sketch *handle, const uint8_t *image, size_t length, size_t max_bytes);
-
-/* Reads a filter from the image at the front of `image` and puts it into the handle, as `ds_bloom_deserialize` does. Writes the
- * number of bytes that the image takes to `used`. The bytes after it are ignored, so images can stand one after another. */
-int32_t ds_bloom_deserialize_prefix(ds_sketch *handle, const uint8_t *image, size_t length, size_t max_bytes, size_t *used);
-
 /* Returns DS_YES if the filter in an image contains the item, and DS_NO otherwise. The image is read in place, at any address, as
  * in a mapped file, to which rule 2 applies, too. Returns the error of the image's first failed check: each of
- * `ds_bloom_deserialize` but those of `max_bytes` and of the number of set bits, in constant time. Does not allocate. */
+ * `ds_deserialize` but those of `max_bytes` and of the number of set bits, in constant time. Does not allocate. */
 int32_t ds_bloom_image_contains_u64(const uint8_t *image, size_t length, uint64_t item);
 int32_t ds_bloom_image_contains_i64(const uint8_t *image, size_t length, int64_t item);
 int32_t ds_bloom_image_contains_string(const uint8_t *image, size_t length, const uint8_t *item, size_t item_length);
@@ -312,10 +366,10 @@ int32_t ds_bloom_image_contains_all_i64(const uint8_t *image, size_t length, con
 /* --- Count-Min sketches with weights in uint64_t. An estimate is at most the total, and at least the item's own weight: what
  * was added for the item, halved and decayed as often as the sketch, and rounded down each time. --- */
 
-/* Puts an empty sketch into the handle, with 1 to 255 hashes, a row each, and 3 or more buckets in a row, fewer than 2^30
- * cells in all. The library's default seed is 9001. Returns DS_BAD_NUM_HASHES, DS_BAD_NUM_BUCKETS, DS_TABLE_TOO_LARGE,
- * DS_ZERO_SEED_HASH, or DS_NO_MEMORY. */
-int32_t ds_count_min_u64_new(ds_sketch *handle, uint8_t num_hashes, uint32_t num_buckets, uint64_t seed);
+/* Puts an empty sketch into the handle, of the kind DS_COUNT_MIN_U64 or DS_COUNT_MIN_I64, with 1 to 255 hashes, a row each, and 3
+ * or more buckets in a row, fewer than 2^30 cells in all. Returns DS_WRONG_KIND for another kind, DS_BAD_NUM_HASHES,
+ * DS_BAD_NUM_BUCKETS, DS_TABLE_TOO_LARGE, DS_ZERO_SEED_HASH, or DS_NO_MEMORY. */
+int32_t ds_count_min_new(ds_sketch *handle, int32_t kind, uint8_t num_hashes, uint32_t num_buckets, uint64_t seed);
 
 /* Adds a weight to the item's. Returns DS_WEIGHT_OVERFLOW if the total would exceed 2^64 - 1. */
 int32_t ds_count_min_u64_update_u64(ds_sketch *handle, uint64_t item, uint64_t weight);
@@ -368,19 +422,6 @@ int32_t ds_count_min_u64_upper_bound_u64(ds_sketch *handle, uint64_t item, uint6
 int32_t ds_count_min_u64_upper_bound_i64(ds_sketch *handle, int64_t item, uint64_t *bound);
 int32_t ds_count_min_u64_upper_bound_string(ds_sketch *handle, const uint8_t *item, size_t length, uint64_t *bound);
 
-/* Adds the other sketch's cells and total. The other sketch stays as it was. Returns DS_MISMATCH if hashes, buckets or seeds
- * differ, and DS_WEIGHT_OVERFLOW if the totals together exceed 2^64 - 1. */
-int32_t ds_count_min_u64_merge(ds_sketch *handle, ds_sketch *other);
-
-/* Adds the cells and totals of all other sketches, of an array of handles, in one call. The others stay as they were. Returns
- * DS_NO_MEMORY, for a list of two words a sketch, then DS_MISMATCH if hashes, buckets or seeds of one differ, and then
- * DS_WEIGHT_OVERFLOW if all totals together exceed 2^64 - 1. */
-int32_t ds_count_min_u64_merge_all(ds_sketch *handle, ds_sketch *others, size_t count);
-
-/* Returns DS_YES if both sketches have the same hashes, buckets, seed, total and cells, and DS_NO otherwise. Both stay as they
- * were. */
-int32_t ds_count_min_u64_equal(ds_sketch *handle, ds_sketch *other);
-
 /* Halves each cell and the total, rounded down. */
 int32_t ds_count_min_u64_halve(ds_sketch *handle);
 
@@ -388,39 +429,9 @@ int32_t ds_count_min_u64_halve(ds_sketch *handle);
  * most 1. */
 int32_t ds_count_min_u64_decay(ds_sketch *handle, uint64_t numerator, uint64_t denominator);
 
-/* A Count-Min sketch's numbers: the total weight, the seed, buckets, which are the cells of a row, and hashes, which are rows. */
-typedef struct ds_count_min_status {
-    uint64_t total_weight;
-    uint64_t seed;
-    uint32_t num_buckets;
-    uint8_t num_hashes;
-} ds_count_min_status;
-
-/* Writes the sketch's numbers. */
-int32_t ds_count_min_u64_get_status(ds_sketch *handle, ds_count_min_status *status);
-
-/* Writes the length in bytes of the sketch's image, in constant time: 16 if the total is 0, and otherwise 24 and 8 for each
- * cell. */
-int32_t ds_count_min_u64_serialized_bytes(ds_sketch *handle, size_t *bytes);
-
-/* Writes the sketch's image to the front of `out`, and the image's length in bytes to `written`. The rest of `out` stays as it
- * was. Returns DS_NO_ROOM if the image is longer than `capacity`: then `written` is its length. Does not allocate. */
-int32_t ds_count_min_u64_serialize(ds_sketch *handle, uint8_t *out, size_t capacity, size_t *written);
-
-/* Reads a sketch from its image, which was written under this seed, and puts it into the handle. Returns the error of the
- * image's first failed check. Returns DS_TABLE_TOO_LARGE if the cells and the rows' seeds, of 8 bytes each, take more than
- * `max_bytes`, and DS_NO_MEMORY. Before both come the checks of the image's length and fields. The checks of the total and the
- * cells come after them. */
-int32_t ds_count_min_u64_deserialize(ds_sketch *handle, const uint8_t *image, size_t length, uint64_t seed, size_t max_bytes);
-
-/* Reads a sketch from the image at the front of `image` and puts it into the handle, as `ds_count_min_u64_deserialize` does. Writes
- * the number of bytes that the image takes to `used`. The bytes after it are ignored, so images can stand one after another. */
-int32_t ds_count_min_u64_deserialize_prefix(ds_sketch *handle, const uint8_t *image, size_t length, uint64_t seed,
-                                            size_t max_bytes, size_t *used);
-
 /* Writes the estimate of the item's weight by the sketch in an image, which was written under this seed. The image is read in
  * place, at any address, as in a mapped file, to which rule 2 applies, too. Returns the error of the image's first failed
- * check: each of `ds_count_min_u64_deserialize` but those of `max_bytes` and of the cells, in constant time. A cell that it rejects
+ * check: each of `ds_deserialize` but those of `max_bytes` and of the cells, in constant time. A cell that it rejects
  * is read as the nearest that it accepts. Each call hashes a number for each row first, so many estimates are faster from a sketch
  * that was read. Does not allocate. */
 int32_t ds_count_min_u64_image_estimate_u64(const uint8_t *image, size_t length, uint64_t seed, uint64_t item,
@@ -434,7 +445,6 @@ int32_t ds_count_min_u64_image_estimate_string(const uint8_t *image, size_t leng
 /* As the calls in uint64_t, with weights, estimates and bounds in int64_t. The total counts each weight without its sign, and
  * DS_WEIGHT_OVERFLOW is returned if it would exceed 2^63 - 1. An estimate is at least the item's own weight if no weight is
  * below 0. If some weight is below 0, it may be less. There is no halving and no decay. */
-int32_t ds_count_min_i64_new(ds_sketch *handle, uint8_t num_hashes, uint32_t num_buckets, uint64_t seed);
 int32_t ds_count_min_i64_update_u64(ds_sketch *handle, uint64_t item, int64_t weight);
 int32_t ds_count_min_i64_update_i64(ds_sketch *handle, int64_t item, int64_t weight);
 int32_t ds_count_min_i64_update_string(ds_sketch *handle, const uint8_t *item, size_t length, int64_t weight);
@@ -468,19 +478,6 @@ int32_t ds_count_min_i64_estimate_all_string_pairs(ds_sketch *handle, const ds_s
 int32_t ds_count_min_i64_upper_bound_u64(ds_sketch *handle, uint64_t item, int64_t *bound);
 int32_t ds_count_min_i64_upper_bound_i64(ds_sketch *handle, int64_t item, int64_t *bound);
 int32_t ds_count_min_i64_upper_bound_string(ds_sketch *handle, const uint8_t *item, size_t length, int64_t *bound);
-int32_t ds_count_min_i64_merge(ds_sketch *handle, ds_sketch *other);
-
-/* Adds the cells and totals of all other sketches, of an array of handles, in one call. The others stay as they were. Returns
- * DS_NO_MEMORY, for a list of two words a sketch, then DS_MISMATCH if hashes, buckets or seeds of one differ, and then
- * DS_WEIGHT_OVERFLOW if all totals together exceed 2^63 - 1. */
-int32_t ds_count_min_i64_merge_all(ds_sketch *handle, ds_sketch *others, size_t count);
-int32_t ds_count_min_i64_equal(ds_sketch *handle, ds_sketch *other);
-int32_t ds_count_min_i64_get_status(ds_sketch *handle, ds_count_min_status *status);
-int32_t ds_count_min_i64_serialized_bytes(ds_sketch *handle, size_t *bytes);
-int32_t ds_count_min_i64_serialize(ds_sketch *handle, uint8_t *out, size_t capacity, size_t *written);
-int32_t ds_count_min_i64_deserialize(ds_sketch *handle, const uint8_t *image, size_t length, uint64_t seed, size_t max_bytes);
-int32_t ds_count_min_i64_deserialize_prefix(ds_sketch *handle, const uint8_t *image, size_t length, uint64_t seed,
-                                            size_t max_bytes, size_t *used);
 int32_t ds_count_min_i64_image_estimate_u64(const uint8_t *image, size_t length, uint64_t seed, uint64_t item, int64_t *estimate);
 int32_t ds_count_min_i64_image_estimate_i64(const uint8_t *image, size_t length, uint64_t seed, int64_t item, int64_t *estimate);
 int32_t ds_count_min_i64_image_estimate_string(const uint8_t *image, size_t length, uint64_t seed, const uint8_t *item,
@@ -492,14 +489,14 @@ int32_t ds_count_min_i64_image_estimate_string(const uint8_t *image, size_t leng
  * slow the sketch down. This holds for callers who see no images, rows, walks or times of calls of sketches under the key. A clone
  * has the key of its original. A merge keeps the handle's own key. An image has no key.
  *
- * `new`, `deserialize` and `deserialize_prefix` draw a key. The first call of a process asks the system for two random words. Each
- * call counts the first word up, so no two sketches of a process get the same key. After a `fork`, the child draws words of its own.
- * If the system has no random bytes, these calls return DS_NO_RANDOM. Only DS_BAD_ARGUMENT comes before.
+ * `ds_frequent_items_new`, `ds_deserialize` and `ds_deserialize_prefix` draw a key if the caller gives none. The first call of a
+ * process asks the system for two random words. Each call counts the first word up, so no two sketches of a process get the same
+ * key. After a `fork`, the child draws words of its own. If the system has no random bytes, these calls return DS_NO_RANDOM. Only
+ * DS_BAD_ARGUMENT and DS_WRONG_KIND come before.
  *
- * Calls whose names end in `_with_key` take the key from the caller. With the same keys a run is reproducible: the same calls have
- * the same results. Runs with drawn keys may differ in the counters that purges remove, so in bounds and rows, within the
- * same guarantees. They also differ in the order of rows of equal estimates and of the items in an image. If others choose the
- * items, choose both words at random and keep them secret. --- */
+ * With the same keys a run is reproducible: the same calls have the same results. Runs with drawn keys may differ in the counters
+ * that purges remove, so in bounds and rows, within the same guarantees. They also differ in the order of rows of equal estimates
+ * and of the items in an image. If others choose the items, choose both words at random and keep them secret. --- */
 
 /* An item's bounds. Its true weight lies between the lower and the upper one, which differ by the sketch's error. */
 typedef struct ds_frequent_items_bounds {
@@ -508,19 +505,12 @@ typedef struct ds_frequent_items_bounds {
     uint64_t upper_bound;
 } ds_frequent_items_bounds;
 
-/* Puts an empty sketch into the handle, under a drawn key. Its table may grow to `max_map_size` slots, a power of two from 8 to
- * 2^30. Its purges sample `sample_size` counters, an even number from 2 to three quarters of `max_map_size`, at most 1024. The
- * largest sample has the strongest guarantee: see `ds_frequent_items_max_sample_size`. Returns DS_NO_RANDOM,
+/* Puts an empty sketch into the handle, of the kind DS_FREQUENT_ITEMS_U64, DS_FREQUENT_ITEMS_I64 or DS_FREQUENT_ITEMS_STRING,
+ * under a key, or under a drawn one if `key` is null. Its table may grow to `max_map_size` slots, a power of two from 8 to 2^30. Its
+ * purges sample `sample_size` counters, an even number from 2 to three quarters of `max_map_size`, at most 1024. The largest sample
+ * has the strongest guarantee: see `ds_frequent_items_max_sample_size`. Returns DS_WRONG_KIND for another kind, DS_NO_RANDOM,
  * DS_MAP_SIZE_NOT_POWER_OF_TWO, DS_MAP_SIZE_TOO_SMALL, DS_MAP_SIZE_TOO_LARGE, DS_BAD_SAMPLE_SIZE, or DS_NO_MEMORY. */
-int32_t ds_frequent_items_u64_new(ds_sketch *handle, size_t max_map_size, size_t sample_size);
-int32_t ds_frequent_items_i64_new(ds_sketch *handle, size_t max_map_size, size_t sample_size);
-int32_t ds_frequent_items_string_new(ds_sketch *handle, size_t max_map_size, size_t sample_size);
-
-/* Puts an empty sketch into the handle, under the key of two words. Otherwise as the calls without a key. */
-int32_t ds_frequent_items_u64_new_with_key(ds_sketch *handle, size_t max_map_size, size_t sample_size, uint64_t k0, uint64_t k1);
-int32_t ds_frequent_items_i64_new_with_key(ds_sketch *handle, size_t max_map_size, size_t sample_size, uint64_t k0, uint64_t k1);
-int32_t ds_frequent_items_string_new_with_key(ds_sketch *handle, size_t max_map_size, size_t sample_size, uint64_t k0,
-                                              uint64_t k1);
+int32_t ds_frequent_items_new(ds_sketch *handle, int32_t kind, size_t max_map_size, size_t sample_size, const ds_key *key);
 
 /* Returns the largest sample size for a `max_map_size`. */
 static inline size_t ds_frequent_items_max_sample_size(size_t max_map_size)
@@ -555,19 +545,6 @@ int32_t ds_frequent_items_string_bounds_all(ds_sketch *handle, const uint8_t *by
 int32_t ds_frequent_items_string_bounds_all_pairs(ds_sketch *handle, const ds_string *strings, size_t count,
                                                   ds_frequent_items_bounds *bounds, size_t num_bounds);
 
-/* Merges the other sketch into this one, which then stands for both streams. The other sketch stays as it was. Returns
- * DS_WEIGHT_OVERFLOW if the totals together exceed 2^64 - 1, and DS_NO_MEMORY. */
-int32_t ds_frequent_items_u64_merge(ds_sketch *handle, ds_sketch *other);
-int32_t ds_frequent_items_i64_merge(ds_sketch *handle, ds_sketch *other);
-int32_t ds_frequent_items_string_merge(ds_sketch *handle, ds_sketch *other);
-
-/* Merges all other sketches, of an array of handles, into this one, in order and in one call. It copies this sketch once, where
- * a merge for each copies it each time. The others stay as they were. Returns DS_NO_MEMORY, for a list of two words a sketch,
- * then DS_WEIGHT_OVERFLOW if all totals together exceed 2^64 - 1, and then DS_NO_MEMORY. */
-int32_t ds_frequent_items_u64_merge_all(ds_sketch *handle, ds_sketch *others, size_t count);
-int32_t ds_frequent_items_i64_merge_all(ds_sketch *handle, ds_sketch *others, size_t count);
-int32_t ds_frequent_items_string_merge_all(ds_sketch *handle, ds_sketch *others, size_t count);
-
 /* Adds 1 to the weight of each item, in order. Returns the error of the first item whose own update returns one: then the items
  * before it are added, and no others. */
 int32_t ds_frequent_items_u64_update_all(ds_sketch *handle, const uint64_t *items, size_t count);
@@ -589,83 +566,10 @@ int32_t ds_frequent_items_string_update_all_weighted(ds_sketch *handle, const ui
 int32_t ds_frequent_items_string_update_all_weighted_pairs(ds_sketch *handle, const ds_string *strings, size_t count,
                                                            const uint64_t *weights, size_t num_weights);
 
-/* Removes all items and weights. `max_map_size` and `sample_size` stay as they were. */
-int32_t ds_frequent_items_u64_reset(ds_sketch *handle);
-int32_t ds_frequent_items_i64_reset(ds_sketch *handle);
-int32_t ds_frequent_items_string_reset(ds_sketch *handle);
-
 /* Sets how many counters later purges sample: an even number from 2 to three quarters of `max_map_size`, at most 1024. So a
  * sketch that was read from an image, which has no sample size, gets back the one that it had. Nothing else changes. Returns
  * DS_BAD_SAMPLE_SIZE for another number. */
-int32_t ds_frequent_items_u64_set_sample_size(ds_sketch *handle, size_t sample_size);
-int32_t ds_frequent_items_i64_set_sample_size(ds_sketch *handle, size_t sample_size);
-int32_t ds_frequent_items_string_set_sample_size(ds_sketch *handle, size_t sample_size);
-
-/* A sketch's numbers. */
-typedef struct ds_frequent_items_status {
-    uint64_t total_weight;
-    uint64_t maximum_error;        /* the upper bound less the lower bound, of each item */
-    uint64_t num_active_items;     /* tracked items, each with a counter */
-    uint64_t maximum_map_capacity; /* the most counters, at `max_map_size` */
-    uint64_t current_map_capacity; /* the most counters before the table grows */
-    uint64_t max_map_size;         /* the most slots of the table */
-    uint64_t sample_size;          /* how many counters a purge samples */
-} ds_frequent_items_status;
-
-/* Writes the sketch's numbers. */
-int32_t ds_frequent_items_u64_get_status(ds_sketch *handle, ds_frequent_items_status *status);
-int32_t ds_frequent_items_i64_get_status(ds_sketch *handle, ds_frequent_items_status *status);
-int32_t ds_frequent_items_string_get_status(ds_sketch *handle, ds_frequent_items_status *status);
-
-/* Writes the length in bytes of the sketch's image, in one pass over its table: 8 if the total is 0, and otherwise 32, and for each
- * counter 16 for a number, or 12 and the bytes of a string. Returns DS_ITEM_TOO_LONG if a string has 2^32 bytes or more. Does not
- * allocate. */
-int32_t ds_frequent_items_u64_serialized_bytes(ds_sketch *handle, size_t *bytes);
-int32_t ds_frequent_items_i64_serialized_bytes(ds_sketch *handle, size_t *bytes);
-int32_t ds_frequent_items_string_serialized_bytes(ds_sketch *handle, size_t *bytes);
-
-/* Writes the sketch's image, without its sample size, to the front of `out`, and the image's length in bytes to `written`. The
- * rest of `out` stays as it was. Returns the errors of the calls above, or DS_NO_ROOM if the image is longer than `capacity`: then
- * `written` is its length. Does not allocate. */
-int32_t ds_frequent_items_u64_serialize(ds_sketch *handle, uint8_t *out, size_t capacity, size_t *written);
-int32_t ds_frequent_items_i64_serialize(ds_sketch *handle, uint8_t *out, size_t capacity, size_t *written);
-int32_t ds_frequent_items_string_serialize(ds_sketch *handle, uint8_t *out, size_t capacity, size_t *written);
-
-/* Reads a sketch from its image and puts it into the handle, under a drawn key. It takes the largest sample size, since an image
- * has none. Returns DS_NO_RANDOM. Returns the error of the image's first failed check. Returns DS_TABLE_TOO_LARGE if the table
- * takes more than `max_bytes` by the formula of `ds_memory_bytes`. The bytes that strings take in the image are added to the
- * table's. Returns DS_NO_MEMORY. Before both come the checks of the image's length and fields. The checks of the weights and the
- * items come after them. */
-int32_t ds_frequent_items_u64_deserialize(ds_sketch *handle, const uint8_t *image, size_t length, size_t max_bytes);
-int32_t ds_frequent_items_i64_deserialize(ds_sketch *handle, const uint8_t *image, size_t length, size_t max_bytes);
-int32_t ds_frequent_items_string_deserialize(ds_sketch *handle, const uint8_t *image, size_t length, size_t max_bytes);
-
-/* Reads a sketch from its image and puts it into the handle, under the key of two words. Otherwise as the calls without a key. */
-int32_t ds_frequent_items_u64_deserialize_with_key(ds_sketch *handle, const uint8_t *image, size_t length, size_t max_bytes,
-                                                   uint64_t k0, uint64_t k1);
-int32_t ds_frequent_items_i64_deserialize_with_key(ds_sketch *handle, const uint8_t *image, size_t length, size_t max_bytes,
-                                                   uint64_t k0, uint64_t k1);
-int32_t ds_frequent_items_string_deserialize_with_key(ds_sketch *handle, const uint8_t *image, size_t length, size_t max_bytes,
-                                                      uint64_t k0, uint64_t k1);
-
-/* Reads a sketch from the image at the front of `image` and puts it into the handle, under a drawn key, as the calls without
- * `prefix` do. Writes the number of bytes that the image takes to `used`. The bytes after it are ignored, so images can stand one
- * after another. */
-int32_t ds_frequent_items_u64_deserialize_prefix(ds_sketch *handle, const uint8_t *image, size_t length, size_t max_bytes,
-                                                 size_t *used);
-int32_t ds_frequent_items_i64_deserialize_prefix(ds_sketch *handle, const uint8_t *image, size_t length, size_t max_bytes,
-                                                 size_t *used);
-int32_t ds_frequent_items_string_deserialize_prefix(ds_sketch *handle, const uint8_t *image, size_t length, size_t max_bytes,
-                                                    size_t *used);
-
-/* Reads a sketch from the image at the front of `image` and puts it into the handle, under the key of two words. Otherwise as the
- * calls without a key. */
-int32_t ds_frequent_items_u64_deserialize_prefix_with_key(ds_sketch *handle, const uint8_t *image, size_t length,
-                                                          size_t max_bytes, uint64_t k0, uint64_t k1, size_t *used);
-int32_t ds_frequent_items_i64_deserialize_prefix_with_key(ds_sketch *handle, const uint8_t *image, size_t length,
-                                                          size_t max_bytes, uint64_t k0, uint64_t k1, size_t *used);
-int32_t ds_frequent_items_string_deserialize_prefix_with_key(ds_sketch *handle, const uint8_t *image, size_t length,
-                                                             size_t max_bytes, uint64_t k0, uint64_t k1, size_t *used);
+int32_t ds_frequent_items_set_sample_size(ds_sketch *handle, size_t sample_size);
 
 /* Writes the items whose bound exceeds both the threshold and the sketch's error, in rows of descending estimates: an item and
  * its bounds each, at the front of both buffers, and the number of rows to `count`. The rest of the buffers stays as it was.
