@@ -1,7 +1,6 @@
 pub mod AnswerLemmas
 pub mod BoundsLemmas
 pub mod CountCallLemmas
-pub mod CountJoinLemmas
 pub mod EqualityLemmas
 pub mod FilterLemmas
 pub mod GhostStrings

@@ -19,7 +19,10 @@ use Rattle.sketch_frequencies.specs.State.{FrequentState}
 use denote.RattleType.{RattleType}
 use Rattle.datasketches_c.specs.FrequentImages.{IsOfNumbers, RejectsItem}
 use Rattle.datasketches_c.specs.Images.{IsRefusedImage}
-use Rattle.datasketches_c.specs.Numbers.{OnRefused, refusal_number}
+use Rattle.datasketches_c.specs.Kinds.{HoldsKind}
+use Rattle.datasketches_c.specs.Numbers.{OnDone, OnRefused, ok, refusal_number}
+use Rattle.datasketches_c.specs.declared.any_sketch.AnySketch.{AnySketch}
+use Rattle.datasketches_c.proofs.KindLemmas.{holds_kind}
 
 -- where neither an image nor the limit has a fault, none comes before memory
 pub none_before : (early limit late : Option Fault) → or_else early late ≡ None → limit ≡ None → or_else early limit ≡ None
@@ -96,9 +99,11 @@ module _ {T C : Type 0} (item : RattleType) (codec : Codec C) (content : T → C
       (frequent.first_fault_within item max_bytes codec image) result Kept
       (λ s is within. none_before (frequent.early_fault image) limit _ is.no_fault within) of (if_done read (limit ≡ None) accepted)
 
-  pub items_not_read : (read : Result (FrequentState T) ErrorValue) (result : ℤ) (Kept : Type 0)
-      → IfOk read (λ s. frequent.IsImageOf codec content image s) → (IsOk read → frequent.limit_fault item max_bytes codec image ≡ None)
-      → IfErr read (IsImageRefusal (frequent.early_fault_within item max_bytes codec image) (frequent.first_fault_within item max_bytes codec image))
-      → OnRefused result (Kept × WhyNotRead read result)
-      → OnRefused result (Kept × IsRefusedImage (frequent.early_fault_within item max_bytes codec image) (frequent.first_fault_within item max_bytes codec image) result)
-  items_not_read read result Kept of accepted = items_not_read_with (λ s. s) read result Kept of accepted
+-- a handle was given the sketch of the front of an image, and what holds of it and of the number of bytes that were read
+pub holds_read : {S : Type 0} (part : AnySketch → Option S) (whole : S → AnySketch) → ((s : S) → part (whole s) ≡ Some s)
+    → (P : S × ℕ → Type 0) (read : Result (S × ℕ) ErrorValue) (used : ℕ) (new : Option AnySketch) (result : ℤ) → IfOk read P
+    → OnDone result ((result ≡ ok) × ((s : S) × (read ≡ Ok (s, used)) × (new ≡ Some (whole s))))
+    → OnDone result ((result ≡ ok) × HoldsKind part new (λ s. P (s, used)))
+holds_read {S} part whole back P read used new (pos n) holds (done, (s, is, now)) =
+    (done, holds_kind part new (whole s) s (λ t. P (t, used)) now (back s) (subst (λ (r : Result (S × ℕ) ErrorValue). IfOk r P) is holds))
+holds_read part whole back P read used new (negsuc n) holds said = tt

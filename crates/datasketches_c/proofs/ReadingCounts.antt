@@ -1,12 +1,13 @@
 -- Images of Count-Min sketches that are read.
 use Rattle.std.proofs.Common.{◌≡◌, ◌∙◌, refl, ℕ, ◌+◌, ◌*◌, ◌≤◌, Bool, true, false, List, Some, None, ℤ, cond, ap, subst}
-use Rattle.std.specs.Prelude.{Result, IfOk, IfErr}
+use Rattle.std.specs.Prelude.{Result, Ok, Err, IfOk, IfErr}
 use Rattle.std.proofs.lemmas.Bool.{le-ltb}
 use Rattle.sketch_base.specs.Checks.{IsImageRefusal}
 use Rattle.sketch_base.specs.Errors.{ErrorValue}
 use Rattle.sketch_base.specs.declared.fault.Fault.TheVariants.{TableTooLarge}
 use Rattle.sketch_countmin.specs.Image as counts
 use Rattle.sketch_countmin.specs.State.{CountState}
+use Rattle.datasketches_c.specs.CountImages.{IsRestored}
 use Rattle.datasketches_c.specs.Images.{IsRefusedImage}
 use Rattle.datasketches_c.specs.Numbers.{OnRefused}
 use Rattle.datasketches_c.proofs.Reading.{none_before, WhyNotRead, was_not_read}
@@ -39,9 +40,10 @@ module _ (least : ℤ) (greatest size max_bytes seed : ℕ) (image : List ℕ) w
       (counts.early_fault_within size max_bytes seed image) (counts.first_fault_within least greatest size max_bytes seed image) result Kept
       (λ s. no_early_fault_of_counts least greatest size max_bytes seed image (state s))
 
-  pub counts_not_read : (read : Result CountState ErrorValue) (result : ℤ) (Kept : Type 0)
-      → IfOk read (λ s. counts.IsImage least greatest seed image s) → IfOk read (λ s. s.hashes * s.buckets * size + 8 * s.hashes ≤ max_bytes)
-      → IfErr read (IsImageRefusal (counts.early_fault_within size max_bytes seed image) (counts.first_fault_within least greatest size max_bytes seed image))
-      → OnRefused result (Kept × WhyNotRead read result)
-      → OnRefused result (Kept × IsRefusedImage (counts.early_fault_within size max_bytes seed image) (counts.first_fault_within least greatest size max_bytes seed image) result)
-  counts_not_read read result Kept = counts_not_read_with (λ s. s) read result Kept
+  -- what was read of the front of an image is restored, and the bytes that it took are its own
+  pub counts_read : (read : Result (CountState × ℕ) ErrorValue) → IfOk read (λ r. counts.IsImage least greatest seed image r.0)
+      → IfOk read (λ r. counts.Restores least greatest seed image r.0) → IfOk read (λ r. r.0.hashes * r.0.buckets * size + 8 * r.0.hashes ≤ max_bytes)
+      → IfOk read (λ r. counts.ReadsFront least greatest seed image r.0 r.1)
+      → IfOk read (λ r. IsRestored least greatest size seed image max_bytes r.0 × counts.ReadsFront least greatest seed image r.0 r.1)
+  counts_read (Ok r) of stands within front = (record { of_image = of; stands = stands; within = within }, front)
+  counts_read (Err e) of stands within front = tt

@@ -1,15 +1,13 @@
 -- Results and effects of calls on Count-Min sketches of any weight type. `part` returns the sketch of that type that a handle
 -- holds, if any. `greatest` is the maximum of the type.
 use Rattle.std.specs.Prelude.{◌≡◌, ℕ, ℤ, ◌+◌, ◌-◌, ◌<◌, ◌≤◌, List, Option, length, map, take, unsigned_abs}
-use Rattle.sketch_base.specs.declared.fault.Fault.TheVariants.{Mismatch, WeightOverflow}
-use Rattle.sketch_countmin.specs.State.{CountState, IsMinCell, SameShape, upper_bound_of}
-use Rattle.datasketches_c.specs.CountSteps.{Weighs, WeighsAll, WeighsEach, Merges}
+use Rattle.sketch_base.specs.declared.fault.Fault.TheVariants.{WeightOverflow}
+use Rattle.sketch_countmin.specs.State.{CountState, IsMinCell, upper_bound_of}
+use Rattle.datasketches_c.specs.CountSteps.{Weighs, WeighsAll, WeighsEach}
 use Rattle.datasketches_c.specs.Estimates.{IsEstimate, AreEstimates}
 use Rattle.datasketches_c.specs.Kinds.{OnKind, HoldsKind}
-use Rattle.datasketches_c.specs.Sharing.{reads}
 use Rattle.datasketches_c.specs.Numbers.{ok, refusal_number}
 use Rattle.datasketches_c.specs.declared.any_sketch.AnySketch.{AnySketch}
-use Rattle.datasketches_c.specs.declared.count.CountStatus.{CountStatus}
 
 -- the call wrote the sketch's estimate of the item's weight
 abbrev pub Estimates :
@@ -22,16 +20,6 @@ abbrev pub EstimatesAll :
     (estimates : List ℤ) → Type 0
 EstimatesAll part old new result bytes_of items estimates =
     OnKind part old new result (λ s. (result ≡ ok) × AreEstimates s bytes_of items estimates)
-
--- the status holds the sketch's total weight, seed, number of buckets and number of hashes
-abbrev pub AreCountNumbers : CountStatus → CountState → Type 0
-AreCountNumbers status s =
-    (status.total_weight ≡ s.total) × (status.seed ≡ s.seed)
-    × (status.num_buckets ≡ s.buckets) × (status.num_hashes ≡ s.hashes)
-
--- the call wrote the status of the handle's sketch
-abbrev pub Describes : (part : AnySketch → Option CountState) → (old new : Option AnySketch) → ℤ → CountStatus → Type 0
-Describes part old new result status = OnKind part old new result (λ s. (result ≡ ok) × AreCountNumbers status s)
 
 -- the bound is the estimate plus the margin, or the maximum of the type if this exceeds it
 abbrev pub IsBound : (greatest : ℕ) → (bytes : List ℕ) → (bound : ℤ) → CountState → Type 0
@@ -65,12 +53,3 @@ module _ (part : AnySketch → Option CountState) (greatest : ℕ) where
   -- the call wrote the upper bound of the item's weight in the handle's sketch
   abbrev pub Bounds : (old new : Option AnySketch) → ℤ → (bytes : List ℕ) → (bound : ℤ) → Type 0
   Bounds old new result bytes bound = OnKind part old new result (λ s. (result ≡ ok) × IsBound greatest bytes bound s)
-
-  -- the other sketch's cells and total were added. Or the result is `WeightOverflow` if the total has no room for both, or
-  -- `Mismatch` if the shapes differ
-  abbrev pub MergesInto : (old new : Option AnySketch) → ℤ → (other_old other_new : Option AnySketch) → Type 0
-  MergesInto old new result other_old other_new =
-      OnKind part old new result (λ a. OnKind (reads part) other_old other_new result (λ b.
-      (SameShape a b → a.total + b.total ≤ greatest → (result ≡ ok) × HoldsKind part new (Merges a b))
-      × (SameShape a b → greatest < a.total + b.total → result ≡ refusal_number WeightOverflow)
-      × (¬ SameShape a b → result ≡ refusal_number Mismatch)))

@@ -1,5 +1,5 @@
 -- Results and effects of calls on frequent items sketches, for any item type. Items are compared by `eq` alone.
-use Rattle.std.specs.Prelude.{◌≡◌, ℕ, ℤ, ◌+◌, ◌<◌, Bool, false, List, length, None, sum}
+use Rattle.std.specs.Prelude.{◌≡◌, ℕ, ℤ, ◌+◌, ◌<◌, Bool, false, List, None, sum}
 use Rattle.sketch_base.specs.Errors.{ErrorValue}
 use Rattle.sketch_base.specs.declared.fault.Fault.TheVariants.{BadSampleSize, NoMemory, WeightOverflow}
 use Rattle.counter_table.specs.Tables.{count_of}
@@ -8,22 +8,11 @@ use Rattle.sketch_frequencies.specs.History.{FrequentHistory}
 use Rattle.sketch_frequencies.specs.History.FrequentHistory.{New, Update, Merge, Reset}
 use Rattle.sketch_frequencies.specs.Sizes.{sample_fault}
 use Rattle.sketch_frequencies.specs.Stands.{Extends, ExtendsBudget, ExtendsBoth, ExtendsBothBudgets, KeepsTailBudget, IsLowerBound, IsUpperBound, IsExactOfFew}
-use Rattle.sketch_frequencies.specs.State.{FrequentState, Overflows, TotalHasRoom, capacity, empty_state, estimate_of, must_double}
+use Rattle.sketch_frequencies.specs.State.{FrequentState, Overflows, TotalHasRoom, empty_state, estimate_of, must_double}
 use Rattle.sketch_frequencies.specs.Steps.{Steps, JoinsEqual}
 use Rattle.sketch_frequencies.specs.WeightedBatches.{weighed, UpdatesWeighed, StopsAtDoubling}
 use Rattle.datasketches_c.specs.Numbers.{OnDone, OnRefused, ok, refusal_number}
 use Rattle.sketch_frequencies.specs.declared.item_bounds.ItemBounds.{ItemBounds}
-use Rattle.datasketches_c.specs.declared.frequent.FrequentStatus.{FrequentStatus}
-
--- the status holds the sketch's numbers
-pub record AreNumbers {T : Type 0} (s : FrequentState T) (status : FrequentStatus) : Type 0 where
-  pub total_weight : status.total_weight ≡ s.total
-  pub maximum_error : status.maximum_error ≡ s.error
-  pub num_active_items : status.num_active_items ≡ length s.counters
-  pub maximum_map_capacity : status.maximum_map_capacity ≡ capacity s.max_size
-  pub current_map_capacity : status.current_map_capacity ≡ capacity s.size
-  pub max_map_size : status.max_map_size ≡ s.max_size
-  pub sample_size : status.sample_size ≡ s.sample_size
 
 module _ {T : Type 0} (eq : T → T → Bool) where
   -- new is old with a weight above 0 added to the item. It stands for the history with that update, and keeps its tail budget

@@ -1,3 +1,6 @@
+pub mod AnyImages
+pub mod AnyJoins
+pub mod Changes
 pub mod Copies
 pub mod CountCalls
 pub mod CountImages
@@ -24,4 +27,6 @@ pub mod ManyJoins
 pub mod MemoryBytes
 pub mod Numbers
 pub mod Sharing
+pub mod SketchKinds
+pub mod Status
 pub mod Strings

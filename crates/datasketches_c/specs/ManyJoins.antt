@@ -1,5 +1,5 @@
--- Results and effects of combining the sketches of many handles into one.
-use Rattle.std.specs.Prelude.{◌≡◌, ℕ, ℤ, ◌+◌, ◌<◌, ◌≤◌, Bool, List, Option, Some, All, sum_by}
+-- Results and effects of combining many sketches into one.
+use Rattle.std.specs.Prelude.{◌≡◌, ℕ, ℤ, ◌+◌, ◌<◌, ◌≤◌, Bool, List, All, sum_by}
 use Rattle.sketch_base.specs.declared.fault.Fault.TheVariants.{Mismatch, NoMemory, WeightOverflow}
 use Rattle.sketch_bloom.specs.History as filters
 use Rattle.sketch_bloom.specs.Stands as filters_stand
@@ -9,12 +9,7 @@ use Rattle.sketch_countmin.specs.Stands as counts_stand
 use Rattle.sketch_countmin.specs.State.{CountState, SameShape, JoinsEach}
 use Rattle.sketch_frequencies.specs.ManyMerges.{total_of_all, JoinsAll, ExtendsAll, ExtendsAllBudgets}
 use Rattle.sketch_frequencies.specs.State.{FrequentState, Overflows, TotalHasRoom}
-use Rattle.datasketches_c.specs.Kinds.{OnFilter, OnKind, HoldsKind, filter_of}
-use Rattle.datasketches_c.specs.ManyHandles.{OnEachKind, OrNoMemory}
 use Rattle.datasketches_c.specs.Numbers.{OnDone, OnRefused, ok, refusal_number}
-use Rattle.datasketches_c.specs.Sharing.{reads}
-use Rattle.datasketches_c.specs.declared.any_sketch.AnySketch.{AnySketch}
-use Rattle.datasketches_c.specs.declared.any_sketch.AnySketch.TheVariants.{Filter}
 
 -- the other filters were united into this one, which stands for the union of all histories. Or the result is `Mismatch` if one is
 -- not compatible
@@ -22,15 +17,6 @@ pub record IsUnited (old : FilterState) (others : List FilterState) (new : Filte
   pub done : All (IsCompatible old) others
       → (result ≡ ok) × (new ≡ all_united old others) × filters_stand.ExtendsByAll old others new filters.all_united_after
   pub mismatch : ¬ All (IsCompatible old) others → result ≡ refusal_number Mismatch
-
--- the same of the handle's filter and the other handles' filters. `NoMemory` may come in its place
-abbrev pub UnitesAll : (old new : Option AnySketch) → ℤ → (others : List (Option AnySketch)) → Type 0
-UnitesAll old new result others =
-    OnFilter old new result (λ a. OnEachKind (reads filter_of) others result (λ bs. OrNoMemory result bs (
-    (All (IsCompatible a) bs
-    → (result ≡ ok) × (new ≡ Some (Filter (all_united a bs)))
-    × filters_stand.ExtendsByAll a bs (all_united a bs) filters.all_united_after)
-    × (¬ All (IsCompatible a) bs → result ≡ refusal_number Mismatch))))
 
 -- new is old with the cells and totals of the others added, and stands for the merge of all histories
 pub record MergesEach (old : CountState) (others : List CountState) (new : CountState) : Type 0 where
@@ -47,16 +33,6 @@ pub record IsMerged (greatest : ℕ) (old : CountState) (others : List CountStat
   pub overflow : All (SameShape old) others → greatest < old.total + total_of_each others → result ≡ refusal_number WeightOverflow
   pub mismatch : ¬ All (SameShape old) others → result ≡ refusal_number Mismatch
 
--- the same of the handle's sketch and the other handles' sketches. `NoMemory` may come in its place
-abbrev pub MergesCounts :
-    (part : AnySketch → Option CountState) → (greatest : ℕ) → (old new : Option AnySketch) → ℤ →
-    (others : List (Option AnySketch)) → Type 0
-MergesCounts part greatest old new result others =
-    OnKind part old new result (λ a. OnEachKind (reads part) others result (λ bs. OrNoMemory result bs (
-    (All (SameShape a) bs → a.total + total_of_each bs ≤ greatest → (result ≡ ok) × HoldsKind part new (MergesEach a bs))
-    × (All (SameShape a) bs → greatest < a.total + total_of_each bs → result ≡ refusal_number WeightOverflow)
-    × (¬ All (SameShape a) bs → result ≡ refusal_number Mismatch))))
-
 module _ {T : Type 0} (eq : T → T → Bool) where
   -- new is old with the others merged into it, in order. It stands for the merge of all histories, and keeps its tail budget
   pub record MergesAll (old : FrequentState T) (others : List (FrequentState T)) (new : FrequentState T) : Type 0 where
@@ -71,11 +47,3 @@ module _ {T : Type 0} (eq : T → T → Bool) where
     pub refused : OnRefused result (new ≡ old)
     pub overflow : Overflows old (total_of_all others) → result ≡ refusal_number WeightOverflow
     pub memory : TotalHasRoom old (total_of_all others) → OnRefused result (result ≡ refusal_number NoMemory)
-
--- the same of the handle's sketch and the other handles' sketches. `NoMemory` may come in its place
-abbrev pub MergesFrequent :
-    {T : Type 0} → (part : AnySketch → Option (FrequentState T)) → (T → T → Bool) → (old new : Option AnySketch) → ℤ →
-    (others : List (Option AnySketch)) → Type 0
-MergesFrequent part eq old new result others =
-    OnKind part old new result (λ a. OnEachKind (reads part) others result (λ bs. OrNoMemory result bs (
-    HoldsKind part new (λ t. MergesAllInto eq a bs t result))))

@@ -2,7 +2,7 @@
 ghost use Rattle.std.specs.Prelude.{◌≡◌, ◌≢◌, ◌+◌, ◌-◌, ◌<◌, ◌≤◌, length, map, take, sum_by, unsigned_abs};
 ghost use Rattle.std.specs.Hash as fed;
 ghost use Rattle.sketch_base.specs.Hashes.{fed_bytes};
-ghost use Rattle.datasketches_c.specs.CountCalls.{AddsWeight, AddsEach, AddsWeights, EstimatesAll, AreCountNumbers, IsBound, MergesInto};
+ghost use Rattle.datasketches_c.specs.CountCalls.{AddsWeight, AddsEach, AddsWeights, EstimatesAll, IsBound};
 ghost use Rattle.datasketches_c.specs.CountJoins.{IsJoined};
 ghost use Rattle.datasketches_c.specs.CountSteps.{Weighs, WeighsAll};
 ghost use Rattle.datasketches_c.specs.Estimates.{AreEstimates, IsEstimate};
@@ -13,7 +13,7 @@ ghost use Rattle.datasketches_c.specs.Sharing.{reads};
 use crate::count_item::CountItem;
 use crate::count_weighted::{count_weighted, count_weighted_strings};
 use crate::handle::SketchHandle;
-use crate::join::{Joins, join};
+use crate::join::Joins;
 use crate::kind::{Kind, on_kind, reading_kind};
 use crate::status_code::{NO_ROOM, OK, refusal_number};
 use sketch_base::{Fault, Strings};
@@ -21,16 +21,6 @@ use sketch_countmin::laws::min_cell_bounds;
 use sketch_countmin::{CountMinSketch, CountMinValue};
 use std::alloc::Global;
 use std::hash::Hash;
-
-/// The numbers of a Count-Min sketch.
-#[repr(C)]
-#[derive(Clone, Copy)]
-pub struct CountStatus {
-    pub total_weight: u64,
-    pub seed: u64,
-    pub num_buckets: u32,
-    pub num_hashes: u8,
-}
 
 /// Adds a weight to an item's.
 #[inline]
@@ -267,48 +257,4 @@ where
             Err(error) => refusal_number(error.fault()),
         }
     }
-}
-
-/// Adds the other sketch's cells and total. The other sketch stays as it was.
-pub(crate) fn merge<V: CountMinValue>(
-    alloc: Global,
-    handle: &mut SketchHandle,
-    other: &mut SketchHandle,
-) -> i32
-where
-    CountMinSketch<V>: Kind,
-    ensures other { other.new.value ≡ other.old.value }
-    ensures refused { OnRefused result (handle.new.value ≡ handle.old.value) }
-    ensures call { MergesInto (⟦<CountMinSketch<V> as Kind>⟧.part) V.greatest handle.old.value handle.new.value result other.old.value other.new.value }
-{
-    join::<CountMinSketch<V>, ()>(alloc, handle, other, ())
-}
-
-/// Returns the sketch's numbers.
-fn status_of<V: CountMinValue>(sketch: &CountMinSketch<V>) -> CountStatus
-    ensures { AreCountNumbers result sketch.now }
-{
-    CountStatus {
-        total_weight: sketch.total_weight().to_number() as u64,
-        seed: sketch.seed(),
-        num_buckets: sketch.num_buckets(),
-        num_hashes: sketch.num_hashes(),
-    }
-}
-
-/// Writes the sketch's numbers.
-pub(crate) fn status<V: CountMinValue>(
-    alloc: Global,
-    handle: &mut SketchHandle,
-    status: &mut CountStatus,
-) -> i32
-where
-    CountMinSketch<V>: Kind,
-    ensures { WritesDown (reads (⟦<CountMinSketch<V> as Kind>⟧.part)) handle.old.value handle.new.value result status.old status.new
-        (AreCountNumbers status.new) }
-{
-    reading_kind!(alloc, handle, CountMinSketch<V>, sketch => {
-        *status = status_of(sketch);
-        OK
-    })
 }

@@ -1,5 +1,4 @@
-//! Calls on filters: create, insert, look up, combine, reset, describe, write and read.
-ghost use Rattle.std.specs.FinSet as set;
+//! Calls on filters: create, insert, look up and combine.
 ghost use Rattle.std.specs.Hash as fed;
 ghost use Rattle.std.specs.Prelude.{◌≡◌, ◌≢◌, ◌≤◌, Some, None, length, map, if◌then◌else◌};
 ghost use Rattle.std.specs.Str.{IsUtf8};
@@ -7,22 +6,21 @@ ghost use Rattle.sketch_base.specs.Errors.{refusal_of};
 ghost use Rattle.sketch_base.specs.Hashes.{fed_bytes};
 ghost use Rattle.sketch_bloom.specs.Building.{request_fault, words_for};
 ghost use Rattle.sketch_bloom.specs.History.{all_inserted_after};
-ghost use Rattle.sketch_bloom.specs.History.BloomHistory.{Difference, Insert, Intersection, New, Reset, Union};
-ghost use Rattle.sketch_bloom.specs.Image.{IsSpelled, ReadsFront, image_bytes, prefix_bytes, early_fault_within, first_fault_within};
+ghost use Rattle.sketch_bloom.specs.History.BloomHistory.{Difference, Insert, Intersection, New};
+ghost use Rattle.sketch_bloom.specs.Image.{IsSpelled, image_bytes};
 ghost use Rattle.sketch_bloom.specs.Stands.{Extends, ExtendsBoth, StandsFor};
-ghost use Rattle.sketch_bloom.specs.State.{empty_state, contains_item, inserted, all_inserted, IsCompatible, united, intersected, subtracted, capacity_of, cleared};
-ghost use Rattle.datasketches_c.specs.Images.{WritesImage, WritesSizedImage, TellsRoom, IsRefusedImage};
-ghost use Rattle.datasketches_c.specs.FilterImages.{IsRestored};
+ghost use Rattle.sketch_bloom.specs.State.{empty_state, contains_item, inserted, all_inserted, IsCompatible, intersected, subtracted};
+ghost use Rattle.datasketches_c.specs.Images.{WritesSizedImage};
 ghost use Rattle.datasketches_c.specs.Joining.{IsCombined};
-ghost use Rattle.datasketches_c.specs.Kinds.{OnFilter, HoldsFilter, ReadsFilter};
+ghost use Rattle.datasketches_c.specs.Kinds.{OnFilter, ReadsFilter};
 ghost use Rattle.datasketches_c.specs.Numbers.{OnDone, OnRefused, ok, no, yes, no_room, refusal_number};
 ghost use Rattle.datasketches_c.specs.declared.any_sketch.AnySketch.TheVariants.{Filter};
 
 use crate::handle::SketchHandle;
-use crate::images::{HasImage, to_bytes};
+use crate::images::HasImage;
 use crate::join::{Joins, join};
 use crate::kind::{on_kind, reading_kind};
-use crate::making::{put_made, put_read};
+use crate::making::put_made;
 use crate::status_code::{NO, NO_ROOM, OK, YES, refusal_number};
 use crate::strings::on_string;
 use sketch_base::Fault;
@@ -343,30 +341,6 @@ impl Joins<SetOperation> for BloomFilter {
     }
 }
 
-/// Adds the other filter's positions. The other filter stays as it was.
-///
-/// Returns the first of these errors, and then changes nothing:
-///
-/// - `NO_SKETCH` if a handle has no sketch, and `WRONG_KIND` if its sketch is of another kind. The errors of `handle`
-///   come before those of `other`.
-/// - `Mismatch` if the numbers of bits, the numbers of hashes, or the seeds differ.
-#[unsafe(no_mangle)]
-pub extern "C" fn ds_bloom_union(
-    alloc: Global,
-    handle: &mut SketchHandle,
-    other: &mut SketchHandle,
-) -> i32
-    ensures other { other.new.value ≡ other.old.value }
-    ensures refused { OnRefused result (handle.new.value ≡ handle.old.value) }
-    ensures call { OnFilter handle.old.value handle.new.value result (λ a.
-        ReadsFilter other.old.value other.new.value result (λ b.
-        (IsCompatible a b → (result ≡ ok) × (handle.new.value ≡ Some (Filter (united a b)))
-        × ExtendsBoth a b (united a b) Union)
-        × (¬ IsCompatible a b → result ≡ refusal_number Fault.Mismatch))) }
-{
-    join::<BloomFilter, SetOperation>(alloc, handle, other, SetOperation::Union)
-}
-
 /// Keeps the positions that both filters have. The other filter stays as it was.
 ///
 /// Returns the first of these errors, and then changes nothing:
@@ -415,60 +389,10 @@ pub extern "C" fn ds_bloom_difference(
     join::<BloomFilter, SetOperation>(alloc, handle, other, SetOperation::Difference)
 }
 
-/// The numbers of a filter.
-#[repr(C)]
-#[derive(Clone, Copy)]
-pub struct FilterStatus {
-    pub bits_used: u64,
-    pub capacity: u64,
-    pub seed: u64,
-    pub num_hashes: u16,
-}
-
-/// Removes all positions.
-///
-/// Returns `NO_SKETCH` if the handle has no sketch, and `WRONG_KIND` if its sketch is of another kind. Then nothing
-/// changes.
-#[unsafe(no_mangle)]
-pub extern "C" fn ds_bloom_reset(alloc: Global, handle: &mut SketchHandle) -> i32
-    ensures { OnFilter handle.old.value handle.new.value result (λ s.
-        (result ≡ ok) × (handle.new.value ≡ Some (Filter (cleared s))) × Extends s (cleared s) Reset) }
-{
-    on_kind!(alloc, handle, BloomFilter, filter => {
-        filter.reset();
-        OK
-    })
-}
-
-/// Writes the filter's numbers: its set bits, all its bits, the seed, and the number of hashes.
-///
-/// Returns `NO_SKETCH` if the handle has no sketch, and `WRONG_KIND` if its sketch is of another kind. Then nothing
-/// changes.
-#[unsafe(no_mangle)]
-pub extern "C" fn ds_bloom_get_status(
-    alloc: Global,
-    handle: &mut SketchHandle,
-    status: &mut FilterStatus,
-) -> i32
-    ensures kept { handle.new.value ≡ handle.old.value }
-    ensures untouched { OnRefused result (status.new ≡ status.old) }
-    ensures numbers { ReadsFilter handle.old.value handle.new.value result (λ s. (result ≡ ok)
-        × (status.new.bits_used ≡ set.len s.set) × (status.new.capacity ≡ capacity_of s)
-        × (status.new.seed ≡ s.seed) × (status.new.num_hashes ≡ s.num_hashes)) }
-{
-    reading_kind!(alloc, handle, BloomFilter, filter => {
-        *status = FilterStatus {
-            bits_used: filter.bits_used(),
-            capacity: filter.capacity() as u64,
-            seed: filter.seed(),
-            num_hashes: filter.num_hashes(),
-        };
-        OK
-    })
-}
-
 impl HasImage for BloomFilter {
     ghost writes = { λ s. WritesSizedImage (λ image. IsSpelled image s) (image_bytes s) };
+
+    ghost tells = { λ s bytes result. (result ≡ ok) × (bytes ≡ image_bytes s) };
 
     fn write_to(&self, out: &mut [u8], written: &mut usize) -> i32 {
         match self.serialize_into(out) {
@@ -482,96 +406,9 @@ impl HasImage for BloomFilter {
             }
         }
     }
-}
 
-/// Writes the length in bytes of the filter's image, in constant time.
-///
-/// Returns `NO_SKETCH` if the handle has no sketch, and `WRONG_KIND` if its sketch is of another kind. Then nothing
-/// changes.
-#[unsafe(no_mangle)]
-pub extern "C" fn ds_bloom_serialized_bytes(
-    alloc: Global,
-    handle: &mut SketchHandle,
-    bytes: &mut usize,
-) -> i32
-    ensures kept { handle.new.value ≡ handle.old.value }
-    ensures untouched { OnRefused result (bytes.new ≡ bytes.old) }
-    ensures bytes { ReadsFilter handle.old.value handle.new.value result (λ s.
-        (result ≡ ok) × (bytes.new ≡ image_bytes s)) }
-{
-    reading_kind!(alloc, handle, BloomFilter, filter => {
-        *bytes = filter.serialized_size();
+    fn length_to(&self, bytes: &mut usize) -> i32 {
+        *bytes = self.serialized_size();
         OK
-    })
-}
-
-/// Writes the filter's image to the front of `out`, and the image's length in bytes to `written`. The rest of `out`
-/// stays as it was. Does not allocate.
-///
-/// Returns `NO_SKETCH` if the handle has no sketch, and `WRONG_KIND` if its sketch is of another kind. Then nothing
-/// changes.
-///
-/// Returns `NO_ROOM` if the image is longer than `out`. Then `written` is the image's length, and `out` is unchanged.
-#[unsafe(no_mangle)]
-pub extern "C" fn ds_bloom_serialize(
-    alloc: Global,
-    handle: &mut SketchHandle,
-    out: &mut [u8],
-    written: &mut usize,
-) -> i32
-    ensures kept { handle.new.value ≡ handle.old.value }
-    ensures untouched { OnRefused result (out.new ≡ out.old) }
-    ensures uncounted { result ≢ ok → result ≢ no_room → written.new ≡ written.old }
-    ensures image { ReadsFilter handle.old.value handle.new.value result (λ s.
-        WritesImage (λ image. IsSpelled image s) out.old out.new written.new result) }
-    ensures room { ReadsFilter handle.old.value handle.new.value result (λ s.
-        TellsRoom (image_bytes s) (length out.old) written.new result) }
-{
-    to_bytes::<BloomFilter>(alloc, handle, out, written)
-}
-
-/// Reads a filter from its image, puts it into the handle, and frees what the handle had.
-///
-/// Returns the first of these errors, and then changes nothing:
-///
-/// - The error of the first failed check of the image's length and fields.
-/// - `TableTooLarge` if the words, of 8 bytes each, take more than `max_bytes`.
-/// - `NoMemory` if an allocation fails.
-/// - `BadBitCount` if the image's number of set bits is wrong.
-#[unsafe(no_mangle)]
-pub extern "C" fn ds_bloom_deserialize(
-    alloc: Global,
-    handle: &mut SketchHandle,
-    image: &[u8],
-    max_bytes: usize,
-) -> i32
-    ensures done { OnDone result ((result ≡ ok) × HoldsFilter handle.new.value (IsRestored image.now max_bytes)) }
-    ensures refused { OnRefused result ((handle.new.value ≡ handle.old.value) × IsRefusedImage
-        (early_fault_within max_bytes image.now) (first_fault_within max_bytes image.now) result) }
-{
-    let read = BloomFilter::deserialize_with_limit(alloc, image, max_bytes);
-    put_made(alloc, handle, read)
-}
-
-/// Reads a filter from the image at the front of `image`, as `ds_bloom_deserialize` does, and writes the number of bytes
-/// that the image takes to `used`. What follows is not read: the bytes that a filter wrote are read as that filter, to their end.
-///
-/// Returns the errors of `ds_bloom_deserialize`. Then nothing changes.
-#[unsafe(no_mangle)]
-pub extern "C" fn ds_bloom_deserialize_prefix(
-    alloc: Global,
-    handle: &mut SketchHandle,
-    image: &[u8],
-    max_bytes: usize,
-    used: &mut usize,
-) -> i32
-    ensures done { OnDone result ((result ≡ ok) × HoldsFilter handle.new.value (IsRestored image.now max_bytes)) }
-    ensures used { OnDone result ((used.new ≡ prefix_bytes image.now) × (used.new ≤ length image.now)) }
-    ensures front { OnDone result (HoldsFilter handle.new.value (λ s. ReadsFront image.now s used.new)) }
-    ensures refused { OnRefused result ((handle.new.value ≡ handle.old.value) × IsRefusedImage
-        (early_fault_within max_bytes image.now) (first_fault_within max_bytes image.now) result) }
-    ensures untouched { OnRefused result (used.new ≡ used.old) }
-{
-    let read = BloomFilter::deserialize_prefix(alloc, image, max_bytes);
-    put_read(alloc, handle, read, used)
+    }
 }

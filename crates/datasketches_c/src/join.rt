@@ -19,7 +19,7 @@ pub(crate) trait Joins<W>: Kind {
 }
 
 /// Combines the sketch of a handle, which keeps it, into a sketch.
-fn join_into<K: Joins<W>, W: Copy>(
+pub(crate) fn join_into<K: Joins<W>, W: Copy>(
     alloc: Global,
     sketch: &mut K,
     handle: &mut SketchHandle,

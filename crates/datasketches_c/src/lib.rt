@@ -1,7 +1,10 @@
 //! Sketches for C. Each is held by one pointer, and the contracts of its calls are those of the libraries.
 #![tactic(auto)]
 
+mod any_images;
+mod any_joins;
 pub mod any_sketch;
+mod changes;
 mod copies;
 mod count;
 mod count_images;
@@ -18,7 +21,6 @@ mod frequent;
 mod frequent_images;
 mod frequent_items;
 mod frequent_rows;
-mod frequent_sketches;
 mod frequent_string;
 mod handle;
 mod image_views;
@@ -36,6 +38,8 @@ mod memory;
 mod raw_box;
 mod sharing;
 mod sizes;
+pub mod sketch_kind;
+mod status;
 pub mod status_code;
 mod strings;
 mod words_and_lines;

@@ -1,17 +1,16 @@
-//! Calls that combine the sketches of many handles into one.
+//! Sketches into which those of many handles are combined.
 ghost use Rattle.std.specs.Option.{option_map};
 ghost use Rattle.std.specs.Ordering.{int_eq};
 ghost use Rattle.std.specs.Prelude.{◌≡◌, ℤ, IsTrue, List, map, nat_eq};
 ghost use Rattle.datasketches_c.specs.FrequentStrings.{strings_eq};
-ghost use Rattle.datasketches_c.specs.Kinds.{OnKind, HoldsKind, count_i64_of, count_u64_of, frequent_i64_of, frequent_strings_of, frequent_u64_of};
 ghost use Rattle.datasketches_c.specs.ManyHandles.{OnEachKind, OrNoMemory};
-ghost use Rattle.datasketches_c.specs.ManyJoins.{IsMerged, IsUnited, MergesAllInto, MergesCounts, MergesFrequent, UnitesAll};
-ghost use Rattle.datasketches_c.specs.Numbers.{OnRefused, max_i64, max_u64, ok};
+ghost use Rattle.datasketches_c.specs.ManyJoins.{IsMerged, IsUnited, MergesAllInto};
+ghost use Rattle.datasketches_c.specs.Numbers.{OnRefused, ok};
 ghost use Rattle.datasketches_c.specs.Sharing.{reads};
 
 use crate::any_sketch::AnySketch;
 use crate::handle::SketchHandle;
-use crate::kind::{Kind, on_kind};
+use crate::kind::Kind;
 use crate::many_handles::{give_all, refusal_of_handles, take_all, taken_parts};
 use crate::status_code::{OK, refusal_number};
 use sketch_base::Fault;
@@ -45,7 +44,11 @@ fn join_taken<K: JoinsMany>(alloc: Global, sketch: &mut K, taken: &[Option<Box<A
 }
 
 /// Combines the sketches of handles, which keep them, into a sketch.
-fn join_many_into<K: JoinsMany>(alloc: Global, sketch: &mut K, handles: &mut [SketchHandle]) -> i32
+pub(crate) fn join_many_into<K: JoinsMany>(
+    alloc: Global,
+    sketch: &mut K,
+    handles: &mut [SketchHandle],
+) -> i32
     ensures kept { map (λ handle. handle.value) handles.new ≡ map (λ handle. handle.value) handles.old }
     ensures call { OnEachKind (reads K.part) (map (λ handle. handle.value) handles.old) result (λ bs.
         OrNoMemory result bs (K.joins_many sketch.old bs sketch.new result)) }
@@ -61,22 +64,6 @@ fn join_many_into<K: JoinsMany>(alloc: Global, sketch: &mut K, handles: &mut [Sk
     let answer = join_taken(alloc, sketch, &taken);
     give_all(alloc, handles, taken);
     answer
-}
-
-/// Combines the sketches of the other handles, which keep them, into the sketch of a handle. Returns `NO_SKETCH` or
-/// `WRONG_KIND` for the first handle without a sketch of the kind, and `NoMemory` if a list cannot be allocated.
-fn join_many<K: JoinsMany>(
-    alloc: Global,
-    handle: &mut SketchHandle,
-    others: &mut [SketchHandle],
-) -> i32
-    ensures others { map (λ other. other.value) others.new ≡ map (λ other. other.value) others.old }
-    ensures refused { OnRefused result (handle.new.value ≡ handle.old.value) }
-    ensures call { OnKind K.part handle.old.value handle.new.value result (λ a.
-        OnEachKind (reads K.part) (map (λ other. other.value) others.old) result (λ bs.
-        OrNoMemory result bs (HoldsKind K.part handle.new.value (λ c. K.joins_many a bs c result)))) }
-{
-    on_kind!(alloc, handle, K, sketch => join_many_into(alloc, sketch, others))
 }
 
 impl JoinsMany for BloomFilter {
@@ -141,143 +128,4 @@ impl JoinsMany for FrequentItemsSketch<String> {
     fn join_with_many(&mut self, others: &[&FrequentItemsSketch<String>]) -> i32 {
         merge_frequent(self, others)
     }
-}
-
-/// Adds the positions of the other filters, in one call. The other filters stay as they were.
-///
-/// Returns the first of these errors, and then changes nothing:
-///
-/// - `NO_SKETCH` if a handle has no sketch, and `WRONG_KIND` if its sketch is of another kind. The errors of `handle`
-///   come first, then those of `others`, in order.
-/// - `NoMemory` if the list of the other filters cannot be allocated, of two words for each.
-/// - `Mismatch` if another filter differs from this one in shape or seed.
-#[unsafe(no_mangle)]
-pub extern "C" fn ds_bloom_union_all(
-    alloc: Global,
-    handle: &mut SketchHandle,
-    others: &mut [SketchHandle],
-) -> i32
-    ensures others { map (λ other. other.value) others.new ≡ map (λ other. other.value) others.old }
-    ensures refused { OnRefused result (handle.new.value ≡ handle.old.value) }
-    ensures call { UnitesAll handle.old.value handle.new.value result (map (λ other. other.value) others.old) }
-{
-    join_many::<BloomFilter>(alloc, handle, others)
-}
-
-/// Adds the cells and totals of the other sketches, in one call. The other sketches stay as they were.
-///
-/// Returns the first of these errors, and then changes nothing:
-///
-/// - `NO_SKETCH` if a handle has no sketch, and `WRONG_KIND` if its sketch is of another kind. The errors of `handle`
-///   come first, then those of `others`, in order.
-/// - `NoMemory` if the list of the other sketches cannot be allocated, of two words for each.
-/// - `Mismatch` if another sketch differs from this one in shape or seed.
-/// - `WeightOverflow` if the totals together exceed 2^64 - 1.
-#[unsafe(no_mangle)]
-pub extern "C" fn ds_count_min_u64_merge_all(
-    alloc: Global,
-    handle: &mut SketchHandle,
-    others: &mut [SketchHandle],
-) -> i32
-    ensures others { map (λ other. other.value) others.new ≡ map (λ other. other.value) others.old }
-    ensures refused { OnRefused result (handle.new.value ≡ handle.old.value) }
-    ensures call { MergesCounts count_u64_of max_u64 handle.old.value handle.new.value result
-        (map (λ other. other.value) others.old) }
-{
-    join_many::<CountMinSketch<u64>>(alloc, handle, others)
-}
-
-/// Adds the cells and totals of the other sketches, in one call. The other sketches stay as they were.
-///
-/// Returns the first of these errors, and then changes nothing:
-///
-/// - `NO_SKETCH` if a handle has no sketch, and `WRONG_KIND` if its sketch is of another kind. The errors of `handle`
-///   come first, then those of `others`, in order.
-/// - `NoMemory` if the list of the other sketches cannot be allocated, of two words for each.
-/// - `Mismatch` if another sketch differs from this one in shape or seed.
-/// - `WeightOverflow` if the totals together exceed 2^63 - 1.
-#[unsafe(no_mangle)]
-pub extern "C" fn ds_count_min_i64_merge_all(
-    alloc: Global,
-    handle: &mut SketchHandle,
-    others: &mut [SketchHandle],
-) -> i32
-    ensures others { map (λ other. other.value) others.new ≡ map (λ other. other.value) others.old }
-    ensures refused { OnRefused result (handle.new.value ≡ handle.old.value) }
-    ensures call { MergesCounts count_i64_of max_i64 handle.old.value handle.new.value result
-        (map (λ other. other.value) others.old) }
-{
-    join_many::<CountMinSketch<i64>>(alloc, handle, others)
-}
-
-/// Merges the other sketches into this one, in order and in one call. This one then stands for all streams and keeps its
-/// own sizes. The other sketches stay as they were. Allocates one copy of this sketch, not one for each other sketch.
-///
-/// Returns the first of these errors, and then changes nothing:
-///
-/// - `NO_SKETCH` if a handle has no sketch, and `WRONG_KIND` if its sketch is of another kind. The errors of `handle`
-///   come first, then those of `others`, in order.
-/// - `NoMemory` if the list of the other sketches cannot be allocated, of two words for each.
-/// - `WeightOverflow` if the totals together exceed 2^64 - 1.
-/// - `NoMemory` if another allocation fails.
-#[unsafe(no_mangle)]
-pub extern "C" fn ds_frequent_items_string_merge_all(
-    alloc: Global,
-    handle: &mut SketchHandle,
-    others: &mut [SketchHandle],
-) -> i32
-    ensures others { map (λ other. other.value) others.new ≡ map (λ other. other.value) others.old }
-    ensures refused { OnRefused result (handle.new.value ≡ handle.old.value) }
-    ensures call { MergesFrequent frequent_strings_of strings_eq handle.old.value handle.new.value result
-        (map (λ other. other.value) others.old) }
-{
-    join_many::<FrequentItemsSketch<String>>(alloc, handle, others)
-}
-
-/// Merges the other sketches into this one, in order and in one call. This one then stands for all streams and keeps its
-/// own sizes. The other sketches stay as they were. Allocates one copy of this sketch, not one for each other sketch.
-///
-/// Returns the first of these errors, and then changes nothing:
-///
-/// - `NO_SKETCH` if a handle has no sketch, and `WRONG_KIND` if its sketch is of another kind. The errors of `handle`
-///   come first, then those of `others`, in order.
-/// - `NoMemory` if the list of the other sketches cannot be allocated, of two words for each.
-/// - `WeightOverflow` if the totals together exceed 2^64 - 1.
-/// - `NoMemory` if another allocation fails.
-#[unsafe(no_mangle)]
-pub extern "C" fn ds_frequent_items_u64_merge_all(
-    alloc: Global,
-    handle: &mut SketchHandle,
-    others: &mut [SketchHandle],
-) -> i32
-    ensures others { map (λ other. other.value) others.new ≡ map (λ other. other.value) others.old }
-    ensures refused { OnRefused result (handle.new.value ≡ handle.old.value) }
-    ensures call { MergesFrequent frequent_u64_of nat_eq handle.old.value handle.new.value result
-        (map (λ other. other.value) others.old) }
-{
-    join_many::<FrequentItemsSketch<u64>>(alloc, handle, others)
-}
-
-/// Merges the other sketches into this one, in order and in one call. This one then stands for all streams and keeps its
-/// own sizes. The other sketches stay as they were. Allocates one copy of this sketch, not one for each other sketch.
-///
-/// Returns the first of these errors, and then changes nothing:
-///
-/// - `NO_SKETCH` if a handle has no sketch, and `WRONG_KIND` if its sketch is of another kind. The errors of `handle`
-///   come first, then those of `others`, in order.
-/// - `NoMemory` if the list of the other sketches cannot be allocated, of two words for each.
-/// - `WeightOverflow` if the totals together exceed 2^64 - 1.
-/// - `NoMemory` if another allocation fails.
-#[unsafe(no_mangle)]
-pub extern "C" fn ds_frequent_items_i64_merge_all(
-    alloc: Global,
-    handle: &mut SketchHandle,
-    others: &mut [SketchHandle],
-) -> i32
-    ensures others { map (λ other. other.value) others.new ≡ map (λ other. other.value) others.old }
-    ensures refused { OnRefused result (handle.new.value ≡ handle.old.value) }
-    ensures call { MergesFrequent frequent_i64_of int_eq handle.old.value handle.new.value result
-        (map (λ other. other.value) others.old) }
-{
-    join_many::<FrequentItemsSketch<i64>>(alloc, handle, others)
 }

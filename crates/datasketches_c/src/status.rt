@@ -1,0 +1,140 @@
+//! The numbers of sketches of any kind.
+ghost use Rattle.std.specs.Prelude.{◌≡◌};
+ghost use Rattle.datasketches_c.specs.Sharing.{unshared};
+ghost use Rattle.datasketches_c.specs.Status.{Describes, count_numbers, frequent_numbers, no_numbers, numbers_of};
+ghost use Rattle.datasketches_c.specs.declared.any_sketch.AnySketch.TheVariants as held;
+
+use crate::any_sketch::AnySketch;
+use crate::handle::SketchHandle;
+use crate::status_code::{NO_SKETCH, OK};
+use sketch_bloom::BloomFilter;
+use sketch_countmin::{CountMinSketch, CountMinValue};
+use sketch_frequencies::FrequentItemsSketch;
+use std::alloc::Global;
+use std::hash::Hash;
+
+/// The numbers of a sketch. Those of other kinds are 0.
+#[repr(C)]
+#[derive(Clone, Copy)]
+pub struct Status {
+    pub seed: u64,
+    pub num_bits: u64,
+    pub bits_used: u64,
+    pub total_weight: u64,
+    pub maximum_error: u64,
+    pub num_active_items: u64,
+    pub maximum_map_capacity: u64,
+    pub current_map_capacity: u64,
+    pub max_map_size: u64,
+    pub sample_size: u64,
+    pub num_buckets: u32,
+    pub num_hashes: u16,
+    pub kind: u16,
+}
+
+/// Returns the numbers of a kind, all others 0.
+fn no_numbers(kind: u16) -> Status
+    ensures { result ≡ no_numbers kind }
+{
+    Status {
+        seed: 0,
+        num_bits: 0,
+        bits_used: 0,
+        total_weight: 0,
+        maximum_error: 0,
+        num_active_items: 0,
+        maximum_map_capacity: 0,
+        current_map_capacity: 0,
+        max_map_size: 0,
+        sample_size: 0,
+        num_buckets: 0,
+        num_hashes: 0,
+        kind,
+    }
+}
+
+/// Returns the numbers of a filter.
+fn filter_numbers(sketch: &BloomFilter) -> Status
+    ensures { result ≡ numbers_of (held.Filter sketch.now) }
+{
+    Status {
+        seed: sketch.seed(),
+        num_bits: sketch.capacity() as u64,
+        bits_used: sketch.bits_used(),
+        num_hashes: sketch.num_hashes(),
+        ..no_numbers(1)
+    }
+}
+
+/// Returns the numbers of a Count-Min sketch of a kind.
+fn count_numbers<V: CountMinValue>(kind: u16, sketch: &CountMinSketch<V>) -> Status
+    ensures { result ≡ count_numbers kind sketch.now }
+{
+    Status {
+        seed: sketch.seed(),
+        total_weight: sketch.total_weight().to_number() as u64,
+        num_buckets: sketch.num_buckets(),
+        num_hashes: sketch.num_hashes() as u16,
+        ..no_numbers(kind)
+    }
+}
+
+/// Returns the numbers of a sketch of frequent items of a kind.
+fn frequent_numbers<T: Eq + Hash + Drop>(kind: u16, sketch: &FrequentItemsSketch<T>) -> Status
+    ensures { result ≡ frequent_numbers kind sketch.now }
+{
+    Status {
+        total_weight: sketch.total_weight(),
+        maximum_error: sketch.maximum_error(),
+        num_active_items: sketch.num_active_items() as u64,
+        maximum_map_capacity: sketch.maximum_map_capacity() as u64,
+        current_map_capacity: sketch.current_map_capacity() as u64,
+        max_map_size: sketch.max_map_size() as u64,
+        sample_size: sketch.sample_size() as u64,
+        ..no_numbers(kind)
+    }
+}
+
+/// Returns the numbers of a sketch.
+fn numbers_of(sketch: &AnySketch) -> Status
+    ensures { result ≡ numbers_of (unshared sketch.now) }
+{
+    match sketch {
+        AnySketch::Filter(sketch) => filter_numbers(sketch),
+        AnySketch::SharedFilter(shared) => filter_numbers(&**shared),
+        AnySketch::CountU64(sketch) => count_numbers(2, sketch),
+        AnySketch::SharedCountU64(shared) => count_numbers(2, &**shared),
+        AnySketch::CountI64(sketch) => count_numbers(3, sketch),
+        AnySketch::SharedCountI64(shared) => count_numbers(3, &**shared),
+        AnySketch::FrequentU64(sketch) => frequent_numbers(4, sketch),
+        AnySketch::SharedFrequentU64(shared) => frequent_numbers(4, &**shared),
+        AnySketch::FrequentI64(sketch) => frequent_numbers(5, sketch),
+        AnySketch::SharedFrequentI64(shared) => frequent_numbers(5, &**shared),
+        AnySketch::FrequentStrings(sketch) => frequent_numbers(6, sketch),
+        AnySketch::SharedFrequentStrings(shared) => frequent_numbers(6, &**shared),
+        AnySketch::Moved => no_numbers(0),
+    }
+}
+
+/// Writes the numbers of the handle's sketch, of any kind: of a filter its set bits, all its bits, the seed and the number of hashes;
+/// of a Count-Min sketch the total weight, the seed, the number of buckets in a row, and the number of hashes, one for each row; of
+/// frequent items the total weight, the error, the number of counters, the capacities in counters, the maximum size in slots and the
+/// sample size in counters. The numbers that a kind does not have are 0.
+///
+/// Returns `NO_SKETCH` if the handle has no sketch. Then nothing changes.
+#[unsafe(no_mangle)]
+pub extern "C" fn ds_get_status(
+    alloc: Global,
+    handle: &mut SketchHandle,
+    status: &mut Status,
+) -> i32
+    ensures kept { handle.new.value ≡ handle.old.value }
+    ensures numbers { Describes handle.old.value result status.old status.new }
+{
+    let Some(sketch) = handle.take(alloc) else {
+        return NO_SKETCH;
+    };
+    *status = numbers_of(&sketch);
+    handle.give(sketch);
+    OK
+}
