@@ -22,11 +22,15 @@ enum { SLOTS = 1 << 16, SAMPLE = 1024, MOST = SLOTS / 4 * 3, ROUNDS = 15 };
 
 /* --- The libraries --- */
 
-#define CALLS(X, kind) X(kind, update) X(kind, update_all) X(kind, bounds_all) X(kind, merge) X(kind, serialize)
+#define CALLS(X, kind) X(kind, update) X(kind, update_all) X(kind, bounds_all)
 #define FIELD(kind, call) __typeof__(&ds_frequent_items_##kind##_##call) kind##_##call;
 
-/* The functions of a library. Those of one without keys are `create` and `read`, and of one with keys `create_with_key` and
- * `read_with_key`, for numbers and for strings. */
+/* The calls of the library with keys that create and read a sketch of a kind under a key. Its archive exports them. */
+typedef int32_t new_frequent_items(ds_sketch *, int32_t, size_t, size_t, uint64_t, uint64_t);
+typedef int32_t read_image_call(ds_sketch *, int32_t, const uint8_t *, size_t, size_t, uint64_t, uint64_t, uint64_t, size_t *);
+
+/* The functions of a library. One without keys has calls of each kind, for numbers and for strings: `create` and `read`. One with
+ * keys has `create_under_key` and `read_under_key` of any kind. */
 struct library {
     const char *label, *program;
     bool is_keyed;
@@ -34,9 +38,11 @@ struct library {
     CALLS(FIELD, string)
     __typeof__(&ds_frequent_items_i64_update_all_weighted) i64_update_all_weighted;
     int32_t (*create[2])(ds_sketch *, size_t, size_t);
-    int32_t (*create_with_key[2])(ds_sketch *, size_t, size_t, uint64_t, uint64_t);
     int32_t (*read[2])(ds_sketch *, const uint8_t *, size_t, size_t);
-    int32_t (*read_with_key[2])(ds_sketch *, const uint8_t *, size_t, size_t, uint64_t, uint64_t);
+    new_frequent_items *create_under_key;
+    read_image_call *read_under_key;
+    __typeof__(&ds_merge) merge[2];
+    __typeof__(&ds_serialize) serialize[2];
     __typeof__(&ds_clone) clone;
     __typeof__(&ds_free) free;
 };
@@ -60,7 +66,7 @@ static struct library opened(const char *path, const char *program)
     void *object = dlopen(path, RTLD_NOW | RTLD_LOCAL);
     check(object, dlerror());
     struct library library = {.program = program};
-    library.is_keyed = dlsym(object, "ds_frequent_items_i64_new_with_key") != NULL;
+    library.is_keyed = dlsym(object, "ds_new_frequent_items") != NULL;
     library.label = library.is_keyed ? "keyed" : "plain";
 #define LOAD(kind, call) library.kind##_##call = function(object, "ds_frequent_items_" #kind "_" #call);
     CALLS(LOAD, i64)
@@ -72,12 +78,18 @@ static struct library opened(const char *path, const char *program)
     snprintf(name, sizeof name, "ds_frequent_items_%s_%s", strings ? "string" : "i64", call), \
         library.field[strings] = function(object, name);
         if (library.is_keyed) {
-            LOAD_NAMED(create_with_key, "new_with_key")
-            LOAD_NAMED(read_with_key, "deserialize_with_key")
+            library.merge[strings] = function(object, "ds_merge");
+            library.serialize[strings] = function(object, "ds_serialize");
         } else {
             LOAD_NAMED(create, "new")
             LOAD_NAMED(read, "deserialize")
+            LOAD_NAMED(merge, "merge")
+            LOAD_NAMED(serialize, "serialize")
         }
+    }
+    if (library.is_keyed) {
+        library.create_under_key = function(object, "ds_new_frequent_items");
+        library.read_under_key = function(object, "ds_read_image");
     }
     library.clone = function(object, "ds_clone");
     library.free = function(object, dlsym(object, "ds_free") ? "ds_free" : "ds_free_handle");
@@ -208,18 +220,24 @@ static uint64_t key_word(void)
     return random_of(start + count++);
 }
 
+static int32_t kind_of(bool numbers)
+{
+    return numbers ? DS_FREQUENT_ITEMS_I64 : DS_FREQUENT_ITEMS_STRING;
+}
+
 static void create(const struct library *library, ds_sketch *sketch, bool numbers, size_t slots)
 {
     size_t sample = slots / 4 * 3 < SAMPLE ? slots / 4 * 3 : SAMPLE;
-    check(!(library->is_keyed ? library->create_with_key[!numbers](sketch, slots, sample, key_word(), key_word())
+    check(!(library->is_keyed ? library->create_under_key(sketch, kind_of(numbers), slots, sample, key_word(), key_word())
                               : library->create[!numbers](sketch, slots, sample)),
           "new");
 }
 
 static int32_t read_image(const struct library *library, ds_sketch *sketch, bool numbers, const uint8_t *image, size_t length)
 {
-    return library->is_keyed ? library->read_with_key[!numbers](sketch, image, length, SIZE_MAX, key_word(), key_word())
-                             : library->read[!numbers](sketch, image, length, SIZE_MAX);
+    size_t used;
+    if (!library->is_keyed) return library->read[!numbers](sketch, image, length, SIZE_MAX);
+    return library->read_under_key(sketch, kind_of(numbers), image, length, SIZE_MAX, 0, key_word(), key_word(), &used);
 }
 
 static void update_all(const struct library *library, ds_sketch *sketch, const struct items *items)
@@ -312,11 +330,9 @@ static double run(const struct library *library, enum operation operation, struc
         bounds_all(library, held, &work->absent, bounds);
         count = work->absent.count;
         break;
-    case WRITE:
-        result = (numbers ? library->i64_serialize : library->string_serialize)(held, buffer, sizeof buffer, &written);
-        break;
+    case WRITE: result = library->serialize[!numbers](held, buffer, sizeof buffer, &written); break;
     case READ: result = read_image(library, &sketch, numbers, work->image, work->image_length); break;
-    case MERGE: result = (numbers ? library->i64_merge : library->string_merge)(&sketch, held); break;
+    case MERGE: result = library->merge[!numbers](&sketch, held); break;
     case WEIGHTED: result = library->i64_update_all_weighted(&sketch, work->items.numbers, count, work->weights, count); break;
     }
     double took = now() - began;
@@ -432,7 +448,7 @@ static void learned(const struct library *library)
         struct items items = random_numbers((1ull << 35) + i * EACH, EACH);
         check(!library->clone(&sketch, &empty), "clone");
         update_all(library, &sketch, &items);
-        check(!library->i64_serialize(&sketch, buffer, sizeof buffer, &written), "serialize");
+        check(!library->serialize[0](&sketch, buffer, sizeof buffer, &written), "serialize");
         memcpy(near.numbers + found, buffer + 32 + 8 * EACH, EACH / IMAGES * 8);
         found += EACH / IMAGES;
         free(items.numbers);

@@ -17,7 +17,7 @@ static int failed(const char *call, int32_t result)
 int main(void)
 {
     ds_sketch seen = DS_NONE;
-    ds_bloom_status status;
+    ds_status status;
     char word[256];
     unsigned long words = 0, first = 0;
 
@@ -33,9 +33,9 @@ int main(void)
             ds_bloom_insert_string(&seen, text, strlen(word));
         }
     }
-    ds_bloom_get_status(&seen, &status);
+    ds_get_status(&seen, &status);
     printf("%lu words, %lu of them for the first time\n", words, first);
-    printf("the filter has %llu of %llu bits set\n", (unsigned long long)status.bits_used, (unsigned long long)status.capacity);
+    printf("the filter has %llu of %llu bits set\n", (unsigned long long)status.bits_used, (unsigned long long)status.num_bits);
     ds_free(&seen);
     return 0;
 }

@@ -4,9 +4,7 @@
  *     costs --numbers FILE    writes numbers of one home, 8 bytes each
  *     costs --tenants FILE    writes tenants of one group of a map, 8 bytes each
  *     costs --names FILE      the same of names, which have 8 bytes
- *     costs FILE              makes the calls, with these numbers
- *
- * Compiled with HAS_KEYS it also makes calls with items that collide in a table without a key. */
+ *     costs FILE              makes the calls, with these numbers */
 #include "../../bench/hostile_items.h"
 #include <datasketches.h>
 #include <stdio.h>
@@ -24,6 +22,8 @@ static ds_string strings[MOST];
 static uint8_t words[WORD * MOST], lines[WORD * MOST], spaces[WORD * MOST], one_word[WORD * MOST];
 static uint8_t colliding[COLLIDING * COLLIDING_LENGTH], image[1 << 24];
 static ds_sketch others[MOST];
+static const ds_key key = {1, 2};
+static const ds_image_options unlimited = {SIZE_MAX, 9001, NULL}, keyed = {SIZE_MAX, 9001, &key};
 
 static void check(bool holds, const char *what)
 {
@@ -59,49 +59,40 @@ static void new_filter(ds_sketch *handle, size_t bits)
 }
 static void new_count(ds_sketch *handle, size_t buckets)
 {
-    check(!ds_count_min_u64_new(handle, 4, buckets, 9001), "count");
+    check(!ds_count_min_new(handle, DS_COUNT_MIN_U64, 4, buckets, 9001), "count");
 }
 static void new_signed(size_t buckets)
 {
-    check(!ds_count_min_i64_new(&sketch, 4, buckets, 9001), "count");
+    check(!ds_count_min_new(&sketch, DS_COUNT_MIN_I64, 4, buckets, 9001), "count");
 }
 static void new_numbers(ds_sketch *handle)
 {
-    check(!ds_frequent_items_u64_new(handle, SLOTS, SAMPLE), "numbers");
+    check(!ds_frequent_items_new(handle, DS_FREQUENT_ITEMS_U64, SLOTS, SAMPLE, NULL), "numbers");
 }
-#ifdef HAS_KEYS
 static void new_keyed(ds_sketch *handle)
 {
-    check(!ds_frequent_items_u64_new_with_key(handle, SLOTS, SAMPLE, 1, 2), "key");
+    check(!ds_frequent_items_new(handle, DS_FREQUENT_ITEMS_U64, SLOTS, SAMPLE, &key), "key");
 }
-#endif
 static void new_strings(ds_sketch *handle)
 {
-    check(!ds_frequent_items_string_new(handle, SLOTS, SAMPLE), "strings");
+    check(!ds_frequent_items_new(handle, DS_FREQUENT_ITEMS_STRING, SLOTS, SAMPLE, NULL), "strings");
 }
 
-typedef int32_t (*writer)(ds_sketch *, uint8_t *, size_t, size_t *);
-typedef int32_t (*prefix_reader)(ds_sketch *, const uint8_t *, size_t, size_t, size_t *);
-
 /* Writes the image of `other` n times, one after another, and returns the length of all. */
-static size_t images_of(writer serialize, size_t n)
+static size_t images_of(size_t n)
 {
     size_t at = 0, written;
-    for (size_t i = 0; i < n; i++, at += written) check(!serialize(&other, image + at, sizeof image - at, &written), "images");
+    for (size_t i = 0; i < n; i++, at += written) check(!ds_serialize(&other, image + at, sizeof image - at, &written), "images");
     return at;
 }
 
-/* Reads images one after another, each from the front of all that is left, and returns their number. */
-static size_t read_images(prefix_reader read, size_t length)
+/* Reads images of a kind one after another, each from the front of all that is left, and returns their number. */
+static size_t read_images(int32_t kind, size_t length)
 {
     size_t count = 0, used;
-    for (size_t at = 0; at < length; at += used, count++) check(!read(&sketch, image + at, length - at, SIZE_MAX, &used), "images");
+    for (size_t at = 0; at < length; at += used, count++)
+        check(!ds_deserialize_prefix(&sketch, kind, image + at, length - at, &unlimited, &used), "images");
     return count;
-}
-
-static int32_t count_prefix(ds_sketch *handle, const uint8_t *bytes, size_t length, size_t max_bytes, size_t *used)
-{
-    return ds_count_min_u64_deserialize_prefix(handle, bytes, length, 9001, max_bytes, used);
 }
 
 static void filters(void)
@@ -119,29 +110,29 @@ static void filters(void)
          ds_bloom_contains_and_insert_all_string(&sketch, words, WORD * n, offsets, n + 1, answers, n))
     COST("bloom_contains_and_insert_all_string_pairs", ,
          ds_bloom_contains_and_insert_all_string_pairs(&sketch, strings, n, answers, n))
-    COST("bloom_image_contains_all_u64", check(!ds_bloom_serialize(&sketch, image, sizeof image, &length), "image"),
+    COST("bloom_image_contains_all_u64", check(!ds_serialize(&sketch, image, sizeof image, &length), "image"),
          ds_bloom_image_contains_all_u64(image, length, numbers, n, answers, n))
     COST("bloom_insert_string", , ds_bloom_insert_string(&sketch, one_word, WORD * n))
-    COST_OF("bloom_image_contains_string", check(!ds_bloom_serialize(&sketch, image, sizeof image, &length), "image"),
+    COST_OF("bloom_image_contains_string", check(!ds_serialize(&sketch, image, sizeof image, &length), "image"),
             ds_bloom_image_contains_string(image, length, one_word, WORD * n) >= 0, true)
     COST("bloom_insert_words", , ds_bloom_insert_words(&sketch, words, WORD * n))
     COST("bloom_insert_words of spaces", , ds_bloom_insert_words(&sketch, spaces, WORD * n))
     COST("bloom_insert_words of one word", , ds_bloom_insert_words(&sketch, one_word, WORD * n))
     COST("bloom_insert_lines", , ds_bloom_insert_lines(&sketch, lines, WORD * n))
     COST("bloom_deserialize", new_filter(&other, 64 * n); ds_bloom_insert_u64(&other, 1);
-         check(!ds_bloom_serialize(&other, image, sizeof image, &length), "image"),
-         ds_bloom_deserialize(&sketch, image, length, SIZE_MAX))
+         check(!ds_serialize(&other, image, sizeof image, &length), "image"),
+         ds_deserialize(&sketch, DS_BLOOM, image, length, &unlimited))
     COST("bloom_deserialize of an empty filter", new_filter(&other, 64 * n);
-         check(!ds_bloom_serialize(&other, image, sizeof image, &length), "image"),
-         ds_bloom_deserialize(&sketch, image, length, SIZE_MAX))
+         check(!ds_serialize(&other, image, sizeof image, &length), "image"),
+         ds_deserialize(&sketch, DS_BLOOM, image, length, &unlimited))
     COST_OF("bloom_deserialize, rejected at the end", new_filter(&other, 64 * n); ds_bloom_insert_u64(&other, 1);
-            check(!ds_bloom_serialize(&other, image, sizeof image, &length), "image");
-            image[24]++, ds_bloom_deserialize(&sketch, image, length, SIZE_MAX), DS_BAD_BIT_COUNT)
+            check(!ds_serialize(&other, image, sizeof image, &length), "image");
+            image[24]++, ds_deserialize(&sketch, DS_BLOOM, image, length, &unlimited), DS_BAD_BIT_COUNT)
     COST_OF("bloom_deserialize_prefix of each image", new_filter(&other, 64); ds_bloom_insert_u64(&other, 1);
-            length = images_of(ds_bloom_serialize, n), read_images(ds_bloom_deserialize_prefix, length), n)
-    COST("bloom_union", new_filter(&sketch, 64 * n); new_filter(&other, 64 * n), ds_bloom_union(&sketch, &other))
-    COST("bloom_union_all", new_filter(&sketch, 64);
-         for (size_t i = 0; i < n; i++) new_filter(&others[i], 64), ds_bloom_union_all(&sketch, others, n))
+            length = images_of(n), read_images(DS_BLOOM, length), n)
+    COST("bloom_merge", new_filter(&sketch, 64 * n); new_filter(&other, 64 * n), ds_merge(&sketch, &other))
+    COST("bloom_merge_all", new_filter(&sketch, 64);
+         for (size_t i = 0; i < n; i++) new_filter(&others[i], 64), ds_merge_all(&sketch, others, n))
 }
 
 static void counts(void)
@@ -158,26 +149,27 @@ static void counts(void)
          ds_count_min_u64_estimate_all_string(&sketch, words, WORD * n, offsets, n + 1, estimates, n))
     COST("count_min_update_all_string_pairs", , ds_count_min_u64_update_all_string_pairs(&sketch, strings, n))
     COST("count_min_update_string", , ds_count_min_u64_update_string(&sketch, one_word, WORD * n, 1))
-    COST("count_min_image_estimate_string", check(!ds_count_min_u64_serialize(&sketch, image, sizeof image, &length), "image"),
+    COST("count_min_image_estimate_string", check(!ds_serialize(&sketch, image, sizeof image, &length), "image"),
          ds_count_min_u64_image_estimate_string(image, length, 9001, one_word, WORD * n, estimates))
     COST("count_min_update_words", , ds_count_min_u64_update_words(&sketch, words, WORD * n))
     COST("count_min_update_words of spaces", , ds_count_min_u64_update_words(&sketch, spaces, WORD * n))
     COST("count_min_update_lines", , ds_count_min_u64_update_lines(&sketch, lines, WORD * n))
     COST("count_min_deserialize", new_count(&other, n); ds_count_min_u64_update_u64(&other, 1, 1);
-         check(!ds_count_min_u64_serialize(&other, image, sizeof image, &length), "image"),
-         ds_count_min_u64_deserialize(&sketch, image, length, 9001, SIZE_MAX))
+         check(!ds_serialize(&other, image, sizeof image, &length), "image"),
+         ds_deserialize(&sketch, DS_COUNT_MIN_U64, image, length, &unlimited))
     COST("count_min_deserialize of an empty sketch", new_count(&other, n);
-         check(!ds_count_min_u64_serialize(&other, image, sizeof image, &length), "image"),
-         ds_count_min_u64_deserialize(&sketch, image, length, 9001, SIZE_MAX))
+         check(!ds_serialize(&other, image, sizeof image, &length), "image"),
+         ds_deserialize(&sketch, DS_COUNT_MIN_U64, image, length, &unlimited))
     COST_OF("count_min_deserialize, rejected at the end", new_count(&other, n); ds_count_min_u64_update_u64(&other, 1, 1);
-            check(!ds_count_min_u64_serialize(&other, image, sizeof image, &length), "image");
-            image[length - 8] = 9, ds_count_min_u64_deserialize(&sketch, image, length, 9001, SIZE_MAX), DS_CELL_ABOVE_TOTAL)
+            check(!ds_serialize(&other, image, sizeof image, &length), "image");
+            image[length - 8] = 9, ds_deserialize(&sketch, DS_COUNT_MIN_U64, image, length, &unlimited), DS_CELL_ABOVE_TOTAL)
     COST_OF("count_min_deserialize_prefix of each image", new_count(&other, 3); ds_count_min_u64_update_u64(&other, 1, 1);
-            length = images_of(ds_count_min_u64_serialize, n), read_images(count_prefix, length), n)
+            length = images_of(n), read_images(DS_COUNT_MIN_U64, length), n)
     COST("count_min_merge", new_count(&sketch, n); new_count(&other, n);
-         ds_count_min_u64_update_u64(&other, 1, 1), ds_count_min_u64_merge(&sketch, &other))
+         ds_count_min_u64_update_u64(&other, 1, 1), ds_merge(&sketch, &other))
     COST("count_min_merge_all", new_count(&sketch, 3);
-         for (size_t i = 0; i < n; i++) new_count(&others[i], 3), ds_count_min_u64_merge_all(&sketch, others, n))
+         for (size_t i = 0; i < n; i++) new_count(&others[i], 3), ds_merge_all(&sketch, others, n))
+    COST("count_min_reset", new_count(&sketch, n); ds_count_min_u64_update_u64(&sketch, 1, 1), ds_reset(&sketch))
     new_signed(1 << 12);
     COST("count_min_i64_update_all_weighted_u64", ,
          ds_count_min_i64_update_all_weighted_u64(&sketch, numbers, n, signed_weights, n))
@@ -205,14 +197,13 @@ static void frequent_numbers(const char *kind, const uint64_t *items)
          ds_frequent_items_u64_update_all_weighted(&sketch, items, n, weights, n))
     COST(NAMED("bounds_all"), , ds_frequent_items_u64_bounds_all(&sketch, items, n, bounds, n))
     COST(NAMED("deserialize"), size_t length = image_of(items, n),
-         ds_frequent_items_u64_deserialize(&sketch, image, length, SIZE_MAX))
+         ds_deserialize(&sketch, DS_FREQUENT_ITEMS_U64, image, length, &unlimited))
     COST(NAMED("serialized_bytes"), size_t length; new_numbers(&sketch);
-         ds_frequent_items_u64_update_all(&sketch, items, n), ds_frequent_items_u64_serialized_bytes(&sketch, &length))
+         ds_frequent_items_u64_update_all(&sketch, items, n), ds_serialized_bytes(&sketch, &length))
     COST(NAMED("serialize"), size_t length; new_numbers(&sketch);
-         ds_frequent_items_u64_update_all(&sketch, items, n),
-         ds_frequent_items_u64_serialize(&sketch, image, sizeof image, &length))
+         ds_frequent_items_u64_update_all(&sketch, items, n), ds_serialize(&sketch, image, sizeof image, &length))
     COST(NAMED("merge"), new_numbers(&sketch); new_numbers(&other); ds_frequent_items_u64_update_all(&sketch, items, n / 2);
-         ds_frequent_items_u64_update_all(&other, items + n / 2, n / 2), ds_frequent_items_u64_merge(&sketch, &other))
+         ds_frequent_items_u64_update_all(&other, items + n / 2, n / 2), ds_merge(&sketch, &other))
 }
 
 static void frequent_items(void)
@@ -224,7 +215,7 @@ static void frequent_items(void)
             new_numbers(&others[i]);
             ds_frequent_items_u64_update(&others[i], numbers[i], 1);
         },
-                                                          ds_frequent_items_u64_merge_all(&sketch, others, n))
+                                                          ds_merge_all(&sketch, others, n))
     COST("frequent_items_update_all_string", new_strings(&sketch),
          ds_frequent_items_string_update_all(&sketch, words, WORD * n, offsets, n + 1))
     COST("frequent_items_update_all_weighted_string", new_strings(&sketch),
@@ -239,25 +230,22 @@ static void frequent_items(void)
     COST("frequent_items_update_lines", new_strings(&sketch), ds_frequent_items_string_update_lines(&sketch, lines, WORD * n))
     COST("frequent_items_deserialize, strings", new_strings(&other);
          ds_frequent_items_string_update_all(&other, words, WORD * n, offsets, n + 1);
-         check(!ds_frequent_items_string_serialize(&other, image, sizeof image, &length), "image"),
-         ds_frequent_items_string_deserialize(&sketch, image, length, SIZE_MAX))
+         check(!ds_serialize(&other, image, sizeof image, &length), "image"),
+         ds_deserialize(&sketch, DS_FREQUENT_ITEMS_STRING, image, length, &unlimited))
     COST_OF("frequent_items_deserialize_prefix of each image, numbers", new_numbers(&other);
-            ds_frequent_items_u64_update(&other, 7, 1); length = images_of(ds_frequent_items_u64_serialize, n),
-                                                        read_images(ds_frequent_items_u64_deserialize_prefix, length), n)
+            ds_frequent_items_u64_update(&other, 7, 1); length = images_of(n), read_images(DS_FREQUENT_ITEMS_U64, length), n)
     COST_OF("frequent_items_deserialize_prefix of each image, strings", new_strings(&other);
             ds_frequent_items_string_update(&other, words, WORD, 1);
-            length = images_of(ds_frequent_items_string_serialize, n),
-            read_images(ds_frequent_items_string_deserialize_prefix, length), n)
+            length = images_of(n), read_images(DS_FREQUENT_ITEMS_STRING, length), n)
     COST("frequent_items_serialized_bytes, strings", new_strings(&other);
-         ds_frequent_items_string_update_all(&other, words, WORD * n, offsets, n + 1),
-         ds_frequent_items_string_serialized_bytes(&other, &length))
+         ds_frequent_items_string_update_all(&other, words, WORD * n, offsets, n + 1), ds_serialized_bytes(&other, &length))
     COST("frequent_items_serialize, strings", new_strings(&other);
          ds_frequent_items_string_update_all(&other, words, WORD * n, offsets, n + 1),
-         ds_frequent_items_string_serialize(&other, image, sizeof image, &length))
+         ds_serialize(&other, image, sizeof image, &length))
     COST_OF("frequent_items_deserialize, rejected at the end", new_strings(&other);
             ds_frequent_items_string_update_all(&other, words, WORD * n, offsets, n + 1);
-            check(!ds_frequent_items_string_serialize(&other, image, sizeof image, &length), "image");
-            image[length - 1] = 0xff, ds_frequent_items_string_deserialize(&sketch, image, length, SIZE_MAX), DS_INVALID_UTF8)
+            check(!ds_serialize(&other, image, sizeof image, &length), "image");
+            image[length - 1] = 0xff, ds_deserialize(&sketch, DS_FREQUENT_ITEMS_STRING, image, length, &unlimited), DS_INVALID_UTF8)
     COST_OF("frequent_items_update_all_string, bad offset at the end", uint64_t last = offsets[n];
             offsets[n] = 0, ds_frequent_items_string_update_all(&sketch, words, WORD * n, offsets, n + 1),
             (offsets[n] = last, DS_BAD_OFFSETS))
@@ -269,7 +257,6 @@ static void frequent_items(void)
 /* Items that collide in a table without a key. */
 static void hostile_items(void)
 {
-#ifdef HAS_KEYS
     enum { EACH = COLLIDING_LENGTH };
     frequent_numbers("numbers of one home", one_home);
     COST("frequent_items_update_all, numbers of one home, given key", new_keyed(&sketch),
@@ -279,24 +266,21 @@ static void hostile_items(void)
          ds_frequent_items_string_update_all(&sketch, colliding, EACH * (n * 4 / 5), offsets, n * 4 / 5 + 1))
     COST("frequent_items_bounds_all_string, strings of one hash", ,
          ds_frequent_items_string_bounds_all(&sketch, colliding, EACH * (n * 4 / 5), offsets, n * 4 / 5 + 1, bounds, n * 4 / 5))
-#endif
 }
 
 /* Tables under one key, as those of a session or of a tenant's windows. A walk yields the items of one table in an order of homes,
  * which are those of the other table. */
 static void one_key(void)
 {
-#ifdef HAS_KEYS
     COST("frequent_items_merge, tables of one key and size", new_keyed(&sketch); new_keyed(&other);
          ds_frequent_items_u64_update_all(&sketch, numbers, n / 2);
-         ds_frequent_items_u64_update_all(&other, numbers + n / 2, n / 2), ds_frequent_items_u64_merge(&sketch, &other))
+         ds_frequent_items_u64_update_all(&other, numbers + n / 2, n / 2), ds_merge(&sketch, &other))
     COST("frequent_items_merge, an empty table of the same key", new_keyed(&sketch); new_keyed(&other);
-         ds_frequent_items_u64_update_all(&other, numbers, n), ds_frequent_items_u64_merge(&sketch, &other))
+         ds_frequent_items_u64_update_all(&other, numbers, n), ds_merge(&sketch, &other))
     COST("frequent_items_deserialize, an image of a table of the same key", size_t length; new_keyed(&other);
          ds_frequent_items_u64_update_all(&other, numbers, n);
-         check(!ds_frequent_items_u64_serialize(&other, image, sizeof image, &length), "image"),
-         ds_frequent_items_u64_deserialize_with_key(&sketch, image, length, SIZE_MAX, 1, 2))
-#endif
+         check(!ds_serialize(&other, image, sizeof image, &length), "image"),
+         ds_deserialize(&sketch, DS_FREQUENT_ITEMS_U64, image, length, &keyed))
 }
 
 static void others_calls(void)

@@ -75,8 +75,7 @@ class Tests:
         """Compares the calls of the C library."""
         built = os.path.join(self.work, "library")
         subprocess.run(["bash", f"{TOP}/bindings/c/build.sh", built, *archive], check=True, stdout=subprocess.DEVNULL)
-        has_keys = ["-DHAS_KEYS"] if contains(f"{built}/libdatasketches.a", b"ds_frequent_items_u64_new_with_key") else []
-        driver = self.compile(*has_keys, f"{HERE}/costs.c", f"{built}/libdatasketches.a")
+        driver = self.compile(f"{HERE}/costs.c", f"{built}/libdatasketches.a")
         for kind in ("numbers", "tenants", "names"):
             subprocess.run([driver, f"--{kind}", os.path.join(self.work, kind)], check=True)
         ran, counted = self.callgrind([driver, os.path.join(self.work, "numbers")], "calls")

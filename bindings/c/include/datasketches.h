@@ -29,11 +29,11 @@
  *
  *  1. A handle is created as `DS_NONE`, is changed by these calls alone, and is not copied. What it holds belongs to the
  *     library: `ds_free` frees it, and so does a call that puts another sketch into the handle.
- *  2. Pointers are not null, but for that of `ds_free`, are aligned for their type, and point to as many values as their count
- *     says. A caller may read these values, and write them where there is no `const`. No two arguments of a call overlap. The
- *     strings of pairs may overlap one another, but not the array of pairs or another argument. The pointer of an empty string is
- *     not null either. While a call runs, nothing else writes what it reads or writes, also in a file that is mapped, and nothing
- *     unmaps or truncates it.
+ *  2. Pointers are not null, but for those of `ds_free` and of keys, are aligned for their type, and point to as many values as
+ *     their count says. A caller may read these values, and write them where there is no `const`. No two arguments of a call
+ *     overlap. The strings of pairs may overlap one another, but not the array of pairs or another argument. The pointer of an
+ *     empty string is not null either. While a call runs, nothing else writes what it reads or writes, also in a file that is
+ *     mapped, and nothing unmaps or truncates it.
  *  3. One call at a time uses a handle. Another thread may use it later if a lock, a thread's start or a join lies between.
  *     Two threads may use two handles at once, also two of one shared sketch. So threads that read one sketch at once have a
  *     handle each: see `ds_share`.
@@ -42,10 +42,10 @@
  *  6. A `bool` that the library reads is 0 or 1.
  *
  * `datasketches_checks.h`, which this header includes, checks parts of rule 2, at next to no cost. The same handle twice, a handle
- * that is also in the array of others, a null pointer with a count above 0, or a null pointer in a pair returns DS_BAD_ARGUMENT. A
- * null pointer with the count 0 means no values. These checks are macros of the calls' names, so callers from other languages have
- * none. `(ds_bloom_union)(a, b)`, in brackets, is the call without them. Define `DS_NO_CHECKS` before this header to leave all
- * out.
+ * that is also in the array of others, a null pointer with a count above 0, in a pair, or for the options of an image returns
+ * DS_BAD_ARGUMENT. A null pointer with the count 0 means no values. These checks are macros of the calls' names, so callers from
+ * other languages have none. `(ds_merge)(a, b)`, in brackets, is the call without them. Define `DS_NO_CHECKS` before this header to
+ * leave all out.
  *
  * The interface of the library file is fixed within a soname (`libdatasketches.so.0`). A call keeps its name, its result and its
  * parameters, with their types and order. A result keeps its number. A structure keeps its members, their types and order, and
@@ -94,10 +94,10 @@ enum {
     DS_NO = 0,             /* no, as the result of a test */
     DS_YES = 1,            /* yes */
     DS_NO_SKETCH = -1,     /* the handle has no sketch */
-    DS_WRONG_KIND = -2,    /* the sketch is of a kind without this call, or is shared and the call changes it */
+    DS_WRONG_KIND = -2,    /* no call for this kind, or no such kind; or the sketch is shared and the call changes it */
     DS_NO_ROOM = -3,       /* a buffer of the caller has not the length that the call needs */
     DS_BAD_FRACTION = -4,  /* a fraction is not above 0 and at most 1 */
-    DS_BAD_ARGUMENT = -5,  /* from checks alone: the same handle twice, null with a count above 0, or null in a pair */
+    DS_BAD_ARGUMENT = -5,  /* from checks alone: the same handle twice, or null with a count above 0, in a pair, or as options */
     DS_NO_RANDOM = -7      /* a key was to be drawn, and the system has no random bytes */
 };
 
@@ -174,8 +174,8 @@ int32_t ds_reset(ds_sketch *handle);
 /* Merges the other handle's sketch, of the same kind, into this one, which then stands for both histories. The other sketch stays
  * as it was. A filter gets the other's positions, as a union. A Count-Min sketch gets the other's cells and total. A sketch of
  * frequent items keeps its own sizes. Returns DS_MISMATCH if two filters differ in bits, hashes or seed, or two Count-Min sketches
- * in hashes, buckets or seed. Returns DS_WEIGHT_OVERFLOW if the totals together exceed 2^64 - 1, or 2^63 - 1 for weights in int64_t.
- * Returns DS_NO_MEMORY. */
+ * in hashes, buckets or seed. Returns DS_WEIGHT_OVERFLOW if the totals together exceed 2^64 - 1, or 2^63 - 1 for weights in
+ * int64_t. Returns DS_NO_MEMORY. */
 int32_t ds_merge(ds_sketch *handle, ds_sketch *other);
 
 /* Merges the sketches of all other handles, of an array, into this one, in order and in one call. All are of the same kind. A
@@ -245,9 +245,10 @@ typedef struct ds_image_options {
 /* Reads a sketch of a kind from its image and puts it into the handle. A sketch of frequent items gets the largest sample size.
  *
  * Returns DS_WRONG_KIND if `kind` is no kind. Returns DS_NO_RANDOM if a key is drawn and the system has no random bytes. Returns
- * the error of the image's first failed check. Returns DS_TABLE_TOO_LARGE if the sketch takes more than `max_bytes`, and
- * DS_NO_MEMORY. Before both come the checks of the image's length and fields, after them those of the number of set bits, of the
- * total and the cells, or of the weights and the items. */
+ * the error of the image's first failed check. Returns DS_TABLE_TOO_LARGE if the sketch takes more than `max_bytes`, where a string
+ * counts the bytes that it takes in the image, 4 more than its own. Returns DS_NO_MEMORY. Before both come the checks of the
+ * image's length and fields, after them those of the number of set bits, of the total and the cells, or of the weights and the
+ * items. */
 int32_t ds_deserialize(ds_sketch *handle, int32_t kind, const uint8_t *image, size_t length, const ds_image_options *options);
 
 /* Reads a sketch from the image at the front of `image` and puts it into the handle, as `ds_deserialize` does. Writes the number of
@@ -506,10 +507,11 @@ typedef struct ds_frequent_items_bounds {
 } ds_frequent_items_bounds;
 
 /* Puts an empty sketch into the handle, of the kind DS_FREQUENT_ITEMS_U64, DS_FREQUENT_ITEMS_I64 or DS_FREQUENT_ITEMS_STRING,
- * under a key, or under a drawn one if `key` is null. Its table may grow to `max_map_size` slots, a power of two from 8 to 2^30. Its
- * purges sample `sample_size` counters, an even number from 2 to three quarters of `max_map_size`, at most 1024. The largest sample
- * has the strongest guarantee: see `ds_frequent_items_max_sample_size`. Returns DS_WRONG_KIND for another kind, DS_NO_RANDOM,
- * DS_MAP_SIZE_NOT_POWER_OF_TWO, DS_MAP_SIZE_TOO_SMALL, DS_MAP_SIZE_TOO_LARGE, DS_BAD_SAMPLE_SIZE, or DS_NO_MEMORY. */
+ * under a key, or under a drawn one if `key` is null. Its table may grow to `max_map_size` slots, a power of two from 8 to 2^30.
+ * Its purges sample `sample_size` counters, an even number from 2 to three quarters of `max_map_size`, at most 1024. The largest
+ * sample has the strongest guarantee: see `ds_frequent_items_max_sample_size`. Returns DS_WRONG_KIND for another kind,
+ * DS_NO_RANDOM, DS_MAP_SIZE_NOT_POWER_OF_TWO, DS_MAP_SIZE_TOO_SMALL, DS_MAP_SIZE_TOO_LARGE, DS_BAD_SAMPLE_SIZE, or
+ * DS_NO_MEMORY. */
 int32_t ds_frequent_items_new(ds_sketch *handle, int32_t kind, size_t max_map_size, size_t sample_size, const ds_key *key);
 
 /* Returns the largest sample size for a `max_map_size`. */

@@ -493,6 +493,40 @@ template <class T> inline constexpr bool is_span<span<T>> = true;
 template <class Image>
 inline constexpr bool stays = is_contiguous<const bare<Image>> && (std::is_lvalue_reference_v<Image> || is_span<bare<Image>>);
 
+} /* namespace detail */
+
+/* --- What an image does not say. --- */
+
+/* The seed that filters and Count-Min sketches take if none is passed. */
+inline constexpr std::uint64_t default_seed = DS_DEFAULT_SEED;
+
+/* A key of two words, `k0` and `k1`. Choose both at random and keep them secret. */
+using key = ds_key;
+
+/* How many bytes the sketch of an image may take, the seed of a Count-Min sketch, and the key of a sketch of frequent items, which
+ * is drawn if none is passed. Other kinds do without. */
+class image_options {
+public:
+    image_options(std::size_t max_bytes, std::uint64_t seed = default_seed) noexcept : max_bytes_(max_bytes), seed_(seed) {}
+    image_options(std::size_t max_bytes, key words) noexcept : max_bytes_(max_bytes), seed_(default_seed), key_(words) {}
+
+    /* Returns the options for a C call. They point into this object. */
+    ds_image_options get() const noexcept { return {max_bytes_, seed_, key_ ? &*key_ : nullptr}; }
+
+private:
+    std::size_t max_bytes_;
+    std::uint64_t seed_;
+    std::optional<key> key_;
+};
+
+/* A sketch that was read from the front of bytes, and the number of bytes that its image takes. */
+template <class Sketch> struct prefix {
+    Sketch sketch;
+    std::size_t used;
+};
+
+namespace detail {
+
 /* --- What all sketches have. --- */
 
 template <class Sketch> class owner {
@@ -518,6 +552,94 @@ public:
 
     /* Returns the handle, for a call of `datasketches.h`. It belongs to this object: do not copy or free it. */
     ds_sketch *get() noexcept { return &handle_; }
+
+    /* Returns the sketch of an image, which is bytes and their number, or a contiguous range: `ds_deserialize`. The options are a
+     * number of bytes, or that with a seed or a key.
+     *
+     *     auto counts = count_min_sketch<std::uint64_t>::deserialize(image, {max_bytes, seed}); */
+    static outcome<Sketch> deserialize(const std::uint8_t *image, std::size_t length, const image_options &options)
+    {
+        Sketch made;
+        ds_image_options plain = options.get();
+        std::int32_t code = ds_check_image(ds_deserialize, made.get(), Sketch::kind, image, length, &plain);
+        return done(code, std::move(made));
+    }
+    template <class Image> static outcome<Sketch> deserialize(const Image &image, const image_options &options)
+    {
+        auto bytes = image_of(image);
+        return deserialize(bytes.data(), bytes.size(), options);
+    }
+
+    /* Returns the sketch of the image at the front of bytes, and the image's length: `ds_deserialize_prefix`.
+     *
+     *     auto [filter, used] = bloom_filter::deserialize_prefix(bytes, max_bytes); */
+    static outcome<prefix<Sketch>> deserialize_prefix(const std::uint8_t *bytes, std::size_t length, const image_options &options)
+    {
+        prefix<Sketch> made = {};
+        ds_image_options plain = options.get();
+        std::int32_t code =
+            ds_check_prefix(ds_deserialize_prefix, made.sketch.get(), Sketch::kind, bytes, length, &plain, &made.used);
+        return done(code, std::move(made));
+    }
+    template <class Bytes> static outcome<prefix<Sketch>> deserialize_prefix(const Bytes &bytes, const image_options &options)
+    {
+        auto all = image_of(bytes);
+        return deserialize_prefix(all.data(), all.size(), options);
+    }
+
+    /* Returns the image, writes it to a buffer and returns its length, or returns its length alone: `ds_serialize` and
+     * `ds_serialized_bytes`. */
+    outcome<std::vector<std::uint8_t>> serialize()
+    {
+        std::size_t bytes = 0, written = 0;
+        std::int32_t code = ds_serialized_bytes(&handle_, &bytes);
+        std::vector<std::uint8_t> image(bytes);
+        if (code >= 0) code = (ds_serialize)(&handle_, image.data(), image.size(), &written);
+        return done(code, std::move(image));
+    }
+    outcome<std::size_t> serialize(std::uint8_t *out, std::size_t capacity)
+    {
+        std::size_t written = 0;
+        std::int32_t code = ds_check_buffer(ds_serialize, &handle_, out, capacity, &written);
+        return done(code, written);
+    }
+    outcome<std::size_t> serialized_size()
+    {
+        std::size_t bytes = 0;
+        std::int32_t code = ds_serialized_bytes(&handle_, &bytes);
+        return done(code, bytes);
+    }
+
+    /* Merges the other sketch into this one, filters as a union: `ds_merge`. The sketch itself as the other is DS_BAD_ARGUMENT. */
+    outcome<> merge(Sketch &other) { return done(ds_check_two_handles(ds_merge, &handle_, other.get())); }
+
+    /* Merges all sketches of a contiguous range into this one: `ds_merge_all`. */
+    template <class Others> outcome<> merge_all(Others &&others)
+    {
+        static_assert(std::is_standard_layout_v<Sketch> && sizeof(Sketch) == sizeof(ds_sketch));
+        span<Sketch> sketches = span_of<Sketch>(others);
+        auto *handles = reinterpret_cast<ds_sketch *>(sketches.data());
+        return done(ds_check_handles(ds_merge_all, &handle_, handles, sketches.size()));
+    }
+
+    /* Removes all items and weights: `ds_reset`. */
+    outcome<> reset() { return done(ds_reset(&handle_)); }
+
+    /* Returns the sketch's numbers. Those of other kinds are 0: `ds_get_status`. */
+    outcome<ds_status> status()
+    {
+        ds_status numbers = {};
+        std::int32_t code = ds_get_status(&handle_, &numbers);
+        return done(code, numbers);
+    }
+
+    /* Returns how many bytes the sketch takes: `ds_memory_bytes`. */
+    outcome<std::size_t> memory_bytes()
+    {
+        std::size_t bytes = 0;
+        std::int32_t code = ds_memory_bytes(&handle_, &bytes);
+        return done(code, bytes);
+    }
 
     /* Returns a copy: `ds_clone`. */
     outcome<Sketch> clone()
@@ -545,68 +667,28 @@ public:
         return done(code, code == DS_YES);
     }
 
-    /* Returns how many bytes the sketch takes: `ds_memory_bytes`. */
-    outcome<std::size_t> memory_bytes()
-    {
-        std::size_t bytes = 0;
-        std::int32_t code = ds_memory_bytes(&handle_, &bytes);
-        return done(code, bytes);
-    }
-
 protected:
-    using serialize_call = std::int32_t (*)(ds_sketch *, std::uint8_t *, std::size_t, std::size_t *);
-    using bytes_call = std::int32_t (*)(ds_sketch *, std::size_t *);
-
-    outcome<std::vector<std::uint8_t>> serialize_by(serialize_call call, bytes_call bytes_of_image)
-    {
-        std::size_t bytes = 0, written = 0;
-        std::int32_t code = bytes_of_image(&handle_, &bytes);
-        std::vector<std::uint8_t> image(bytes);
-        if (code >= 0) code = call(&handle_, image.data(), image.size(), &written);
-        return done(code, std::move(image));
-    }
-
-    outcome<std::size_t> serialize_by(serialize_call call, std::uint8_t *out, std::size_t capacity)
-    {
-        std::size_t written = 0;
-        std::int32_t code = ds_check_buffer(call, &handle_, out, capacity, &written);
-        return done(code, written);
-    }
-
-    outcome<std::size_t> size_by(bytes_call call)
-    {
-        std::size_t bytes = 0;
-        std::int32_t code = call(&handle_, &bytes);
-        return done(code, bytes);
-    }
-
-    template <class Others> std::int32_t join(std::int32_t (*call)(ds_sketch *, ds_sketch *, std::size_t), Others &others)
-    {
-        static_assert(std::is_standard_layout_v<Sketch> && sizeof(Sketch) == sizeof(ds_sketch));
-        span<Sketch> sketches = span_of<Sketch>(others);
-        return ds_check_handles(call, &handle_, reinterpret_cast<ds_sketch *>(sketches.data()), sketches.size());
-    }
-
     ds_sketch handle_ = DS_NONE;
+};
+
+/* What filters and Count-Min sketches have too. */
+template <class Sketch> class comparable : public owner<Sketch> {
+public:
+    /* Returns whether both sketches are equal: `ds_equal`. The sketch itself as the other is DS_BAD_ARGUMENT. */
+    outcome<bool> equal(Sketch &other)
+    {
+        std::int32_t code = ds_check_two_handles(ds_equal, this->get(), other.get());
+        return done(code, code == DS_YES);
+    }
+#ifndef DATASKETCHES_NO_EXCEPTIONS
+    friend bool operator==(Sketch &a, Sketch &b) { return a.equal(b); }
+    friend bool operator!=(Sketch &a, Sketch &b) { return !a.equal(b); }
+#endif
 };
 
 } /* namespace detail */
 
-/* A sketch that was read from the front of bytes, and the number of bytes that its image takes. */
-template <class Sketch> struct prefix {
-    Sketch sketch;
-    std::size_t used;
-};
-
-/* --- Keys, hashes and text. --- */
-
-/* The seed that filters and Count-Min sketches take if none is passed. */
-inline constexpr std::uint64_t default_seed = 9001;
-
-/* A key of two words. Choose both at random and keep them secret. */
-struct key {
-    std::uint64_t k0, k1;
-};
+/* --- Hashes and text. --- */
 
 /* Returns the hash to insert in place of an item that others choose: `ds_keyed_hash`. */
 inline std::uint64_t keyed_hash(std::string_view bytes, key words) noexcept
@@ -631,8 +713,11 @@ inline std::size_t valid_utf8(std::string_view text) noexcept
 
 /* --- Bloom filters. --- */
 
-class bloom_filter : public detail::owner<bloom_filter> {
+class bloom_filter : public detail::comparable<bloom_filter> {
 public:
+    /* The kind, as in `ds_status`. */
+    static constexpr std::int32_t kind = DS_BLOOM;
+
     /* No filter. */
     bloom_filter() noexcept = default;
 
@@ -650,35 +735,6 @@ public:
         bloom_filter made;
         std::int32_t code = ds_bloom_new(&made.handle_, num_bits, num_hashes, seed);
         return detail::done(code, std::move(made));
-    }
-
-    /* Returns the filter of an image: `ds_bloom_deserialize`. */
-    static outcome<bloom_filter> deserialize(const std::uint8_t *image, std::size_t length, std::size_t max_bytes)
-    {
-        bloom_filter made;
-        std::int32_t code = ds_check_bytes_and_size(ds_bloom_deserialize, &made.handle_, image, length, max_bytes);
-        return detail::done(code, std::move(made));
-    }
-    template <class Image> static outcome<bloom_filter> deserialize(const Image &image, std::size_t max_bytes)
-    {
-        auto bytes = detail::image_of(image);
-        return deserialize(bytes.data(), bytes.size(), max_bytes);
-    }
-
-    /* Returns the filter of the image at the front of bytes, and the image's length: `ds_bloom_deserialize_prefix`.
-     *
-     *     auto [filter, used] = bloom_filter::deserialize_prefix(bytes, max_bytes); */
-    static outcome<prefix<bloom_filter>> deserialize_prefix(const std::uint8_t *bytes, std::size_t length, std::size_t max_bytes)
-    {
-        prefix<bloom_filter> made = {};
-        std::int32_t code = ds_check_prefix(ds_bloom_deserialize_prefix, made.sketch.get(), bytes, length, max_bytes, &made.used);
-        return detail::done(code, std::move(made));
-    }
-    template <class Bytes>
-    static outcome<prefix<bloom_filter>> deserialize_prefix(const Bytes &bytes, std::size_t max_bytes)
-    {
-        auto all = detail::image_of(bytes);
-        return deserialize_prefix(all.data(), all.size(), max_bytes);
     }
 
     /* Return sizes from targets: `ds_bloom_suggest_num_bits` and `ds_bloom_suggest_num_hashes`. */
@@ -771,12 +827,8 @@ public:
         return contains_and_insert_all(span<const Item>(items.begin(), items.size()));
     }
 
-    /* Adds the other filter's positions, keeps those that both have, or removes the other's: `ds_bloom_union`,
-     * `ds_bloom_intersect` and `ds_bloom_difference`. The filter itself as the other is DS_BAD_ARGUMENT. */
-    outcome<> union_with(bloom_filter &other)
-    {
-        return detail::done(ds_check_two_handles(ds_bloom_union, &handle_, &other.handle_));
-    }
+    /* Keeps the positions that both filters have, or removes the other's: `ds_bloom_intersect` and `ds_bloom_difference`.
+     * `merge` unites. The filter itself as the other is DS_BAD_ARGUMENT. */
     outcome<> intersect(bloom_filter &other)
     {
         return detail::done(ds_check_two_handles(ds_bloom_intersect, &handle_, &other.handle_));
@@ -785,40 +837,6 @@ public:
     {
         return detail::done(ds_check_two_handles(ds_bloom_difference, &handle_, &other.handle_));
     }
-
-    /* Adds the positions of all filters of a contiguous range: `ds_bloom_union_all`. */
-    template <class Others> outcome<> union_all(Others &&others) { return detail::done(join(ds_bloom_union_all, others)); }
-
-    /* Returns whether both filters are equal: `ds_bloom_equal`. The filter itself as the other is DS_BAD_ARGUMENT. */
-    outcome<bool> equal(bloom_filter &other)
-    {
-        std::int32_t code = ds_check_two_handles(ds_bloom_equal, &handle_, &other.handle_);
-        return detail::done(code, code == DS_YES);
-    }
-#ifndef DATASKETCHES_NO_EXCEPTIONS
-    friend bool operator==(bloom_filter &a, bloom_filter &b) { return a.equal(b); }
-    friend bool operator!=(bloom_filter &a, bloom_filter &b) { return !a.equal(b); }
-#endif
-
-    /* Removes all positions: `ds_bloom_reset`. */
-    outcome<> reset() { return detail::done(ds_bloom_reset(&handle_)); }
-
-    /* Returns the filter's numbers: `ds_bloom_get_status`. */
-    outcome<ds_bloom_status> status()
-    {
-        ds_bloom_status numbers = {};
-        std::int32_t code = ds_bloom_get_status(&handle_, &numbers);
-        return detail::done(code, numbers);
-    }
-
-    /* Returns the image, writes it to a buffer and returns its length, or returns its length alone: `ds_bloom_serialize` and
-     * `ds_bloom_serialized_bytes`. */
-    outcome<std::vector<std::uint8_t>> serialize() { return serialize_by(ds_bloom_serialize, ds_bloom_serialized_bytes); }
-    outcome<std::size_t> serialize(std::uint8_t *out, std::size_t capacity)
-    {
-        return serialize_by(ds_bloom_serialize, out, capacity);
-    }
-    outcome<std::size_t> serialized_size() { return size_by(ds_bloom_serialized_bytes); }
 
 private:
     std::int32_t insert_one(std::uint64_t item) { return ds_bloom_insert_u64(&handle_, item); }
@@ -934,9 +952,9 @@ namespace detail {
 /* The C calls for sketches with weights in `W`. */
 template <class W> struct count_min_calls {};
 
-#define DATASKETCHES_COUNT_MIN(W, word) \
+#define DATASKETCHES_COUNT_MIN(W, word, number) \
     template <> struct count_min_calls<W> { \
-        static constexpr auto create = ds_count_min_##word##_new; \
+        static constexpr std::int32_t kind = number; \
         static constexpr auto update_u64 = ds_count_min_##word##_update_u64; \
         static constexpr auto update_i64 = ds_count_min_##word##_update_i64; \
         static constexpr auto update_string = ds_count_min_##word##_update_string; \
@@ -960,27 +978,19 @@ template <class W> struct count_min_calls {};
         static constexpr auto upper_bound_u64 = ds_count_min_##word##_upper_bound_u64; \
         static constexpr auto upper_bound_i64 = ds_count_min_##word##_upper_bound_i64; \
         static constexpr auto upper_bound_string = ds_count_min_##word##_upper_bound_string; \
-        static constexpr auto merge = ds_count_min_##word##_merge; \
-        static constexpr auto merge_all = ds_count_min_##word##_merge_all; \
-        static constexpr auto equal = ds_count_min_##word##_equal; \
-        static constexpr auto get_status = ds_count_min_##word##_get_status; \
-        static constexpr auto serialized_bytes = ds_count_min_##word##_serialized_bytes; \
-        static constexpr auto serialize = ds_count_min_##word##_serialize; \
-        static constexpr auto deserialize = ds_count_min_##word##_deserialize; \
-        static constexpr auto deserialize_prefix = ds_count_min_##word##_deserialize_prefix; \
         static constexpr auto image_estimate_u64 = ds_count_min_##word##_image_estimate_u64; \
         static constexpr auto image_estimate_i64 = ds_count_min_##word##_image_estimate_i64; \
         static constexpr auto image_estimate_string = ds_count_min_##word##_image_estimate_string; \
     };
-DATASKETCHES_COUNT_MIN(std::uint64_t, u64)
-DATASKETCHES_COUNT_MIN(std::int64_t, i64)
+DATASKETCHES_COUNT_MIN(std::uint64_t, u64, DS_COUNT_MIN_U64)
+DATASKETCHES_COUNT_MIN(std::int64_t, i64, DS_COUNT_MIN_I64)
 #undef DATASKETCHES_COUNT_MIN
 
 } /* namespace detail */
 
-/* A Count-Min sketch with weights in `W`: `std::uint64_t`, or `std::int64_t`, which may be below 0. The C calls are named
+/* A Count-Min sketch with weights in `W`: `std::uint64_t`, or `std::int64_t`, which may be below 0. The C calls on items are named
  * `ds_count_min_u64_..` and `ds_count_min_i64_..`. */
-template <class W> class count_min_sketch : public detail::owner<count_min_sketch<W>> {
+template <class W> class count_min_sketch : public detail::comparable<count_min_sketch<W>> {
     static_assert(std::is_same_v<W, std::int64_t> || std::is_same_v<W, std::uint64_t>,
                   "the weights of count_min_sketch are std::int64_t or std::uint64_t");
 
@@ -988,54 +998,26 @@ template <class W> class count_min_sketch : public detail::owner<count_min_sketc
     using detail::owner<count_min_sketch<W>>::handle_;
 
 public:
+    /* The kind, as in `ds_status`. */
+    static constexpr std::int32_t kind = calls::kind;
+
     /* No sketch. */
     count_min_sketch() noexcept = default;
 
 #ifndef DATASKETCHES_NO_EXCEPTIONS
-    /* An empty sketch: `.._new`. */
+    /* An empty sketch: `ds_count_min_new`. */
     count_min_sketch(std::uint8_t num_hashes, std::uint32_t num_buckets, std::uint64_t seed = default_seed)
     {
-        detail::done(calls::create(&handle_, num_hashes, num_buckets, seed));
+        detail::done(ds_count_min_new(&handle_, kind, num_hashes, num_buckets, seed));
     }
 #endif
 
-    /* Returns an empty sketch: `.._new`. */
+    /* Returns an empty sketch: `ds_count_min_new`. */
     static outcome<count_min_sketch> create(std::uint8_t num_hashes, std::uint32_t num_buckets, std::uint64_t seed = default_seed)
     {
         count_min_sketch made;
-        std::int32_t code = calls::create(&made.handle_, num_hashes, num_buckets, seed);
+        std::int32_t code = ds_count_min_new(&made.handle_, kind, num_hashes, num_buckets, seed);
         return detail::done(code, std::move(made));
-    }
-
-    /* Returns the sketch of an image that was written under this seed: `.._deserialize`. */
-    static outcome<count_min_sketch> deserialize(const std::uint8_t *image, std::size_t length, std::uint64_t seed,
-                                                 std::size_t max_bytes)
-    {
-        count_min_sketch made;
-        std::int32_t code = ds_check_image_and_seed(calls::deserialize, &made.handle_, image, length, seed, max_bytes);
-        return detail::done(code, std::move(made));
-    }
-    template <class Image>
-    static outcome<count_min_sketch> deserialize(const Image &image, std::uint64_t seed, std::size_t max_bytes)
-    {
-        auto bytes = detail::image_of(image);
-        return deserialize(bytes.data(), bytes.size(), seed, max_bytes);
-    }
-
-    /* Returns the sketch of the image at the front of bytes, and the image's length: `.._deserialize_prefix`. */
-    static outcome<prefix<count_min_sketch>> deserialize_prefix(const std::uint8_t *bytes, std::size_t length, std::uint64_t seed,
-                                                                std::size_t max_bytes)
-    {
-        prefix<count_min_sketch> made = {};
-        std::int32_t code = ds_check_prefix_and_seed(calls::deserialize_prefix, made.sketch.get(), bytes, length, seed, max_bytes,
-                                                     &made.used);
-        return detail::done(code, std::move(made));
-    }
-    template <class Bytes>
-    static outcome<prefix<count_min_sketch>> deserialize_prefix(const Bytes &bytes, std::uint64_t seed, std::size_t max_bytes)
-    {
-        auto all = detail::image_of(bytes);
-        return deserialize_prefix(all.data(), all.size(), seed, max_bytes);
     }
 
     /* Return sizes from targets: `ds_count_min_suggest_num_buckets` and `ds_count_min_suggest_num_hashes`. */
@@ -1118,26 +1100,6 @@ public:
         return estimate_all(span<const Item>(items.begin(), items.size()));
     }
 
-    /* Adds the other sketch's cells and total: `.._merge`. The sketch itself as the other is DS_BAD_ARGUMENT. */
-    outcome<> merge(count_min_sketch &other)
-    {
-        return detail::done(ds_check_two_handles(calls::merge, &handle_, &other.handle_));
-    }
-
-    /* Adds the cells and totals of all sketches of a contiguous range: `.._merge_all`. */
-    template <class Others> outcome<> merge_all(Others &&others) { return detail::done(this->join(calls::merge_all, others)); }
-
-    /* Returns whether both sketches are equal: `.._equal`. The sketch itself as the other is DS_BAD_ARGUMENT. */
-    outcome<bool> equal(count_min_sketch &other)
-    {
-        std::int32_t code = ds_check_two_handles(calls::equal, &handle_, &other.handle_);
-        return detail::done(code, code == DS_YES);
-    }
-#ifndef DATASKETCHES_NO_EXCEPTIONS
-    friend bool operator==(count_min_sketch &a, count_min_sketch &b) { return a.equal(b); }
-    friend bool operator!=(count_min_sketch &a, count_min_sketch &b) { return !a.equal(b); }
-#endif
-
     /* Halve each cell and the total, or multiply them by a fraction, for weights in `std::uint64_t`: `ds_count_min_u64_halve` and
      * `ds_count_min_u64_decay`. */
     outcome<> halve()
@@ -1150,23 +1112,6 @@ public:
         static_assert(std::is_same_v<W, std::uint64_t>, "only weights in std::uint64_t decay");
         return detail::done(ds_count_min_u64_decay(&handle_, numerator, denominator));
     }
-
-    /* Returns the sketch's numbers: `.._get_status`. */
-    outcome<ds_count_min_status> status()
-    {
-        ds_count_min_status numbers = {};
-        std::int32_t code = calls::get_status(&handle_, &numbers);
-        return detail::done(code, numbers);
-    }
-
-    /* Returns the image, writes it to a buffer and returns its length, or returns its length alone: `.._serialize` and
-     * `.._serialized_bytes`. */
-    outcome<std::vector<std::uint8_t>> serialize() { return this->serialize_by(calls::serialize, calls::serialized_bytes); }
-    outcome<std::size_t> serialize(std::uint8_t *out, std::size_t capacity)
-    {
-        return this->serialize_by(calls::serialize, out, capacity);
-    }
-    outcome<std::size_t> serialized_size() { return this->size_by(calls::serialized_bytes); }
 
 private:
     std::int32_t update_one(std::uint64_t item, W weight) { return detail::call_and(calls::update_u64, &handle_, item, weight); }
@@ -1333,35 +1278,23 @@ namespace detail {
 /* The C calls for sketches of items of type `T`. */
 template <class T> struct frequent_items_calls {};
 
-#define DATASKETCHES_FREQUENT_ITEMS(word) \
-    static constexpr auto create = ds_frequent_items_##word##_new; \
-    static constexpr auto create_with_key = ds_frequent_items_##word##_new_with_key; \
+#define DATASKETCHES_FREQUENT_ITEMS(word, number) \
+    static constexpr std::int32_t kind = number; \
     static constexpr auto update = ds_frequent_items_##word##_update; \
     static constexpr auto bounds = ds_frequent_items_##word##_bounds; \
-    static constexpr auto merge = ds_frequent_items_##word##_merge; \
-    static constexpr auto merge_all = ds_frequent_items_##word##_merge_all; \
-    static constexpr auto reset = ds_frequent_items_##word##_reset; \
-    static constexpr auto set_sample_size = ds_frequent_items_##word##_set_sample_size; \
-    static constexpr auto get_status = ds_frequent_items_##word##_get_status; \
-    static constexpr auto serialized_bytes = ds_frequent_items_##word##_serialized_bytes; \
-    static constexpr auto serialize = ds_frequent_items_##word##_serialize; \
-    static constexpr auto deserialize = ds_frequent_items_##word##_deserialize; \
-    static constexpr auto deserialize_with_key = ds_frequent_items_##word##_deserialize_with_key; \
-    static constexpr auto deserialize_prefix = ds_frequent_items_##word##_deserialize_prefix; \
-    static constexpr auto deserialize_prefix_with_key = ds_frequent_items_##word##_deserialize_prefix_with_key; \
     static constexpr auto rows = ds_frequent_items_##word##_rows;
-#define DATASKETCHES_FREQUENT_NUMBERS(T, word) \
+#define DATASKETCHES_FREQUENT_NUMBERS(T, word, number) \
     template <> struct frequent_items_calls<T> { \
-        DATASKETCHES_FREQUENT_ITEMS(word) \
+        DATASKETCHES_FREQUENT_ITEMS(word, number) \
         static constexpr auto update_all = ds_frequent_items_##word##_update_all; \
         static constexpr auto update_all_weighted = ds_frequent_items_##word##_update_all_weighted; \
         static constexpr auto bounds_all = ds_frequent_items_##word##_bounds_all; \
     };
-DATASKETCHES_FREQUENT_NUMBERS(std::uint64_t, u64)
-DATASKETCHES_FREQUENT_NUMBERS(std::int64_t, i64)
+DATASKETCHES_FREQUENT_NUMBERS(std::uint64_t, u64, DS_FREQUENT_ITEMS_U64)
+DATASKETCHES_FREQUENT_NUMBERS(std::int64_t, i64, DS_FREQUENT_ITEMS_I64)
 
 template <> struct frequent_items_calls<std::string> {
-    DATASKETCHES_FREQUENT_ITEMS(string)
+    DATASKETCHES_FREQUENT_ITEMS(string, DS_FREQUENT_ITEMS_STRING)
     static constexpr auto update_all = ds_frequent_items_string_update_all_pairs;
     static constexpr auto update_all_weighted = ds_frequent_items_string_update_all_weighted_pairs;
     static constexpr auto bounds_all = ds_frequent_items_string_bounds_all_pairs;
@@ -1375,7 +1308,7 @@ template <> struct frequent_items_calls<std::string> {
 } /* namespace detail */
 
 /* A sketch of the items of the largest weights. `T` is `std::string`, `std::int64_t` or `std::uint64_t`. Weights are
- * `std::uint64_t`. The C calls are named `ds_frequent_items_string_..`, `.._i64_..` and `.._u64_..`. */
+ * `std::uint64_t`. The C calls on items are named `ds_frequent_items_string_..`, `.._i64_..` and `.._u64_..`. */
 template <class T> class frequent_items : public detail::owner<frequent_items<T>> {
     static_assert(std::is_same_v<T, std::string> || std::is_same_v<T, std::int64_t> || std::is_same_v<T, std::uint64_t>,
                   "the items of frequent_items are std::string, std::int64_t or std::uint64_t");
@@ -1385,6 +1318,9 @@ template <class T> class frequent_items : public detail::owner<frequent_items<T>
 
 public:
     using bounds_type = ds_frequent_items_bounds;
+
+    /* The kind, as in `ds_status`. */
+    static constexpr std::int32_t kind = calls::kind;
 
     /* No sketch. */
     frequent_items() noexcept = default;
@@ -1404,88 +1340,32 @@ public:
     }
 
 #ifndef DATASKETCHES_NO_EXCEPTIONS
-    /* An empty sketch under a drawn key, with the largest sample size or a given one: `.._new`. */
+    /* An empty sketch, with the largest sample size or a given one, under a drawn key or a given one: `ds_frequent_items_new`. */
     explicit frequent_items(std::size_t max_map_size) : frequent_items(max_map_size, max_sample_size(max_map_size)) {}
     frequent_items(std::size_t max_map_size, std::size_t sample_size)
     {
-        detail::done(calls::create(&handle_, max_map_size, sample_size));
+        detail::done(ds_frequent_items_new(&handle_, kind, max_map_size, sample_size, nullptr));
     }
-
-    /* An empty sketch under a given key: `.._new_with_key`. */
     frequent_items(std::size_t max_map_size, std::size_t sample_size, key words)
     {
-        detail::done(calls::create_with_key(&handle_, max_map_size, sample_size, words.k0, words.k1));
+        detail::done(ds_frequent_items_new(&handle_, kind, max_map_size, sample_size, &words));
     }
 #endif
 
-    /* Returns an empty sketch under a drawn key, with the largest sample size or a given one: `.._new`. */
+    /* Returns an empty sketch, with the largest sample size or a given one, under a drawn key or a given one:
+     * `ds_frequent_items_new`. */
     static outcome<frequent_items> create(std::size_t max_map_size) { return create(max_map_size, max_sample_size(max_map_size)); }
     static outcome<frequent_items> create(std::size_t max_map_size, std::size_t sample_size)
     {
         frequent_items made;
-        std::int32_t code = calls::create(&made.handle_, max_map_size, sample_size);
+        std::int32_t code = ds_frequent_items_new(&made.handle_, kind, max_map_size, sample_size, nullptr);
         return detail::done(code, std::move(made));
     }
-
-    /* Returns an empty sketch under a given key: `.._new_with_key`. */
     static outcome<frequent_items> create(std::size_t max_map_size, std::size_t sample_size, key words)
     {
         frequent_items made;
-        std::int32_t code = calls::create_with_key(&made.handle_, max_map_size, sample_size, words.k0, words.k1);
+        std::int32_t code = ds_frequent_items_new(&made.handle_, kind, max_map_size, sample_size, &words);
         return detail::done(code, std::move(made));
-    }
-
-    /* Returns the sketch of an image, under a drawn key or a given one: `.._deserialize` and `.._deserialize_with_key`. */
-    static outcome<frequent_items> deserialize(const std::uint8_t *image, std::size_t length, std::size_t max_bytes)
-    {
-        frequent_items made;
-        std::int32_t code = ds_check_bytes_and_size(calls::deserialize, &made.handle_, image, length, max_bytes);
-        return detail::done(code, std::move(made));
-    }
-    static outcome<frequent_items> deserialize(const std::uint8_t *image, std::size_t length, std::size_t max_bytes, key words)
-    {
-        frequent_items made;
-        std::int32_t code = ds_check_image_and_key(calls::deserialize_with_key, &made.handle_, image, length, max_bytes, words.k0,
-                                                   words.k1);
-        return detail::done(code, std::move(made));
-    }
-    template <class Image> static outcome<frequent_items> deserialize(const Image &image, std::size_t max_bytes)
-    {
-        auto bytes = detail::image_of(image);
-        return deserialize(bytes.data(), bytes.size(), max_bytes);
-    }
-    template <class Image> static outcome<frequent_items> deserialize(const Image &image, std::size_t max_bytes, key words)
-    {
-        auto bytes = detail::image_of(image);
-        return deserialize(bytes.data(), bytes.size(), max_bytes, words);
-    }
-
-    /* Returns the sketch of the image at the front of bytes, under a drawn key or a given one, and the image's length:
-     * `.._deserialize_prefix` and `.._deserialize_prefix_with_key`. */
-    static outcome<prefix<frequent_items>> deserialize_prefix(const std::uint8_t *bytes, std::size_t length, std::size_t max_bytes)
-    {
-        prefix<frequent_items> made = {};
-        std::int32_t code = ds_check_prefix(calls::deserialize_prefix, made.sketch.get(), bytes, length, max_bytes, &made.used);
-        return detail::done(code, std::move(made));
-    }
-    static outcome<prefix<frequent_items>> deserialize_prefix(const std::uint8_t *bytes, std::size_t length, std::size_t max_bytes,
-                                                              key words)
-    {
-        prefix<frequent_items> made = {};
-        std::int32_t code = ds_check_prefix_and_key(calls::deserialize_prefix_with_key, made.sketch.get(), bytes, length, max_bytes,
-                                                    words.k0, words.k1, &made.used);
-        return detail::done(code, std::move(made));
-    }
-    template <class Bytes> static outcome<prefix<frequent_items>> deserialize_prefix(const Bytes &bytes, std::size_t max_bytes)
-    {
-        auto all = detail::image_of(bytes);
-        return deserialize_prefix(all.data(), all.size(), max_bytes);
-    }
-    template <class Bytes>
-    static outcome<prefix<frequent_items>> deserialize_prefix(const Bytes &bytes, std::size_t max_bytes, key words)
-    {
-        auto all = detail::image_of(bytes);
-        return deserialize_prefix(all.data(), all.size(), max_bytes, words);
     }
 
     /* Adds 1, or a weight, to the item's: `.._update`. */
@@ -1609,34 +1489,11 @@ public:
         return detail::done(code, std::move(report));
     }
 
-    /* Merges the other sketch into this one: `.._merge`. The sketch itself as the other is DS_BAD_ARGUMENT. */
-    outcome<> merge(frequent_items &other) { return detail::done(ds_check_two_handles(calls::merge, &handle_, &other.handle_)); }
-
-    /* Merges all sketches of a contiguous range into this one: `.._merge_all`. */
-    template <class Others> outcome<> merge_all(Others &&others) { return detail::done(this->join(calls::merge_all, others)); }
-
-    /* Removes all items and weights: `.._reset`. */
-    outcome<> reset() { return detail::done(calls::reset(&handle_)); }
-
-    /* Sets how many counters later purges sample: `.._set_sample_size`. */
-    outcome<> set_sample_size(std::size_t sample_size) { return detail::done(calls::set_sample_size(&handle_, sample_size)); }
-
-    /* Returns the sketch's numbers: `.._get_status`. */
-    outcome<ds_frequent_items_status> status()
+    /* Sets how many counters later purges sample: `ds_frequent_items_set_sample_size`. */
+    outcome<> set_sample_size(std::size_t sample_size)
     {
-        ds_frequent_items_status numbers = {};
-        std::int32_t code = calls::get_status(&handle_, &numbers);
-        return detail::done(code, numbers);
+        return detail::done(ds_frequent_items_set_sample_size(&handle_, sample_size));
     }
-
-    /* Returns the image, writes it to a buffer and returns its length, or returns its length alone: `.._serialize` and
-     * `.._serialized_bytes`. */
-    outcome<std::vector<std::uint8_t>> serialize() { return this->serialize_by(calls::serialize, calls::serialized_bytes); }
-    outcome<std::size_t> serialize(std::uint8_t *out, std::size_t capacity)
-    {
-        return this->serialize_by(calls::serialize, out, capacity);
-    }
-    outcome<std::size_t> serialized_size() { return this->size_by(calls::serialized_bytes); }
 
 private:
     /* what a string is passed as, or a number */

@@ -1,15 +1,15 @@
 /* datasketches_checks.h: checks of arguments before calls of the library. `datasketches.h` includes it.
  *
  * A call with a check is a macro of the call's name. It passes the call and its arguments to the function of this header that
- * checks arguments of that form, and each argument is evaluated once. So `ds_bloom_union(a, b)` is checked, and arguments may have
+ * checks arguments of that form, and each argument is evaluated once. So `ds_merge(a, b)` is checked, and arguments may have
  * commas: `ds_bloom_insert_all_u64(&seen, (uint64_t[]){1, 2, 3}, 3)`.
  *
  * The checks return DS_BAD_ARGUMENT for the same handle twice and for a handle that is also in the array of others. They return it
- * for a null pointer with a count above 0, and for a null pointer in a pair. They pass a pointer to no values in place of null with
- * the count 0.
+ * for a null pointer with a count above 0, in a pair, or for the options of an image. They pass a pointer to no values in place of
+ * null with the count 0.
  *
- * To leave out the check of one call, put its name in brackets: `(ds_bloom_union)(a, b)`. To leave out all, define `DS_NO_CHECKS`
- * before `datasketches.h`. A pointer to a function, as `&ds_bloom_union`, is to the call without checks. */
+ * To leave out the check of one call, put its name in brackets: `(ds_merge)(a, b)`. To leave out all, define `DS_NO_CHECKS`
+ * before `datasketches.h`. A pointer to a function, as `&ds_merge`, is to the call without checks. */
 #ifndef DATASKETCHES_CHECKS_H
 #define DATASKETCHES_CHECKS_H
 
@@ -63,45 +63,23 @@ static inline int32_t ds_check_buffer(int32_t (*call)(ds_sketch *, uint8_t *, si
     return call(handle, out ? out : (uint8_t *)ds_no_values(), capacity, written);
 }
 
-static inline int32_t ds_check_image_and_seed(int32_t (*call)(ds_sketch *, const uint8_t *, size_t, uint64_t, size_t),
-                                              ds_sketch *handle, const uint8_t *image, size_t length, uint64_t seed,
-                                              size_t max_bytes)
+/* An image that is read, whose options are not null either. */
+static inline int32_t ds_check_image(int32_t (*call)(ds_sketch *, int32_t, const uint8_t *, size_t, const ds_image_options *),
+                                     ds_sketch *handle, int32_t kind, const uint8_t *image, size_t length,
+                                     const ds_image_options *options)
 {
-    if (!image && length) return DS_BAD_ARGUMENT;
-    return call(handle, image ? image : (const uint8_t *)ds_no_values(), length, seed, max_bytes);
-}
-
-static inline int32_t ds_check_image_and_key(int32_t (*call)(ds_sketch *, const uint8_t *, size_t, size_t, uint64_t, uint64_t),
-                                             ds_sketch *handle, const uint8_t *image, size_t length, size_t max_bytes,
-                                             uint64_t k0, uint64_t k1)
-{
-    if (!image && length) return DS_BAD_ARGUMENT;
-    return call(handle, image ? image : (const uint8_t *)ds_no_values(), length, max_bytes, k0, k1);
+    if ((!image && length) || !options) return DS_BAD_ARGUMENT;
+    return call(handle, kind, image ? image : (const uint8_t *)ds_no_values(), length, options);
 }
 
 /* An image at the front of bytes, and the number of bytes that it takes. */
-static inline int32_t ds_check_prefix(int32_t (*call)(ds_sketch *, const uint8_t *, size_t, size_t, size_t *), ds_sketch *handle,
-                                      const uint8_t *image, size_t length, size_t max_bytes, size_t *used)
+static inline int32_t ds_check_prefix(int32_t (*call)(ds_sketch *, int32_t, const uint8_t *, size_t, const ds_image_options *,
+                                                      size_t *),
+                                      ds_sketch *handle, int32_t kind, const uint8_t *image, size_t length,
+                                      const ds_image_options *options, size_t *used)
 {
-    if (!image && length) return DS_BAD_ARGUMENT;
-    return call(handle, image ? image : (const uint8_t *)ds_no_values(), length, max_bytes, used);
-}
-
-static inline int32_t ds_check_prefix_and_seed(int32_t (*call)(ds_sketch *, const uint8_t *, size_t, uint64_t, size_t, size_t *),
-                                               ds_sketch *handle, const uint8_t *image, size_t length, uint64_t seed,
-                                               size_t max_bytes, size_t *used)
-{
-    if (!image && length) return DS_BAD_ARGUMENT;
-    return call(handle, image ? image : (const uint8_t *)ds_no_values(), length, seed, max_bytes, used);
-}
-
-static inline int32_t ds_check_prefix_and_key(int32_t (*call)(ds_sketch *, const uint8_t *, size_t, size_t, uint64_t, uint64_t,
-                                                              size_t *),
-                                              ds_sketch *handle, const uint8_t *image, size_t length, size_t max_bytes,
-                                              uint64_t k0, uint64_t k1, size_t *used)
-{
-    if (!image && length) return DS_BAD_ARGUMENT;
-    return call(handle, image ? image : (const uint8_t *)ds_no_values(), length, max_bytes, k0, k1, used);
+    if ((!image && length) || !options) return DS_BAD_ARGUMENT;
+    return call(handle, kind, image ? image : (const uint8_t *)ds_no_values(), length, options, used);
 }
 
 /* An image in place, and an item or many numbers. */
@@ -169,7 +147,7 @@ static inline uint64_t ds_check_hash(uint64_t (*call)(const uint8_t *, size_t, u
     return call(bytes ? bytes : (const uint8_t *)ds_no_values(), bytes ? length : 0, k0, k1);
 }
 
-/* Items, as numbers or as the bytes of a string or an image. */
+/* Items, as numbers or as the bytes of a string. */
 #define DS_CHECK_ITEMS(form, type) \
     static inline int32_t ds_check_##form(int32_t (*call)(ds_sketch *, const type *, size_t), ds_sketch *handle, \
                                           const type *items, size_t count) \
@@ -190,7 +168,6 @@ DS_CHECK_ITEMS(i64s, int64_t)
         if (!bytes && count) return DS_BAD_ARGUMENT; \
         return call(handle, bytes ? bytes : (const uint8_t *)ds_no_values(), count, last); \
     }
-DS_CHECK_BYTES_AND(size, size_t)
 DS_CHECK_BYTES_AND(u64, uint64_t)
 DS_CHECK_BYTES_AND(i64, int64_t)
 DS_CHECK_BYTES_AND(u64_out, uint64_t *)
@@ -289,6 +266,12 @@ static inline int32_t ds_check_string_rows(int32_t (*call)(ds_sketch *, bool, ui
 
 #ifndef DS_NO_CHECKS
 #define ds_clone(...) ds_check_two_handles(ds_clone, __VA_ARGS__)
+#define ds_merge(...) ds_check_two_handles(ds_merge, __VA_ARGS__)
+#define ds_merge_all(...) ds_check_handles(ds_merge_all, __VA_ARGS__)
+#define ds_equal(...) ds_check_two_handles(ds_equal, __VA_ARGS__)
+#define ds_serialize(...) ds_check_buffer(ds_serialize, __VA_ARGS__)
+#define ds_deserialize(...) ds_check_image(ds_deserialize, __VA_ARGS__)
+#define ds_deserialize_prefix(...) ds_check_prefix(ds_deserialize_prefix, __VA_ARGS__)
 #define ds_share(...) ds_check_two_handles(ds_share, __VA_ARGS__)
 #define ds_bloom_insert_string(...) ds_check_bytes(ds_bloom_insert_string, __VA_ARGS__)
 #define ds_bloom_insert_all_u64(...) ds_check_u64s(ds_bloom_insert_all_u64, __VA_ARGS__)
@@ -309,14 +292,8 @@ static inline int32_t ds_check_string_rows(int32_t (*call)(ds_sketch *, bool, ui
     ds_check_offsets_with_bools(ds_bloom_contains_and_insert_all_string, __VA_ARGS__)
 #define ds_bloom_contains_and_insert_all_string_pairs(...) \
     ds_check_pairs_with_bools(ds_bloom_contains_and_insert_all_string_pairs, __VA_ARGS__)
-#define ds_bloom_union(...) ds_check_two_handles(ds_bloom_union, __VA_ARGS__)
 #define ds_bloom_intersect(...) ds_check_two_handles(ds_bloom_intersect, __VA_ARGS__)
 #define ds_bloom_difference(...) ds_check_two_handles(ds_bloom_difference, __VA_ARGS__)
-#define ds_bloom_union_all(...) ds_check_handles(ds_bloom_union_all, __VA_ARGS__)
-#define ds_bloom_equal(...) ds_check_two_handles(ds_bloom_equal, __VA_ARGS__)
-#define ds_bloom_serialize(...) ds_check_buffer(ds_bloom_serialize, __VA_ARGS__)
-#define ds_bloom_deserialize(...) ds_check_bytes_and_size(ds_bloom_deserialize, __VA_ARGS__)
-#define ds_bloom_deserialize_prefix(...) ds_check_prefix(ds_bloom_deserialize_prefix, __VA_ARGS__)
 #define ds_bloom_image_contains_u64(...) ds_check_image_u64(ds_bloom_image_contains_u64, __VA_ARGS__)
 #define ds_bloom_image_contains_i64(...) ds_check_image_i64(ds_bloom_image_contains_i64, __VA_ARGS__)
 #define ds_bloom_image_contains_string(...) ds_check_image_string(ds_bloom_image_contains_string, __VA_ARGS__)
@@ -344,12 +321,6 @@ static inline int32_t ds_check_string_rows(int32_t (*call)(ds_sketch *, bool, ui
 #define ds_count_min_u64_estimate_all_string_pairs(...) \
     ds_check_pairs_with_u64s(ds_count_min_u64_estimate_all_string_pairs, __VA_ARGS__)
 #define ds_count_min_u64_upper_bound_string(...) ds_check_bytes_and_u64_out(ds_count_min_u64_upper_bound_string, __VA_ARGS__)
-#define ds_count_min_u64_merge(...) ds_check_two_handles(ds_count_min_u64_merge, __VA_ARGS__)
-#define ds_count_min_u64_merge_all(...) ds_check_handles(ds_count_min_u64_merge_all, __VA_ARGS__)
-#define ds_count_min_u64_equal(...) ds_check_two_handles(ds_count_min_u64_equal, __VA_ARGS__)
-#define ds_count_min_u64_serialize(...) ds_check_buffer(ds_count_min_u64_serialize, __VA_ARGS__)
-#define ds_count_min_u64_deserialize(...) ds_check_image_and_seed(ds_count_min_u64_deserialize, __VA_ARGS__)
-#define ds_count_min_u64_deserialize_prefix(...) ds_check_prefix_and_seed(ds_count_min_u64_deserialize_prefix, __VA_ARGS__)
 #define ds_count_min_u64_image_estimate_u64(...) ds_check_u64_image_u64(ds_count_min_u64_image_estimate_u64, __VA_ARGS__)
 #define ds_count_min_u64_image_estimate_i64(...) ds_check_u64_image_i64(ds_count_min_u64_image_estimate_i64, __VA_ARGS__)
 #define ds_count_min_u64_image_estimate_string(...) ds_check_u64_image_string(ds_count_min_u64_image_estimate_string, __VA_ARGS__)
@@ -375,12 +346,6 @@ static inline int32_t ds_check_string_rows(int32_t (*call)(ds_sketch *, bool, ui
 #define ds_count_min_i64_estimate_all_string_pairs(...) \
     ds_check_pairs_with_i64s(ds_count_min_i64_estimate_all_string_pairs, __VA_ARGS__)
 #define ds_count_min_i64_upper_bound_string(...) ds_check_bytes_and_i64_out(ds_count_min_i64_upper_bound_string, __VA_ARGS__)
-#define ds_count_min_i64_merge(...) ds_check_two_handles(ds_count_min_i64_merge, __VA_ARGS__)
-#define ds_count_min_i64_merge_all(...) ds_check_handles(ds_count_min_i64_merge_all, __VA_ARGS__)
-#define ds_count_min_i64_equal(...) ds_check_two_handles(ds_count_min_i64_equal, __VA_ARGS__)
-#define ds_count_min_i64_serialize(...) ds_check_buffer(ds_count_min_i64_serialize, __VA_ARGS__)
-#define ds_count_min_i64_deserialize(...) ds_check_image_and_seed(ds_count_min_i64_deserialize, __VA_ARGS__)
-#define ds_count_min_i64_deserialize_prefix(...) ds_check_prefix_and_seed(ds_count_min_i64_deserialize_prefix, __VA_ARGS__)
 #define ds_count_min_i64_image_estimate_u64(...) ds_check_i64_image_u64(ds_count_min_i64_image_estimate_u64, __VA_ARGS__)
 #define ds_count_min_i64_image_estimate_i64(...) ds_check_i64_image_i64(ds_count_min_i64_image_estimate_i64, __VA_ARGS__)
 #define ds_count_min_i64_image_estimate_string(...) ds_check_i64_image_string(ds_count_min_i64_image_estimate_string, __VA_ARGS__)
@@ -393,12 +358,6 @@ static inline int32_t ds_check_string_rows(int32_t (*call)(ds_sketch *, bool, ui
 #define ds_frequent_items_string_bounds_all(...) ds_check_offsets_with_bounds(ds_frequent_items_string_bounds_all, __VA_ARGS__)
 #define ds_frequent_items_string_bounds_all_pairs(...) \
     ds_check_pairs_with_bounds(ds_frequent_items_string_bounds_all_pairs, __VA_ARGS__)
-#define ds_frequent_items_u64_merge(...) ds_check_two_handles(ds_frequent_items_u64_merge, __VA_ARGS__)
-#define ds_frequent_items_i64_merge(...) ds_check_two_handles(ds_frequent_items_i64_merge, __VA_ARGS__)
-#define ds_frequent_items_string_merge(...) ds_check_two_handles(ds_frequent_items_string_merge, __VA_ARGS__)
-#define ds_frequent_items_u64_merge_all(...) ds_check_handles(ds_frequent_items_u64_merge_all, __VA_ARGS__)
-#define ds_frequent_items_i64_merge_all(...) ds_check_handles(ds_frequent_items_i64_merge_all, __VA_ARGS__)
-#define ds_frequent_items_string_merge_all(...) ds_check_handles(ds_frequent_items_string_merge_all, __VA_ARGS__)
 #define ds_frequent_items_u64_update_all(...) ds_check_u64s(ds_frequent_items_u64_update_all, __VA_ARGS__)
 #define ds_frequent_items_i64_update_all(...) ds_check_i64s(ds_frequent_items_i64_update_all, __VA_ARGS__)
 #define ds_frequent_items_string_update_all(...) ds_check_offsets(ds_frequent_items_string_update_all, __VA_ARGS__)
@@ -411,27 +370,6 @@ static inline int32_t ds_check_string_rows(int32_t (*call)(ds_sketch *, bool, ui
     ds_check_offsets_with_weights_u64(ds_frequent_items_string_update_all_weighted, __VA_ARGS__)
 #define ds_frequent_items_string_update_all_weighted_pairs(...) \
     ds_check_pairs_with_weights_u64(ds_frequent_items_string_update_all_weighted_pairs, __VA_ARGS__)
-#define ds_frequent_items_u64_serialize(...) ds_check_buffer(ds_frequent_items_u64_serialize, __VA_ARGS__)
-#define ds_frequent_items_i64_serialize(...) ds_check_buffer(ds_frequent_items_i64_serialize, __VA_ARGS__)
-#define ds_frequent_items_string_serialize(...) ds_check_buffer(ds_frequent_items_string_serialize, __VA_ARGS__)
-#define ds_frequent_items_u64_deserialize(...) ds_check_bytes_and_size(ds_frequent_items_u64_deserialize, __VA_ARGS__)
-#define ds_frequent_items_i64_deserialize(...) ds_check_bytes_and_size(ds_frequent_items_i64_deserialize, __VA_ARGS__)
-#define ds_frequent_items_string_deserialize(...) ds_check_bytes_and_size(ds_frequent_items_string_deserialize, __VA_ARGS__)
-#define ds_frequent_items_u64_deserialize_with_key(...) \
-    ds_check_image_and_key(ds_frequent_items_u64_deserialize_with_key, __VA_ARGS__)
-#define ds_frequent_items_i64_deserialize_with_key(...) \
-    ds_check_image_and_key(ds_frequent_items_i64_deserialize_with_key, __VA_ARGS__)
-#define ds_frequent_items_string_deserialize_with_key(...) \
-    ds_check_image_and_key(ds_frequent_items_string_deserialize_with_key, __VA_ARGS__)
-#define ds_frequent_items_u64_deserialize_prefix(...) ds_check_prefix(ds_frequent_items_u64_deserialize_prefix, __VA_ARGS__)
-#define ds_frequent_items_i64_deserialize_prefix(...) ds_check_prefix(ds_frequent_items_i64_deserialize_prefix, __VA_ARGS__)
-#define ds_frequent_items_string_deserialize_prefix(...) ds_check_prefix(ds_frequent_items_string_deserialize_prefix, __VA_ARGS__)
-#define ds_frequent_items_u64_deserialize_prefix_with_key(...) \
-    ds_check_prefix_and_key(ds_frequent_items_u64_deserialize_prefix_with_key, __VA_ARGS__)
-#define ds_frequent_items_i64_deserialize_prefix_with_key(...) \
-    ds_check_prefix_and_key(ds_frequent_items_i64_deserialize_prefix_with_key, __VA_ARGS__)
-#define ds_frequent_items_string_deserialize_prefix_with_key(...) \
-    ds_check_prefix_and_key(ds_frequent_items_string_deserialize_prefix_with_key, __VA_ARGS__)
 #define ds_frequent_items_u64_rows(...) ds_check_u64_rows(ds_frequent_items_u64_rows, __VA_ARGS__)
 #define ds_frequent_items_i64_rows(...) ds_check_i64_rows(ds_frequent_items_i64_rows, __VA_ARGS__)
 #define ds_frequent_items_string_rows(...) ds_check_string_rows(ds_frequent_items_string_rows, __VA_ARGS__)

@@ -1,10 +1,11 @@
-/* The calls that create or read a sketch of frequent items without a key from the caller. Each draws a key and passes it to the
- * call of the same name with `_with_key`.
+/* The calls that create sketches of frequent items or read images. Each passes its arguments and a key to a proved call: the
+ * caller's key, or one that it draws.
  *
  * The first call of a process asks the system for two random words. Each call counts the first word up, as Rust's `RandomState`
  * does, so no two sketches of a process get the same key. Both words stay secret. After a `fork` the child draws words of its own.
  * There is no lock that a `fork` could leave held. */
 #define _POSIX_C_SOURCE 200809L
+#define DS_NO_CHECKS
 
 #include "datasketches.h"
 
@@ -72,35 +73,46 @@ static bool draw_word(_Atomic uint64_t *drawn)
 }
 
 /* Draws the key of a new sketch. Returns false if the system has no random bytes. */
-static bool draw_key(uint64_t *k0, uint64_t *k1)
+static bool draw_key(ds_key *key)
 {
     if (!draw_word(&words[0]) || !draw_word(&words[1])) return false;
-    *k0 = atomic_fetch_add(&words[0], 1);
-    *k1 = atomic_load(&words[1]);
+    key->k0 = atomic_fetch_add(&words[0], 1);
+    key->k1 = atomic_load(&words[1]);
     return true;
 }
 
-#define DRAW_KEY(kind) \
-    int32_t ds_frequent_items_##kind##_new(ds_sketch *handle, size_t max_map_size, size_t sample_size) \
-    { \
-        uint64_t k0, k1; \
-        if (!draw_key(&k0, &k1)) return DS_NO_RANDOM; \
-        return ds_frequent_items_##kind##_new_with_key(handle, max_map_size, sample_size, k0, k1); \
-    } \
-    int32_t(ds_frequent_items_##kind##_deserialize)(ds_sketch * handle, const uint8_t *image, size_t length, size_t max_bytes) \
-    { \
-        uint64_t k0, k1; \
-        if (!draw_key(&k0, &k1)) return DS_NO_RANDOM; \
-        return (ds_frequent_items_##kind##_deserialize_with_key)(handle, image, length, max_bytes, k0, k1); \
-    } \
-    int32_t(ds_frequent_items_##kind##_deserialize_prefix)(ds_sketch * handle, const uint8_t *image, size_t length, \
-                                                           size_t max_bytes, size_t *used) \
-    { \
-        uint64_t k0, k1; \
-        if (!draw_key(&k0, &k1)) return DS_NO_RANDOM; \
-        return (ds_frequent_items_##kind##_deserialize_prefix_with_key)(handle, image, length, max_bytes, k0, k1, used); \
-    }
+/* Writes the key of a new sketch of a kind: the caller's, or one that is drawn if that is null. Other kinds have no key, and draw
+ * none. Returns false if a key is drawn and the system has no random bytes. */
+static bool choose_key(int32_t kind, const ds_key *given, ds_key *key)
+{
+    bool has_key = kind == DS_FREQUENT_ITEMS_U64 || kind == DS_FREQUENT_ITEMS_I64 || kind == DS_FREQUENT_ITEMS_STRING;
+    if (has_key && given == NULL) return draw_key(key);
+    *key = has_key ? *given : (ds_key){0, 0};
+    return true;
+}
 
-DRAW_KEY(u64)
-DRAW_KEY(i64)
-DRAW_KEY(string)
+/* The proved calls. They are not exported. Each returns DS_WRONG_KIND for a kind that it does not know. */
+int32_t ds_new_frequent_items(ds_sketch *handle, int32_t kind, size_t max_map_size, size_t sample_size, uint64_t k0, uint64_t k1);
+int32_t ds_read_image(ds_sketch *handle, int32_t kind, const uint8_t *image, size_t length, size_t max_bytes, uint64_t seed,
+                      uint64_t k0, uint64_t k1, size_t *used);
+
+int32_t ds_frequent_items_new(ds_sketch *handle, int32_t kind, size_t max_map_size, size_t sample_size, const ds_key *key)
+{
+    ds_key chosen;
+    if (!choose_key(kind, key, &chosen)) return DS_NO_RANDOM;
+    return ds_new_frequent_items(handle, kind, max_map_size, sample_size, chosen.k0, chosen.k1);
+}
+
+int32_t ds_deserialize_prefix(ds_sketch *handle, int32_t kind, const uint8_t *image, size_t length, const ds_image_options *options,
+                              size_t *used)
+{
+    ds_key key;
+    if (!choose_key(kind, options->key, &key)) return DS_NO_RANDOM;
+    return ds_read_image(handle, kind, image, length, options->max_bytes, options->seed, key.k0, key.k1, used);
+}
+
+int32_t ds_deserialize(ds_sketch *handle, int32_t kind, const uint8_t *image, size_t length, const ds_image_options *options)
+{
+    size_t used;
+    return ds_deserialize_prefix(handle, kind, image, length, options, &used);
+}

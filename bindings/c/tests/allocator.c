@@ -79,7 +79,7 @@ int main(void)
     CHECK(counted.blocks == 2 && counted.bytes >= bytes && counted.bytes < bytes + 512);
     CHECK(ds_set_allocator(&ours) == DS_BAD_ARGUMENT);
 
-    CHECK(ds_frequent_items_string_new_with_key(&heavy, 1024, 768, 1, 2) == DS_OK);
+    CHECK(ds_frequent_items_new(&heavy, DS_FREQUENT_ITEMS_STRING, 1024, 768, &(ds_key){1, 2}) == DS_OK);
     char item[64];
     for (int i = 0; i < 4000; i++) {
         int length = snprintf(item, sizeof item, "an item of a name that is long %d", i % 1500);

@@ -44,8 +44,11 @@ static void create(const struct line *it)
     uint64_t size = strtoull(it->words[2], 0, 10), other = strtoull(it->words[3], 0, 10), seed = strtoull(it->words[4], 0, 10);
     int32_t answer;
     if (strcmp(it->words[0], "bloom") == 0) answer = ds_bloom_new(handle, size, (uint16_t)other, seed);
-    else if (strcmp(it->words[0], "countu") == 0) answer = ds_count_min_u64_new(handle, (uint8_t)size, (uint32_t)other, seed);
-    else answer = ds_frequent_items_string_new_with_key(handle, size, ds_frequent_items_max_sample_size(size), K0, K1);
+    else if (strcmp(it->words[0], "countu") == 0)
+        answer = ds_count_min_new(handle, DS_COUNT_MIN_U64, (uint8_t)size, (uint32_t)other, seed);
+    else
+        answer = ds_frequent_items_new(handle, DS_FREQUENT_ITEMS_STRING, size, ds_frequent_items_max_sample_size(size),
+                                       &(ds_key){K0, K1});
     if (answer != DS_OK) abort();
     puts("ok");
 }

@@ -93,7 +93,7 @@ template <class Insert> image by_c(Insert insert)
     std::size_t written = 0;
     CHECK(ds_bloom_new(&handle, 1 << 15, 5, 9001) == DS_OK);
     insert(&handle);
-    CHECK(ds_bloom_serialize(&handle, made.data(), made.size(), &written) == DS_OK);
+    CHECK(ds_serialize(&handle, made.data(), made.size(), &written) == DS_OK);
     made.resize(written);
     ds_free(&handle);
     return made;
@@ -326,7 +326,7 @@ static void c_calls()
     CHECK(ds_bloom_insert_all_u64(made.get(), std::array<std::uint64_t, 2>{1, 2}.data(), 2) == DS_OK);
     CHECK(take(made.contains(2)) && ds_bloom_insert_all_u64(made.get(), nullptr, 1) == DS_BAD_ARGUMENT);
     /* a call may put a sketch of another kind into the handle */
-    CHECK(ds_count_min_u64_new(made.get(), 3, 64, 9001) == DS_OK);
+    CHECK(ds_count_min_new(made.get(), DS_COUNT_MIN_U64, 3, 64, 9001) == DS_OK);
     FAILS(DS_WRONG_KIND, made.insert(1));
     ds_free(nullptr);
 }
@@ -347,7 +347,7 @@ static void filters()
     DONE(a.insert_lines(std::string_view()));
 
     filter joined = take(a.clone());
-    DONE(joined.union_with(b));
+    DONE(joined.merge(b));
     CHECK(take(joined.serialize()) == of_strings({"to", "be", "or", "not", "to be", "or not"}));
     CHECK(!take(a.contains("to be")) && take(b.contains("to be")));
     CHECK(!take(a.equal(b)) && !take(a.equal(joined)));
@@ -355,14 +355,14 @@ static void filters()
     CHECK(take(joined.equal(a)) && take(a.equal(joined)));
     DONE(joined.difference(a));
     CHECK(take(joined.status()).bits_used == 0 && take(a.status()).bits_used > 0);
-    FAILS(DS_BAD_ARGUMENT, a.union_with(a));
+    FAILS(DS_BAD_ARGUMENT, a.merge(a));
     FAILS(DS_BAD_ARGUMENT, a.intersect(a));
     FAILS(DS_BAD_ARGUMENT, a.difference(a));
     FAILS(DS_BAD_ARGUMENT, a.equal(a));
     filter other = take(filter::create(64, 3, 7));
-    FAILS(DS_MISMATCH, a.union_with(other));
+    FAILS(DS_MISMATCH, a.merge(other));
     auto status = take(other.status());
-    CHECK(status.capacity == 64 && status.num_hashes == 3 && status.seed == 7 && take(a.status()).seed == 9001);
+    CHECK(status.num_bits == 64 && status.num_hashes == 3 && status.seed == 7 && take(a.status()).seed == 9001);
     CHECK(take(other.memory_bytes()) == 8 && take(a.memory_bytes()) == 1 << 12);
 
     /* many filters, in a vector and in an array */
@@ -372,14 +372,14 @@ static void filters()
         DONE(many.back().insert(i));
     }
     filter all = new_filter();
-    DONE(all.union_all(many));
+    DONE(all.merge_all(many));
     CHECK(take(all.serialize()) == of_i64({0, 1, 2, 3, 4, 5, 6, 7, 8}) && take(many[3].serialize()) == of_i64({3}));
-    DONE(many[0].union_all(ds::span(&many[1], 2)));
+    DONE(many[0].merge_all(ds::span(&many[1], 2)));
     CHECK(take(many[0].serialize()) == of_i64({0, 1, 2}));
-    FAILS(DS_BAD_ARGUMENT, many[4].union_all(many));
+    FAILS(DS_BAD_ARGUMENT, many[4].merge_all(many));
     filter few[2];
-    FAILS(DS_NO_SKETCH, all.union_all(few));
-    DONE(all.union_all(std::vector<filter>()));
+    FAILS(DS_NO_SKETCH, all.merge_all(few));
+    DONE(all.merge_all(std::vector<filter>()));
     DONE(all.reset());
     CHECK(take(all.status()).bits_used == 0);
 }
@@ -417,12 +417,13 @@ static void images()
     DONE(count.update("a", 5u));
     written = take(count.serialize());
     CHECK(written.size() == 24 + 3 * 64 * 8 && take(count.serialized_size()) == written.size());
-    CHECK(take(take(counts::deserialize(written, 7, 1 << 14)).equal(count)));
-    CHECK(take(take(counts::deserialize(written.data(), written.size(), 7, 1 << 14)).equal(count)));
-    FAILS(DS_SEED_HASH_MISMATCH, counts::deserialize(written, 9001, 1 << 14));
-    FAILS(DS_TABLE_TOO_LARGE, counts::deserialize(written, 7, 3 * 64 * 8));
+    CHECK(take(take(counts::deserialize(written, {1 << 14, 7})).equal(count)));
+    CHECK(take(take(counts::deserialize(written.data(), written.size(), {1 << 14, 7})).equal(count)));
+    FAILS(DS_SEED_HASH_MISMATCH, counts::deserialize(written, 1 << 14));
+    FAILS(DS_SEED_HASH_MISMATCH, counts::deserialize(written, {1 << 14, 9001}));
+    FAILS(DS_TABLE_TOO_LARGE, counts::deserialize(written, {3 * 64 * 8, 7}));
     CHECK(take(count.serialize(buffer.data(), buffer.size())) == written.size());
-    FAILS(DS_BAD_ARGUMENT, counts::deserialize(nullptr, 1, 7, 1 << 14));
+    FAILS(DS_BAD_ARGUMENT, counts::deserialize(nullptr, 1, {1 << 14, 7}));
 
     /* a sketch of strings whose image is long, and one whose table is large and holds little */
     strings heavy = take(strings::create(1 << 10)), wide = take(strings::create(8));
@@ -431,11 +432,11 @@ static void images()
     for (strings *it : {&heavy, &wide}) {
         written = take(it->serialize());
         CHECK(written.size() == take(it->serialized_size()));
-        strings same = take(strings::deserialize(written, 1 << 20)), keyed = take(strings::deserialize(written, 1 << 20, KEY));
+        strings same = take(strings::deserialize(written, 1 << 20)), keyed = take(strings::deserialize(written, {1 << 20, KEY}));
         CHECK(take(same.status()).total_weight == take(it->status()).total_weight);
         CHECK(take(keyed.status()).num_active_items == take(it->status()).num_active_items);
         FAILS(DS_TABLE_TOO_LARGE, strings::deserialize(written.data(), written.size(), 10));
-        FAILS(DS_TABLE_TOO_LARGE, strings::deserialize(written.data(), written.size(), 10, KEY));
+        FAILS(DS_TABLE_TOO_LARGE, strings::deserialize(written.data(), written.size(), {10, KEY}));
     }
 }
 
@@ -465,15 +466,15 @@ template <class T> static void frequent_prefixes(const T &first, const T &second
     auto [empty, more] = take(sketch::deserialize_prefix(all.data() + used, all.size() - used, 1 << 20));
     CHECK(more == 8 && take(empty.status()).total_weight == 0 && take(empty.status()).max_map_size == 8);
     const ds::span rest(all.data() + used + more, all.size() - used - more);
-    auto [last, end] = take(sketch::deserialize_prefix(rest, 1 << 20, KEY));
+    auto [last, end] = take(sketch::deserialize_prefix(rest, {1 << 20, KEY}));
     CHECK(end == rest.size() && take(last.bounds(second)).upper_bound == 9);
-    CHECK(take(last.serialize()) == take(take(sketch::deserialize(rest, 1 << 20, KEY)).serialize()));
-    FAILS(DS_INSUFFICIENT_DATA, sketch::deserialize_prefix(rest.data(), rest.size() - 1, 1 << 20, KEY));
+    CHECK(take(last.serialize()) == take(take(sketch::deserialize(rest, {1 << 20, KEY})).serialize()));
+    FAILS(DS_INSUFFICIENT_DATA, sketch::deserialize_prefix(rest.data(), rest.size() - 1, {1 << 20, KEY}));
     FAILS(DS_INSUFFICIENT_DATA, sketch::deserialize_prefix(image(), 1 << 20));
     FAILS(DS_TABLE_TOO_LARGE, sketch::deserialize_prefix(all, 10));
-    FAILS(DS_TABLE_TOO_LARGE, sketch::deserialize_prefix(all, 10, KEY));
+    FAILS(DS_TABLE_TOO_LARGE, sketch::deserialize_prefix(all, {10, KEY}));
     FAILS(DS_BAD_ARGUMENT, sketch::deserialize_prefix(nullptr, 1, 1 << 20));
-    FAILS(DS_BAD_ARGUMENT, sketch::deserialize_prefix(nullptr, 1, 1 << 20, KEY));
+    FAILS(DS_BAD_ARGUMENT, sketch::deserialize_prefix(nullptr, 1, {1 << 20, KEY}));
     FAILS(DS_NO_SKETCH, sketch().serialize());
     FAILS(DS_NO_SKETCH, sketch().serialized_size());
 }
@@ -501,13 +502,13 @@ static void prefixes()
     DONE(below.update("a", -5));
     all = take(count.serialize());
     append(all, take(below.serialize()));
-    auto [first, length] = take(counts::deserialize_prefix(all, 7, 1 << 14));
+    auto [first, length] = take(counts::deserialize_prefix(all, {1 << 14, 7}));
     CHECK(length == 24 + 3 * 64 * 8 && take(first.equal(count)));
-    auto [second, rest] = take(signed_counts::deserialize_prefix(all.data() + length, all.size() - length, 7, 1 << 14));
+    auto [second, rest] = take(signed_counts::deserialize_prefix(all.data() + length, all.size() - length, {1 << 14, 7}));
     CHECK(rest == all.size() - length && take(second.equal(below)));
-    FAILS(DS_SEED_HASH_MISMATCH, counts::deserialize_prefix(all, 9001, 1 << 14));
-    FAILS(DS_TABLE_TOO_LARGE, counts::deserialize_prefix(all, 7, 3 * 64 * 8));
-    FAILS(DS_BAD_ARGUMENT, signed_counts::deserialize_prefix(nullptr, 1, 7, 1 << 14));
+    FAILS(DS_SEED_HASH_MISMATCH, counts::deserialize_prefix(all, 1 << 14));
+    FAILS(DS_TABLE_TOO_LARGE, counts::deserialize_prefix(all, {3 * 64 * 8, 7}));
+    FAILS(DS_BAD_ARGUMENT, signed_counts::deserialize_prefix(nullptr, 1, {1 << 14, 7}));
 
     frequent_prefixes<std::string>("apple", "");
     frequent_prefixes<std::uint64_t>(1, UINT64_MAX);
@@ -640,6 +641,32 @@ template <class Sketch, class Create> void shares(Create create)
     FAILS(DS_NO_SKETCH, none.thaw());
 }
 
+/* Each class has the number of its kind, and numbers of other kinds are 0. */
+static void kinds()
+{
+    filter seen = take(filter::create(64, 3, 7));
+    counts count = take(counts::create(3, 64, 7));
+    signed_counts below = take(signed_counts::create(3, 64));
+    strings heavy = take(strings::create(64));
+    numbers of_u64 = take(numbers::create(64));
+    signed_numbers of_i64 = take(signed_numbers::create(64));
+    ds_status status = take(seen.status());
+    CHECK(status.kind == filter::kind && filter::kind == DS_BLOOM && status.num_bits == 64 && status.total_weight == 0);
+    status = take(count.status());
+    CHECK(status.kind == counts::kind && counts::kind == DS_COUNT_MIN_U64 && status.num_bits == 0 && status.seed == 7);
+    status = take(heavy.status());
+    CHECK(status.kind == strings::kind && strings::kind == DS_FREQUENT_ITEMS_STRING && status.seed == 0);
+    CHECK(take(below.status()).kind == DS_COUNT_MIN_I64 && signed_counts::kind == DS_COUNT_MIN_I64);
+    CHECK(take(of_u64.status()).kind == DS_FREQUENT_ITEMS_U64 && numbers::kind == DS_FREQUENT_ITEMS_U64);
+    CHECK(take(of_i64.status()).kind == DS_FREQUENT_ITEMS_I64 && signed_numbers::kind == DS_FREQUENT_ITEMS_I64);
+    /* an image of another kind, and a seed or a key for a kind without */
+    image written = take(seen.serialize());
+    FAILS(DS_BAD_FAMILY, counts::deserialize(written, 1 << 20));
+    CHECK(take(take(filter::deserialize(written, {8, KEY})).equal(seen)));
+    CHECK(take(take(filter::deserialize(written, {8, 9001})).equal(seen)));
+    CHECK(take(filter::deserialize_prefix(written, {8, 9001})).used == written.size());
+}
+
 /* Four threads read one filter, an object each. */
 static void threads_of_shares()
 {
@@ -745,6 +772,11 @@ template <class W> void count_min()
     DONE(a.merge_all(many));
     CHECK(take(a.estimate("apple")) == 108);
     FAILS(DS_BAD_ARGUMENT, many[2].merge_all(many));
+    DONE(a.reset());
+    CHECK(take(a.estimate("apple")) == 0 && take(a.equal(b)) == false && take(a.status()).num_buckets == 128);
+    DONE(a.merge(b));
+    CHECK(take(a.equal(b)));
+    FAILS(DS_NO_SKETCH, sketch().reset());
 
     /* many items of each form, with and without weights */
     const std::vector<std::uint64_t> unsigned_items{1, 2, 1};
@@ -924,15 +956,15 @@ template <class T> void frequent()
     }
     image of_first = take(keyed[0].serialize());
     CHECK(of_first == take(keyed[1].serialize()) && of_first != take(keyed[2].serialize()));
-    sketch read = take(sketch::deserialize(of_first.data(), of_first.size(), 1 << 20, KEY));
-    sketch other = take(sketch::deserialize(of_first, 1 << 20, {KEY.k1, KEY.k0}));
+    sketch read = take(sketch::deserialize(of_first.data(), of_first.size(), {1 << 20, KEY}));
+    sketch other = take(sketch::deserialize(of_first, {1 << 20, {KEY.k1, KEY.k0}}));
     sketch drawn = take(sketch::deserialize(of_first, 1 << 20)), drawn_too = take(sketch::create(1 << 10));
     CHECK(take(read.serialize()) != take(other.serialize()) && take(drawn.serialize()) != take(read.serialize()));
     sketch by_c;
-    CHECK(ds::detail::frequent_items_calls<T>::deserialize_with_key(by_c.get(), of_first.data(), of_first.size(), 1 << 20, KEY.k0,
-                                                                    KEY.k1) == DS_OK);
+    const ds_image_options options = {1 << 20, 0, &KEY};
+    CHECK(ds_deserialize(by_c.get(), sketch::kind, of_first.data(), of_first.size(), &options) == DS_OK);
     CHECK(take(read.serialize()) == take(by_c.serialize()));
-    CHECK(take(read.serialize()) == take(take(sketch::deserialize(of_first, 1 << 20, KEY)).serialize()));
+    CHECK(take(read.serialize()) == take(take(sketch::deserialize(of_first, {1 << 20, KEY})).serialize()));
     CHECK(take(drawn.bounds(item_of<T>(299))).lower_bound == 1 && take(drawn_too.status()).num_active_items == 0);
 
     for (std::size_t count : {0, 1, 63, 64, 65, 900}) reports<T>(count);
@@ -1084,6 +1116,7 @@ int main()
     shares<numbers>([] { return take(numbers::create(64, 48, KEY)); });
     shares<signed_numbers>([] { return take(signed_numbers::create(64, 48, KEY)); });
     threads_of_shares();
+    kinds();
     count_min<std::uint64_t>();
     count_min<std::int64_t>();
     weights();

@@ -5,6 +5,7 @@
 #include <string.h>
 
 #include "check.h"
+#include "options.h"
 
 enum { ITEMS = 96 };
 
@@ -44,14 +45,14 @@ static uint8_t *placed(const uint8_t *image, size_t length, size_t shift, uint8_
 static void filter_in_place(ds_sketch *filter)
 {
     ds_sketch read = DS_NONE;
-    uint8_t *image, *block;
+    uint8_t *image = NULL, *block;
     size_t length;
-    CHECK(ds_bloom_serialized_bytes(filter, &length) == DS_OK && (image = malloc(length)) != NULL);
-    CHECK(ds_bloom_serialize(filter, image, length, &length) == DS_OK);
+    CHECK(ds_serialized_bytes(filter, &length) == DS_OK && (image = malloc(length)) != NULL);
+    CHECK(ds_serialize(filter, image, length, &length) == DS_OK);
     for (size_t shift = 0; shift < 8; shift++) {
         bool got[ITEMS], wanted[ITEMS];
         const uint8_t *at = placed(image, length, shift, &block);
-        CHECK(ds_bloom_deserialize(&read, at, length, 1 << 20) == DS_OK);
+        CHECK(ds_deserialize(&read, DS_BLOOM, at, length, WITHIN(1 << 20)) == DS_OK);
         for (size_t i = 0; i < ITEMS; i++) {
             const ds_string *string = &pairs[i];
             CHECK(ds_bloom_image_contains_u64(at, length, numbers[i]) == ds_bloom_contains_u64(&read, numbers[i]));
@@ -83,7 +84,7 @@ static void filters_in_place(void)
     } SHAPES[] = {{64, 1}, {640, 3}, {4160, 7}, {100, 12}};
     for (size_t i = 0; i < sizeof SHAPES / sizeof *SHAPES; i++) {
         ds_sketch filter = DS_NONE;
-        ds_bloom_status status;
+        ds_status status;
         uint64_t item = 0;
         CHECK(ds_bloom_new(&filter, SHAPES[i].num_bits, SHAPES[i].num_hashes, 9001 + i) == DS_OK);
         filter_in_place(&filter);
@@ -91,8 +92,8 @@ static void filters_in_place(void)
         CHECK(ds_bloom_insert_all_string_pairs(&filter, pairs, 5) == DS_OK);
         filter_in_place(&filter);
         do {
-            CHECK(ds_bloom_insert_u64(&filter, item++) == DS_OK && ds_bloom_get_status(&filter, &status) == DS_OK);
-        } while (status.bits_used < status.capacity);
+            CHECK(ds_bloom_insert_u64(&filter, item++) == DS_OK && ds_get_status(&filter, &status) == DS_OK);
+        } while (status.bits_used < status.num_bits);
         filter_in_place(&filter);
         ds_free(&filter);
     }
@@ -149,7 +150,7 @@ static void altered_filters(void)
             uint8_t image[40];
             memcpy(image, TWO_BITS, sizeof image);
             image[place] = (uint8_t)byte;
-            int32_t read = ds_bloom_deserialize(&filter, image, 40, 1 << 16);
+            int32_t read = ds_deserialize(&filter, DS_BLOOM, image, 40, WITHIN(1 << 16));
             int32_t result = ds_bloom_image_contains_u64(image, 40, 7);
             if (read == DS_OK) CHECK(result == ds_bloom_contains_u64(&filter, 7));
             else if (is_later(read)) CHECK(result == DS_YES || result == DS_NO);
@@ -196,18 +197,18 @@ static const struct alteration COUNTS_ALTERED[] = {
     {24, 6, 48, DS_OK},
 };
 
-#define COUNTS_IN_PLACE(kind, weight_type, least) \
+#define COUNTS_IN_PLACE(kind, number, weight_type, least) \
     static void count_in_place_##kind(ds_sketch *count, uint64_t seed) \
     { \
         ds_sketch read = DS_NONE; \
-        uint8_t *image, *block; \
+        uint8_t *image = NULL, *block; \
         size_t length; \
-        CHECK(ds_count_min_##kind##_serialized_bytes(count, &length) == DS_OK && (image = malloc(length)) != NULL); \
-        CHECK(ds_count_min_##kind##_serialize(count, image, length, &length) == DS_OK); \
+        CHECK(ds_serialized_bytes(count, &length) == DS_OK && (image = malloc(length)) != NULL); \
+        CHECK(ds_serialize(count, image, length, &length) == DS_OK); \
         for (size_t shift = 0; shift < 8; shift++) { \
             weight_type got = 7, wanted = 8; \
             const uint8_t *at = placed(image, length, shift, &block); \
-            CHECK(ds_count_min_##kind##_deserialize(&read, at, length, seed, 1 << 20) == DS_OK); \
+            CHECK(ds_deserialize(&read, number, at, length, WITHIN_SEED(1 << 20, seed)) == DS_OK); \
             for (size_t i = 0; i < ITEMS; i++) { \
                 CHECK(ds_count_min_##kind##_image_estimate_u64(at, length, seed, numbers[i], &got) == DS_OK); \
                 CHECK(ds_count_min_##kind##_estimate_u64(&read, numbers[i], &wanted) == DS_OK && got == wanted); \
@@ -230,7 +231,7 @@ static const struct alteration COUNTS_ALTERED[] = {
     { \
         for (uint64_t seed = 9001; seed < 9004; seed++) { \
             ds_sketch count = DS_NONE; \
-            CHECK(ds_count_min_##kind##_new(&count, (uint8_t)(seed - 9000), 5 + 20 * (uint32_t)(seed % 2), seed) == DS_OK); \
+            CHECK(ds_count_min_new(&count, number, (uint8_t)(seed - 9000), 5 + 20 * (uint32_t)(seed % 2), seed) == DS_OK); \
             count_in_place_##kind(&count, seed); \
             for (size_t i = 0; i < 16; i++) { \
                 weight_type weight = (weight_type)(3 * i) + (least); \
@@ -260,7 +261,7 @@ static const struct alteration COUNTS_ALTERED[] = {
                 uint8_t image[48]; \
                 memcpy(image, FIVE, sizeof image); \
                 image[place] = (uint8_t)byte; \
-                int32_t read = ds_count_min_##kind##_deserialize(&count, image, 48, 9001, 1 << 16); \
+                int32_t read = ds_deserialize(&count, number, image, 48, WITHIN(1 << 16)); \
                 int32_t result = ds_count_min_##kind##_image_estimate_u64(image, 48, 9001, 7, &estimate); \
                 if (read == DS_OK) { \
                     CHECK(ds_count_min_##kind##_estimate_u64(&count, 7, &wanted) == DS_OK); \
@@ -311,8 +312,8 @@ static bool within_five_i64(int64_t estimate)
     return estimate >= -5 && estimate <= 5;
 }
 
-COUNTS_IN_PLACE(u64, uint64_t, 0)
-COUNTS_IN_PLACE(i64, int64_t, -20)
+COUNTS_IN_PLACE(u64, DS_COUNT_MIN_U64, uint64_t, 0)
+COUNTS_IN_PLACE(i64, DS_COUNT_MIN_I64, int64_t, -20)
 
 /* --- Inserts that return whether the item was there. --- */
 
@@ -326,7 +327,7 @@ COUNTS_IN_PLACE(i64, int64_t, -20)
         CHECK(ds_bloom_new(&loop, num_bits, 3, 9001) == DS_OK && ds_bloom_insert_u64(&loop, 1) == DS_OK); \
         CHECK(ds_clone(&one, &loop) == DS_OK && ds_clone(&all, &loop) == DS_OK); \
         memset(results, true, sizeof results); \
-        CHECK((contains_and_insert_all(ITEMS - 1)) == DS_NO_ROOM && results[0] && ds_bloom_equal(&all, &one) == DS_YES); \
+        CHECK((contains_and_insert_all(ITEMS - 1)) == DS_NO_ROOM && results[0] && ds_equal(&all, &one) == DS_YES); \
         CHECK((contains_and_insert_all(ITEMS)) == DS_OK); \
         for (size_t i = 0; i < ITEMS; i++) { \
             int32_t wanted = contains; \
@@ -334,15 +335,15 @@ COUNTS_IN_PLACE(i64, int64_t, -20)
             seen += wanted; \
         } \
         CHECK(seen > 0 && (seen < ITEMS || num_bits == 64)); \
-        CHECK(ds_bloom_equal(&loop, &one) == DS_YES && ds_bloom_equal(&loop, &all) == DS_YES); \
+        CHECK(ds_equal(&loop, &one) == DS_YES && ds_equal(&loop, &all) == DS_YES); \
         CHECK((contains_and_insert_all(ITEMS)) == DS_OK); \
         for (size_t i = 0; i < ITEMS; i++) CHECK(results[i]); \
-        CHECK(ds_bloom_equal(&loop, &all) == DS_YES); \
+        CHECK(ds_equal(&loop, &all) == DS_YES); \
         /* errors of handles change nothing */ \
         memset(results, false, sizeof results); \
         ds_free(&all); \
         CHECK((contains_and_insert_all(ITEMS)) == DS_NO_SKETCH && !results[0]); \
-        CHECK(ds_count_min_u64_new(&all, 1, 3, 9001) == DS_OK && (contains_and_insert_all(ITEMS)) == DS_WRONG_KIND); \
+        CHECK(ds_count_min_new(&all, DS_COUNT_MIN_U64, 1, 3, 9001) == DS_OK && (contains_and_insert_all(ITEMS)) == DS_WRONG_KIND); \
         CHECK(!results[0]); \
         ds_free(&loop); \
         ds_free(&one); \
@@ -383,7 +384,7 @@ static void errors_of_inserts(void)
     CHECK(ds_bloom_contains_and_insert_all_string_pairs(&filter, null_pair, 1, results, 1) == DS_BAD_ARGUMENT);
     CHECK(ds_bloom_contains_and_insert_all_u64(&filter, NULL, 1, results, 1) == DS_BAD_ARGUMENT);
     CHECK(ds_bloom_contains_and_insert_all_i64(&filter, NULL, 0, NULL, 0) == DS_OK && results[0] && results[1]);
-    CHECK(ds_bloom_equal(&filter, &was) == DS_YES);
+    CHECK(ds_equal(&filter, &was) == DS_YES);
     ds_free(&filter);
     ds_free(&was);
 }

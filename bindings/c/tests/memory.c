@@ -4,32 +4,36 @@
 #include <stdlib.h>
 #include <string.h>
 
+#include "options.h"
+
 static uint8_t before[1 << 12], after[1 << 12];
 
-/* Returns the total weight of a sketch of frequent items, and 0 for any other handle. */
+/* Returns the total weight of a sketch, and 0 for a filter or no sketch. */
 static uint64_t weight_of(ds_sketch *handle)
 {
-    ds_frequent_items_status numbers;
-    if (ds_frequent_items_u64_get_status(handle, &numbers) == DS_OK) return numbers.total_weight;
-    if (ds_frequent_items_string_get_status(handle, &numbers) == DS_OK) return numbers.total_weight;
-    return ds_frequent_items_i64_get_status(handle, &numbers) == DS_OK ? numbers.total_weight : 0;
+    ds_status numbers;
+    return ds_get_status(handle, &numbers) == DS_OK ? numbers.total_weight : 0;
 }
 
 /* Returns whether a result is as expected: success, or DS_NO_MEMORY with an unchanged sketch. */
 static int is_due(int32_t answer, ds_sketch *handle, uint64_t weight)
 {
+    ds_status numbers;
     size_t length;
     if (answer >= 0) return 1;
     if (answer != DS_NO_MEMORY || weight_of(handle) != weight) return 0;
-    answer = ds_bloom_serialize(handle, after, sizeof after, &length);
-    return answer == DS_OK ? memcmp(before, after, length) == 0 : answer == DS_NO_SKETCH || answer == DS_WRONG_KIND;
+    answer = ds_get_status(handle, &numbers);
+    if (answer == DS_NO_SKETCH) return 1;
+    if (answer != DS_OK || ds_serialized_bytes(handle, &length) != DS_OK) return 0;
+    if (numbers.kind != DS_BLOOM) return 1;
+    return ds_serialize(handle, after, sizeof after, &length) == DS_OK && memcmp(before, after, length) == 0;
 }
 
 /* Stores the filter's image for later comparisons. */
 static void keep(ds_sketch *filter)
 {
     size_t length;
-    if (ds_bloom_serialize(filter, before, sizeof before, &length) != DS_OK) exit(1);
+    if (ds_serialize(filter, before, sizeof before, &length) != DS_OK) exit(1);
 }
 
 /* Makes a call, and makes it again if an allocation failed. */
@@ -107,20 +111,20 @@ static int combine_many(void)
     ds_sketch others[3] = {DS_NONE};
     uint64_t estimate;
     DONE(&filter, ds_bloom_new(&filter, 959, 7, 9001));
-    DONE(&count, ds_count_min_u64_new(&count, 4, 128, 9001));
-    DONE(&frequent, ds_frequent_items_string_new(&frequent, 64, 48));
+    DONE(&count, ds_count_min_new(&count, DS_COUNT_MIN_U64, 4, 128, 9001));
+    DONE(&frequent, ds_frequent_items_new(&frequent, DS_FREQUENT_ITEMS_STRING, 64, 48, NULL));
     for (uint64_t i = 0; i < 3; i++) {
         DONE(&filters[i], ds_bloom_new(&filters[i], 959, 7, 9001));
         DONE(&filters[i], ds_bloom_insert_u64(&filters[i], i));
-        DONE(&counts[i], ds_count_min_u64_new(&counts[i], 4, 128, 9001));
+        DONE(&counts[i], ds_count_min_new(&counts[i], DS_COUNT_MIN_U64, 4, 128, 9001));
         DONE(&counts[i], ds_count_min_u64_update_u64(&counts[i], 7, i + 1));
-        DONE(&others[i], ds_frequent_items_string_new(&others[i], 64, 48));
+        DONE(&others[i], ds_frequent_items_new(&others[i], DS_FREQUENT_ITEMS_STRING, 64, 48, NULL));
         DONE(&others[i], ds_frequent_items_string_update(&others[i], letters + 2 * i, 4, i + 1));
     }
     keep(&filter);
-    DONE(&filter, ds_bloom_union_all(&filter, filters, 3));
-    DONE(&count, ds_count_min_u64_merge_all(&count, counts, 3));
-    DONE(&frequent, ds_frequent_items_string_merge_all(&frequent, others, 3));
+    DONE(&filter, ds_merge_all(&filter, filters, 3));
+    DONE(&count, ds_merge_all(&count, counts, 3));
+    DONE(&frequent, ds_merge_all(&frequent, others, 3));
     if (ds_count_min_u64_estimate_u64(&count, 7, &estimate) != DS_OK || estimate != 6 || weight_of(&frequent) != 6) return 1;
     for (uint64_t i = 0; i < 3; i++) {
         if (ds_bloom_contains_u64(&filter, i) != DS_YES || ds_bloom_contains_u64(&filters[i], i) != DS_YES) return 1;
@@ -166,8 +170,8 @@ int main(void)
 {
     ds_sketch filter = DS_NONE, other = DS_NONE, count = DS_NONE, second = DS_NONE;
     ds_sketch frequent = DS_NONE, many = DS_NONE, copy = DS_NONE;
-    ds_frequent_items_status numbers;
-    uint8_t image[1 << 12];
+    ds_status numbers;
+    uint8_t image[1 << 13];
     size_t length = 0, used = 0;
     uint64_t items[64], estimate = 0;
     for (uint64_t i = 0; i < 64; i++) items[i] = i;
@@ -176,48 +180,55 @@ int main(void)
     DONE(&other, ds_bloom_new(&other, 959, 7, 9001));
     DONE(&filter, ds_bloom_insert_all_u64(&filter, items, 64));
     DONE(&other, ds_bloom_insert_string(&other, (const uint8_t *)"apple", 5));
-    DONE(&filter, ds_bloom_union(&filter, &other));
+    DONE(&filter, ds_merge(&filter, &other));
     keep(&filter);
-    DONE(&filter, ds_bloom_serialize(&filter, image, sizeof image, &length));
-    DONE(&filter, ds_bloom_deserialize(&filter, image, length, 1 << 12));
-    DONE(&filter, ds_bloom_deserialize_prefix(&filter, image, sizeof image, 1 << 12, &used));
+    DONE(&filter, ds_serialize(&filter, image, sizeof image, &length));
+    DONE(&filter, ds_deserialize(&filter, DS_BLOOM, image, length, WITHIN(1 << 12)));
+    DONE(&filter, ds_deserialize_prefix(&filter, DS_BLOOM, image, sizeof image, WITHIN(1 << 12), &used));
     if (used != length) return 1;
     if (ds_bloom_contains_u64(&filter, 63) != DS_YES) return 1;
     keep(&filter);
     DONE(&copy, ds_clone(&copy, &filter));
     if (ds_bloom_contains_u64(&copy, 63) != DS_YES) return 1;
     DONE(&filter, ds_bloom_new(&filter, 64, 1, 9001));
-    DONE(&count, ds_count_min_u64_new(&count, 4, 128, 9001));
-    DONE(&second, ds_count_min_u64_new(&second, 4, 128, 9001));
+    DONE(&count, ds_count_min_new(&count, DS_COUNT_MIN_U64, 4, 128, 9001));
+    DONE(&second, ds_count_min_new(&second, DS_COUNT_MIN_U64, 4, 128, 9001));
     DONE(&count, ds_count_min_u64_update_all_u64(&count, items, 64));
-    DONE(&second, ds_count_min_u64_merge(&second, &count));
+    DONE(&second, ds_merge(&second, &count));
     if (ds_count_min_u64_estimate_u64(&second, 5, &estimate) != DS_OK || !estimate) return 1;
     DONE(&copy, ds_clone(&copy, &second));
     if (ds_count_min_u64_estimate_u64(&copy, 5, &estimate) != DS_OK || !estimate) return 1;
-    DONE(&frequent, ds_frequent_items_u64_new(&frequent, 64, 48));
-    DONE(&many, ds_frequent_items_i64_new(&many, 8, 6));
+    DONE(&copy, ds_serialize(&copy, image, sizeof image, &length));
+    DONE(&copy, ds_deserialize(&copy, DS_COUNT_MIN_U64, image, length, WITHIN(1 << 14)));
+    if (ds_equal(&copy, &second) != DS_YES) return 1;
+    DONE(&copy, ds_reset(&copy));
+    if (weight_of(&copy) != 0 || ds_count_min_u64_estimate_u64(&copy, 5, &estimate) != DS_OK || estimate) return 1;
+    DONE(&copy, ds_merge(&copy, &second));
+    if (ds_equal(&copy, &second) != DS_YES) return 1;
+    DONE(&frequent, ds_frequent_items_new(&frequent, DS_FREQUENT_ITEMS_U64, 64, 48, NULL));
+    DONE(&many, ds_frequent_items_new(&many, DS_FREQUENT_ITEMS_I64, 8, 6, NULL));
     /* the table doubles three times; if that fails for lack of memory, the items before are added */
     for (uint64_t i = 0; i < 64; i++) DONE(&frequent, ds_frequent_items_u64_update(&frequent, i, i + 1));
     for (int64_t i = 0; i < 64; i++) DONE(&many, ds_frequent_items_i64_update(&many, i, 1));
-    DONE(&frequent, ds_frequent_items_u64_serialize(&frequent, image, sizeof image, &length));
+    DONE(&frequent, ds_serialize(&frequent, image, sizeof image, &length));
     DONE(&copy, ds_clone(&copy, &frequent));
-    DONE(&frequent, ds_frequent_items_u64_merge(&frequent, &copy));
-    DONE(&copy, ds_frequent_items_u64_deserialize(&copy, image, length, 1 << 14));
-    DONE(&copy, ds_frequent_items_u64_deserialize_prefix(&copy, image, sizeof image, 1 << 14, &used));
+    DONE(&frequent, ds_merge(&frequent, &copy));
+    DONE(&copy, ds_deserialize(&copy, DS_FREQUENT_ITEMS_U64, image, length, WITHIN(1 << 14)));
+    DONE(&copy, ds_deserialize_prefix(&copy, DS_FREQUENT_ITEMS_U64, image, sizeof image, WITHIN(1 << 14), &used));
     if (used != length) return 1;
-    if (ds_frequent_items_u64_get_status(&frequent, &numbers) != DS_OK || numbers.total_weight != 2 * 2080) return 1;
-    if (ds_frequent_items_u64_get_status(&copy, &numbers) != DS_OK || numbers.total_weight != 2080) return 1;
+    if (ds_get_status(&frequent, &numbers) != DS_OK || numbers.total_weight != 2 * 2080) return 1;
+    if (ds_get_status(&copy, &numbers) != DS_OK || numbers.total_weight != 2080) return 1;
     write_strings();
     for (uint64_t i = 0; i < 64; i++) items[i] = 2;
     for (int form = 0; form < 2; form++) {
         as_pairs = form == 1;
         /* under a given key, so that each run makes the same allocations */
-        DONE(&frequent, ds_frequent_items_string_new_with_key(&frequent, 64, 48, 7, 8));
+        DONE(&frequent, ds_frequent_items_new(&frequent, DS_FREQUENT_ITEMS_STRING, 64, 48, &(ds_key){7, 8}));
         if (!adds_strings(&frequent, NULL) || !adds_strings(&frequent, NULL)) return 1;
         if (!adds_strings(&frequent, items)) return 1;
         if (!tells_of_strings(&frequent)) return 1;
-        DONE(&frequent, ds_frequent_items_string_serialize(&frequent, image, sizeof image, &length));
-        DONE(&copy, ds_frequent_items_string_deserialize_prefix_with_key(&copy, image, length, 1 << 14, 7, 8, &used));
+        DONE(&frequent, ds_serialize(&frequent, image, sizeof image, &length));
+        DONE(&copy, ds_deserialize_prefix(&copy, DS_FREQUENT_ITEMS_STRING, image, length, WITHIN_KEY(1 << 14, 7, 8), &used));
         if (used != length) return 1;
     }
     if (combine_many()) return 1;

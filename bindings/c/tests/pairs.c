@@ -25,9 +25,10 @@ struct sketches {
 static void create(struct sketches *it)
 {
     memset(it, 0, sizeof *it);
-    CHECK(ds_bloom_new(&it->filter, 959, 7, 9001) == DS_OK && ds_count_min_u64_new(&it->count, 4, 128, 9001) == DS_OK);
-    CHECK(ds_count_min_i64_new(&it->signs, 4, 128, 9001) == DS_OK);
-    CHECK(ds_frequent_items_string_new_with_key(&it->frequent, 64, 48, 7, 8) == DS_OK);
+    CHECK(ds_bloom_new(&it->filter, 959, 7, 9001) == DS_OK &&
+          ds_count_min_new(&it->count, DS_COUNT_MIN_U64, 4, 128, 9001) == DS_OK);
+    CHECK(ds_count_min_new(&it->signs, DS_COUNT_MIN_I64, 4, 128, 9001) == DS_OK);
+    CHECK(ds_frequent_items_new(&it->frequent, DS_FREQUENT_ITEMS_STRING, 64, 48, &(ds_key){7, 8}) == DS_OK);
 }
 
 static void clear(struct sketches *it)
@@ -43,10 +44,10 @@ static void same_images(struct sketches *a, struct sketches *b)
 {
     static uint8_t one[1 << 13], two[1 << 13];
     size_t length, again;
-    CHECK(ds_bloom_equal(&a->filter, &b->filter) == DS_YES && ds_count_min_u64_equal(&a->count, &b->count) == DS_YES);
-    CHECK(ds_count_min_i64_equal(&a->signs, &b->signs) == DS_YES);
-    CHECK(ds_frequent_items_string_serialize(&a->frequent, one, sizeof one, &length) == DS_OK);
-    CHECK(ds_frequent_items_string_serialize(&b->frequent, two, sizeof two, &again) == DS_OK && length == again);
+    CHECK(ds_equal(&a->filter, &b->filter) == DS_YES && ds_equal(&a->count, &b->count) == DS_YES);
+    CHECK(ds_equal(&a->signs, &b->signs) == DS_YES);
+    CHECK(ds_serialize(&a->frequent, one, sizeof one, &length) == DS_OK);
+    CHECK(ds_serialize(&b->frequent, two, sizeof two, &again) == DS_OK && length == again);
     CHECK(memcmp(one, two, length) == 0);
 }
 
@@ -224,9 +225,9 @@ static void errors(void)
     CHECK(ds_count_min_u64_update_u64(&other.count, 1, UINT64_MAX - 2) == DS_OK);
     CHECK(ds_count_min_u64_update_all_string_pairs(&other.count, STRINGS, 3) == DS_WEIGHT_OVERFLOW);
     {
-        ds_count_min_status numbers;
+        ds_status numbers;
         const uint64_t ones[3] = {1, 1, 1};
-        CHECK(ds_count_min_u64_get_status(&other.count, &numbers) == DS_OK && numbers.total_weight == UINT64_MAX);
+        CHECK(ds_get_status(&other.count, &numbers) == DS_OK && numbers.total_weight == UINT64_MAX);
         CHECK(ds_count_min_u64_update_all_weighted_string_pairs(&other.count, STRINGS, 3, ones, 3) == DS_WEIGHT_OVERFLOW);
         CHECK(ds_frequent_items_string_update(&other.frequent, BYTES, 5, UINT64_MAX - 2) == DS_OK);
         CHECK(ds_frequent_items_string_update_all_weighted_pairs(&other.frequent, STRINGS, 3, ones, 3) == DS_WEIGHT_OVERFLOW);
@@ -367,7 +368,7 @@ static void from_end_to_end(void)
 
     CHECK(ds_strings_from_utf8(BYTES, 12, offsets, 6, validity, 1, strings, &found) == DS_OK && found == 3);
     CHECK(ds_valid_u64(weights, 6, validity, 1, kept) == found && kept[0] == 2 && kept[1] == 4 && kept[2] == 6);
-    CHECK(ds_count_min_u64_new(&count, 4, 128, 9001) == DS_OK && ds_bloom_new(&filter, 959, 7, 9001) == DS_OK);
+    CHECK(ds_count_min_new(&count, DS_COUNT_MIN_U64, 4, 128, 9001) == DS_OK && ds_bloom_new(&filter, 959, 7, 9001) == DS_OK);
     CHECK(ds_count_min_u64_update_all_weighted_string_pairs(&count, strings, found, kept, found) == DS_OK);
     CHECK(ds_count_min_u64_estimate_all_string_pairs(&count, strings, found, estimates, found) == DS_OK);
     /* two of the three are empty */

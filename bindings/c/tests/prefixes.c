@@ -1,10 +1,11 @@
-/* Images at the front of bytes, compared with images alone, and the lengths of images of frequent items. Prints the checks that
- * failed. Exits with 1 if there is any. */
+/* Images at the front of bytes, compared with images alone, and the lengths of images. Prints the checks that failed. Exits with 1
+ * if there is any. */
 #include <datasketches.h>
 #include <stdlib.h>
 #include <string.h>
 
 #include "check.h"
+#include "options.h"
 
 enum { SEED = 9001, LIMIT = 1 << 20, ROOM = 1 << 14, NOT_WRITTEN = 77 };
 static const uint64_t K0 = 0x0706050403020100, K1 = 0x0f0e0d0c0b0a0908;
@@ -18,56 +19,25 @@ static uint64_t next_random(void)
     return state ^= state << 17;
 }
 
-/* The calls for a kind of sketch: the length of its image, what writes it, and what reads an image alone or at the front. */
-struct kind {
-    int32_t (*serialized_bytes)(ds_sketch *, size_t *);
-    int32_t (*serialize)(ds_sketch *, uint8_t *, size_t, size_t *);
-    int32_t (*alone)(ds_sketch *, const uint8_t *, size_t, size_t);
-    int32_t (*front)(ds_sketch *, const uint8_t *, size_t, size_t, size_t *);
-};
+/* Read an image of a kind alone or at the front. A key is given, so that equal images become sketches with equal images. */
+static int32_t read_alone(int32_t kind, ds_sketch *handle, const uint8_t *image, size_t length, size_t max_bytes)
+{
+    return ds_deserialize(handle, kind, image, length, WITHIN_KEY(max_bytes, K0, K1));
+}
 
-/* The calls with a seed or a key, without it. A key is given, so that equal images become sketches with equal images. */
-#define COUNTS(word) \
-    static int32_t word##_alone(ds_sketch *handle, const uint8_t *image, size_t length, size_t max_bytes) \
-    { \
-        return ds_count_min_##word##_deserialize(handle, image, length, SEED, max_bytes); \
-    } \
-    static int32_t word##_front(ds_sketch *handle, const uint8_t *image, size_t length, size_t max_bytes, size_t *used) \
-    { \
-        return ds_count_min_##word##_deserialize_prefix(handle, image, length, SEED, max_bytes, used); \
-    }
-COUNTS(u64)
-COUNTS(i64)
-
-#define FREQUENT(word) \
-    static int32_t frequent_##word##_alone(ds_sketch *handle, const uint8_t *image, size_t length, size_t max_bytes) \
-    { \
-        return ds_frequent_items_##word##_deserialize_with_key(handle, image, length, max_bytes, K0, K1); \
-    } \
-    static int32_t frequent_##word##_front(ds_sketch *handle, const uint8_t *image, size_t length, size_t max_bytes, size_t *used) \
-    { \
-        return ds_frequent_items_##word##_deserialize_prefix_with_key(handle, image, length, max_bytes, K0, K1, used); \
-    }
-FREQUENT(u64)
-FREQUENT(i64)
-FREQUENT(string)
-
-#define CALLS(prefix) prefix##_serialized_bytes, prefix##_serialize
-static const struct kind FILTERS = {CALLS(ds_bloom), ds_bloom_deserialize, ds_bloom_deserialize_prefix};
-static const struct kind COUNTS_U64 = {CALLS(ds_count_min_u64), u64_alone, u64_front};
-static const struct kind COUNTS_I64 = {CALLS(ds_count_min_i64), i64_alone, i64_front};
-static const struct kind OF_U64 = {CALLS(ds_frequent_items_u64), frequent_u64_alone, frequent_u64_front};
-static const struct kind OF_I64 = {CALLS(ds_frequent_items_i64), frequent_i64_alone, frequent_i64_front};
-static const struct kind OF_STRINGS = {CALLS(ds_frequent_items_string), frequent_string_alone, frequent_string_front};
+static int32_t read_front(int32_t kind, ds_sketch *handle, const uint8_t *image, size_t length, size_t max_bytes, size_t *used)
+{
+    return ds_deserialize_prefix(handle, kind, image, length, WITHIN_KEY(max_bytes, K0, K1), used);
+}
 
 /* The sketches whose images stand one after another, each with its kind and the formula's length of its image. */
 enum { SKETCHES = 18 };
 static ds_sketch sketches[SKETCHES];
-static const struct kind *kinds[SKETCHES];
+static int32_t kinds[SKETCHES];
 static size_t lengths[SKETCHES];
 static size_t num_sketches;
 
-static ds_sketch *add(const struct kind *kind, size_t length)
+static ds_sketch *add(int32_t kind, size_t length)
 {
     if (num_sketches == SKETCHES) abort();
     kinds[num_sketches] = kind;
@@ -100,71 +70,85 @@ static void add_strings(size_t count)
     }
 }
 
+static ds_sketch *add_counts(int32_t kind, size_t length, uint8_t num_hashes, uint32_t num_buckets)
+{
+    ds_sketch *it = add(kind, length);
+    CHECK(ds_count_min_new(it, kind, num_hashes, num_buckets, SEED) == DS_OK);
+    return it;
+}
+
+static ds_sketch *add_frequent(int32_t kind, size_t length, size_t max_map_size, size_t sample_size)
+{
+    ds_sketch *it = add(kind, length);
+    CHECK(ds_frequent_items_new(it, kind, max_map_size, sample_size, NULL) == DS_OK);
+    return it;
+}
+
 static void create_all(void)
 {
     ds_sketch *it;
-    CHECK(ds_bloom_new(add(&FILTERS, 24), 640, 3, SEED) == DS_OK);
-    CHECK(ds_frequent_items_string_new(add(&OF_STRINGS, 8), 64, 48) == DS_OK);
-    CHECK(ds_bloom_new(it = add(&FILTERS, 32 + 80), 640, 3, 7) == DS_OK && ds_bloom_insert_u64(it, 9) == DS_OK);
-    CHECK(ds_count_min_u64_new(add(&COUNTS_U64, 16), 3, 17, SEED) == DS_OK);
-    CHECK(ds_count_min_u64_new(it = add(&COUNTS_U64, 24 + 3 * 17 * 8), 3, 17, SEED) == DS_OK);
+    CHECK(ds_bloom_new(add(DS_BLOOM, 24), 640, 3, SEED) == DS_OK);
+    add_frequent(DS_FREQUENT_ITEMS_STRING, 8, 64, 48);
+    CHECK(ds_bloom_new(it = add(DS_BLOOM, 32 + 80), 640, 3, 7) == DS_OK && ds_bloom_insert_u64(it, 9) == DS_OK);
+    add_counts(DS_COUNT_MIN_U64, 16, 3, 17);
+    it = add_counts(DS_COUNT_MIN_U64, 24 + 3 * 17 * 8, 3, 17);
     CHECK(ds_count_min_u64_update_u64(it, 9, 5) == DS_OK);
-    CHECK(ds_count_min_i64_new(it = add(&COUNTS_I64, 24 + 2 * 5 * 8), 2, 5, SEED) == DS_OK);
+    it = add_counts(DS_COUNT_MIN_I64, 24 + 2 * 5 * 8, 2, 5);
     CHECK(ds_count_min_i64_update_u64(it, 9, -5) == DS_OK);
-    CHECK(ds_count_min_i64_new(add(&COUNTS_I64, 16), 2, 5, SEED) == DS_OK);
-    CHECK(ds_frequent_items_u64_new(add(&OF_U64, 8), 64, 48) == DS_OK);
-    CHECK(ds_frequent_items_u64_new(add(&OF_U64, 32), 64, 48) == DS_OK);
+    add_counts(DS_COUNT_MIN_I64, 16, 2, 5);
+    add_frequent(DS_FREQUENT_ITEMS_U64, 8, 64, 48);
+    add_frequent(DS_FREQUENT_ITEMS_U64, 32, 64, 48);
     add_u64(1);
-    CHECK(ds_frequent_items_u64_new(add(&OF_U64, 32), 64, 48) == DS_OK);
+    add_frequent(DS_FREQUENT_ITEMS_U64, 32, 64, 48);
     add_u64(48);
-    CHECK(ds_frequent_items_i64_new(add(&OF_I64, 32), 16, 12) == DS_OK);
+    add_frequent(DS_FREQUENT_ITEMS_I64, 32, 16, 12);
     add_i64(7);
-    CHECK(ds_frequent_items_i64_new(add(&OF_I64, 8), 1 << 30, 1024) == DS_OK);
+    add_frequent(DS_FREQUENT_ITEMS_I64, 8, 1 << 30, 1024);
     /* seven items of weight 1 in eight slots leave no counter, but a total */
-    CHECK(ds_frequent_items_i64_new(it = add(&OF_I64, 32), 8, 6) == DS_OK);
+    it = add_frequent(DS_FREQUENT_ITEMS_I64, 32, 8, 6);
     for (int64_t item = 0; item < 7; item++) CHECK(ds_frequent_items_i64_update(it, item, 1) == DS_OK);
-    CHECK(ds_frequent_items_string_new(add(&OF_STRINGS, 32), 64, 48) == DS_OK);
+    add_frequent(DS_FREQUENT_ITEMS_STRING, 32, 64, 48);
     add_strings(1);
-    CHECK(ds_frequent_items_string_new(add(&OF_STRINGS, 32), 64, 48) == DS_OK);
+    add_frequent(DS_FREQUENT_ITEMS_STRING, 32, 64, 48);
     add_strings(48);
-    CHECK(ds_frequent_items_string_new(it = add(&OF_STRINGS, 32), 8, 6) == DS_OK);
+    it = add_frequent(DS_FREQUENT_ITEMS_STRING, 32, 8, 6);
     for (uint8_t item = 'a'; item < 'h'; item++) CHECK(ds_frequent_items_string_update(it, &item, 1, 1) == DS_OK);
-    CHECK(ds_frequent_items_string_new(add(&OF_STRINGS, 32), 1024, 768) == DS_OK);
+    add_frequent(DS_FREQUENT_ITEMS_STRING, 32, 1024, 768);
     add_strings(90);
-    CHECK(ds_bloom_new(it = add(&FILTERS, 32 + 8), 64, 1, SEED) == DS_OK && ds_bloom_insert_u64(it, 9) == DS_OK);
+    CHECK(ds_bloom_new(it = add(DS_BLOOM, 32 + 8), 64, 1, SEED) == DS_OK && ds_bloom_insert_u64(it, 9) == DS_OK);
     CHECK(num_sketches == SKETCHES);
 }
 
-/* Returns whether two sketches of a kind have the same image. */
-static bool same_images(const struct kind *kind, ds_sketch *a, ds_sketch *b)
+/* Returns whether two sketches have the same image. */
+static bool same_images(ds_sketch *a, ds_sketch *b)
 {
     static uint8_t one[ROOM], two[ROOM];
     size_t length, again;
-    return kind->serialize(a, one, ROOM, &length) == DS_OK && kind->serialize(b, two, ROOM, &again) == DS_OK && length == again &&
+    return ds_serialize(a, one, ROOM, &length) == DS_OK && ds_serialize(b, two, ROOM, &again) == DS_OK && length == again &&
            memcmp(one, two, length) == 0;
 }
 
 /* Checks the length of a sketch's image, also of a shared sketch, and that the image takes just as many bytes of a buffer. */
-static void length_of_image(const struct kind *kind, ds_sketch *handle, size_t length)
+static void length_of_image(int32_t kind, ds_sketch *handle, size_t length)
 {
     static uint8_t image[ROOM];
     ds_sketch share = DS_NONE, none = DS_NONE;
     size_t bytes = NOT_WRITTEN, written = NOT_WRITTEN;
-    const struct kind *other = kind == &OF_U64 ? &OF_I64 : &OF_U64;
-    CHECK(kind->serialized_bytes(handle, &bytes) == DS_OK && bytes == length);
+    ds_status status;
+    CHECK(ds_serialized_bytes(handle, &bytes) == DS_OK && bytes == length);
     memset(image, 0xa5, sizeof image);
-    CHECK(kind->serialize(handle, image, length - 1, &written) == DS_NO_ROOM && written == length);
+    CHECK(ds_serialize(handle, image, length - 1, &written) == DS_NO_ROOM && written == length);
     for (size_t i = 0; i < length; i++) CHECK(image[i] == 0xa5);
     written = NOT_WRITTEN;
-    CHECK(kind->serialize(handle, image, length, &written) == DS_OK && written == length && image[length] == 0xa5);
+    CHECK(ds_serialize(handle, image, length, &written) == DS_OK && written == length && image[length] == 0xa5);
     CHECK(ds_freeze(handle) == DS_OK && ds_share(&share, handle) == DS_OK);
     bytes = NOT_WRITTEN;
-    CHECK(kind->serialized_bytes(&share, &bytes) == DS_OK && bytes == length && same_images(kind, handle, &share));
+    CHECK(ds_serialized_bytes(&share, &bytes) == DS_OK && bytes == length && same_images(handle, &share));
     ds_free(&share);
     CHECK(ds_thaw(handle) == DS_YES);
     bytes = NOT_WRITTEN;
-    CHECK(other->serialized_bytes(handle, &bytes) == DS_WRONG_KIND && bytes == NOT_WRITTEN);
-    CHECK(kind->serialized_bytes(&none, &bytes) == DS_NO_SKETCH && bytes == NOT_WRITTEN);
+    CHECK(ds_get_status(handle, &status) == DS_OK && status.kind == kind);
+    CHECK(ds_serialized_bytes(&none, &bytes) == DS_NO_SKETCH && bytes == NOT_WRITTEN);
 }
 
 /* Returns a copy of bytes in a block that ends where they do. */
@@ -178,7 +162,7 @@ static uint8_t *placed(const uint8_t *bytes, size_t length, uint8_t **block)
 
 /* Reads bytes as an image alone and at the front, and checks that both do the same. If there is an image, it takes just as many
  * bytes as are needed. Returns the result. */
-static int32_t both(const struct kind *kind, const uint8_t *bytes, size_t length, size_t max_bytes)
+static int32_t both(int32_t kind, const uint8_t *bytes, size_t length, size_t max_bytes)
 {
     ds_sketch alone = DS_NONE, front = DS_NONE, exact = DS_NONE;
     uint8_t *block;
@@ -186,14 +170,14 @@ static int32_t both(const struct kind *kind, const uint8_t *bytes, size_t length
     const uint8_t *at = placed(bytes, length, &block);
     CHECK(ds_bloom_new(&front, 64, 1, SEED) == DS_OK);
     void *before = front.sketch;
-    int32_t result = kind->alone(&alone, at, length, max_bytes);
-    CHECK(kind->front(&front, at, length, max_bytes, &used) == result);
+    int32_t result = read_alone(kind, &alone, at, length, max_bytes);
+    CHECK(read_front(kind, &front, at, length, max_bytes, &used) == result);
     if (result < 0) {
         CHECK(used == NOT_WRITTEN && front.sketch == before && !alone.sketch);
     } else {
-        CHECK(used <= length && same_images(kind, &alone, &front));
-        CHECK(kind->alone(&exact, at, used, max_bytes) == DS_OK && same_images(kind, &exact, &front));
-        CHECK(kind->front(&exact, at, used - 1, max_bytes, &used) == DS_INSUFFICIENT_DATA);
+        CHECK(used <= length && same_images(&alone, &front));
+        CHECK(read_alone(kind, &exact, at, used, max_bytes) == DS_OK && same_images(&exact, &front));
+        CHECK(read_front(kind, &exact, at, used - 1, max_bytes, &used) == DS_INSUFFICIENT_DATA);
     }
     free(block);
     ds_free(&alone);
@@ -210,7 +194,7 @@ static void in_turn(void)
     uint8_t *all = malloc(length);
     if (all == NULL) abort();
     for (size_t i = 0; i < num_sketches; i++) {
-        CHECK(kinds[i]->serialize(&sketches[i], all + at, length - at, &used) == DS_OK && used == lengths[i]);
+        CHECK(ds_serialize(&sketches[i], all + at, length - at, &used) == DS_OK && used == lengths[i]);
         at += used;
     }
     CHECK(at == length);
@@ -220,8 +204,8 @@ static void in_turn(void)
         uint8_t *block;
         const uint8_t *rest = placed(all + at, length - at, &block);
         used = NOT_WRITTEN;
-        CHECK(kinds[i]->front(&read, rest, length - at, LIMIT, &used) == DS_OK && used == lengths[i]);
-        CHECK(kinds[i]->alone(&alone, all + at, lengths[i], LIMIT) == DS_OK && same_images(kinds[i], &alone, &read));
+        CHECK(read_front(kinds[i], &read, rest, length - at, LIMIT, &used) == DS_OK && used == lengths[i]);
+        CHECK(read_alone(kinds[i], &alone, all + at, lengths[i], LIMIT) == DS_OK && same_images(&alone, &read));
         for (size_t cut = 0; cut < lengths[i]; cut++) CHECK(both(kinds[i], all + at, cut, LIMIT) == DS_INSUFFICIENT_DATA);
         free(block);
         ds_free(&read);
@@ -241,7 +225,7 @@ static void altered(void)
         static uint8_t image[ROOM + AFTER];
         for (int trial = 0; trial < TRIALS; trial++) {
             size_t length, changed = trial % 3;
-            CHECK(kinds[i]->serialize(&sketches[i], image, ROOM, &length) == DS_OK);
+            CHECK(ds_serialize(&sketches[i], image, ROOM, &length) == DS_OK);
             for (size_t k = 0; k < AFTER; k++) image[length + k] = (uint8_t)next_random();
             while (changed-- > 0) image[next_random() % (length < 48 || trial % 2 ? length : 48)] = (uint8_t)next_random();
             if (both(kinds[i], image, length + AFTER, LIMIT) < 0) rejected++;
@@ -258,18 +242,18 @@ static void limits(void)
     for (size_t i = 0; i < num_sketches; i++) {
         ds_sketch read = DS_NONE;
         size_t length, least = 0, most = LIMIT, used;
-        CHECK(kinds[i]->serialize(&sketches[i], image, ROOM, &length) == DS_OK);
+        CHECK(ds_serialize(&sketches[i], image, ROOM, &length) == DS_OK);
         /* the least limit with which the image alone is accepted */
         while (least < most) {
             size_t middle = (least + most) / 2;
-            if (kinds[i]->alone(&read, image, length, middle) == DS_OK) most = middle;
+            if (read_alone(kinds[i], &read, image, length, middle) == DS_OK) most = middle;
             else least = middle + 1;
         }
         for (size_t after = 0; after <= 9; after += 9) {
             CHECK(both(kinds[i], image, length + after, least) == DS_OK);
             CHECK(both(kinds[i], image, length + after, least - 1) == DS_TABLE_TOO_LARGE);
         }
-        CHECK(kinds[i]->front(&read, image, length + 9, least, &used) == DS_OK && used == length);
+        CHECK(read_front(kinds[i], &read, image, length + 9, least, &used) == DS_OK && used == length);
         ds_free(&read);
     }
 }
@@ -279,20 +263,20 @@ static void replaced(void)
 {
     static uint8_t image[ROOM];
     ds_sketch handle = DS_NONE;
-    ds_frequent_items_status status;
+    ds_status status;
     size_t length, used;
     for (size_t i = 0; i < num_sketches; i++) {
-        CHECK(kinds[i]->serialize(&sketches[i], image, ROOM, &length) == DS_OK);
-        CHECK(kinds[i]->front(&handle, image, ROOM, LIMIT, &used) == DS_OK && used == length);
+        CHECK(ds_serialize(&sketches[i], image, ROOM, &length) == DS_OK);
+        CHECK(read_front(kinds[i], &handle, image, ROOM, LIMIT, &used) == DS_OK && used == length);
     }
     CHECK(ds_bloom_contains_u64(&handle, 9) == DS_YES);
-    CHECK(ds_frequent_items_u64_serialize(&sketches[9], image, ROOM, &length) == DS_OK);
-    CHECK(ds_frequent_items_u64_deserialize_prefix(&handle, image, ROOM, LIMIT, &used) == DS_OK && used == length);
-    CHECK(ds_frequent_items_u64_get_status(&handle, &status) == DS_OK && status.num_active_items == 48);
-    CHECK(ds_frequent_items_i64_deserialize_prefix(&handle, image, ROOM, LIMIT, &used) == DS_OK && used == length);
-    CHECK(ds_frequent_items_string_serialize(&sketches[14], image, ROOM, &length) == DS_OK);
-    CHECK(ds_frequent_items_string_deserialize_prefix(&handle, image, ROOM, LIMIT, &used) == DS_OK && used == length);
-    CHECK(ds_frequent_items_string_get_status(&handle, &status) == DS_OK && status.num_active_items == 48);
+    CHECK(ds_serialize(&sketches[9], image, ROOM, &length) == DS_OK);
+    CHECK(ds_deserialize_prefix(&handle, DS_FREQUENT_ITEMS_U64, image, ROOM, WITHIN(LIMIT), &used) == DS_OK && used == length);
+    CHECK(ds_get_status(&handle, &status) == DS_OK && status.num_active_items == 48);
+    CHECK(ds_deserialize_prefix(&handle, DS_FREQUENT_ITEMS_I64, image, ROOM, WITHIN(LIMIT), &used) == DS_OK && used == length);
+    CHECK(ds_serialize(&sketches[14], image, ROOM, &length) == DS_OK);
+    CHECK(ds_deserialize_prefix(&handle, DS_FREQUENT_ITEMS_STRING, image, ROOM, WITHIN(LIMIT), &used) == DS_OK && used == length);
+    CHECK(ds_get_status(&handle, &status) == DS_OK && status.num_active_items == 48);
     ds_free(&handle);
 }
 

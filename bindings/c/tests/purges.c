@@ -23,13 +23,14 @@ static void check(bool holds, const char *what)
 
 static void create(ds_sketch *sketch)
 {
-    check(!ds_frequent_items_u64_new_with_key(sketch, SLOTS, SAMPLE, 0x5d1f03a9c24b7e86, 0xe3970c5a6b18f24d), "new");
+    check(!ds_frequent_items_new(sketch, DS_FREQUENT_ITEMS_U64, SLOTS, SAMPLE, &(ds_key){0x5d1f03a9c24b7e86, 0xe3970c5a6b18f24d}),
+          "new");
 }
 
-static ds_frequent_items_status status_of(ds_sketch *sketch)
+static ds_status status_of(ds_sketch *sketch)
 {
-    ds_frequent_items_status status;
-    check(!ds_frequent_items_u64_get_status(sketch, &status), "status");
+    ds_status status;
+    check(!ds_get_status(sketch, &status), "status");
     return status;
 }
 
@@ -41,7 +42,7 @@ static size_t sampled(ds_sketch *sketch, uint64_t first)
     check(!ds_frequent_items_u64_update_all_weighted(sketch, items, CAPACITY + 1, weights, CAPACITY + 1), "update");
     uint64_t error = status_of(sketch).maximum_error;
     check(LEAST <= error && error <= LEAST + CAPACITY, "one purge");
-    check(!ds_frequent_items_u64_reset(sketch), "reset");
+    check(!ds_reset(sketch), "reset");
     return (size_t)(error - LEAST);
 }
 
@@ -65,13 +66,13 @@ static void numbers_of_purges(void)
 
 static uint64_t purges;
 static double least_share = 1;
-static ds_frequent_items_status before;
+static ds_status before;
 
 /* Adds an item. Counts a purge, and the share of the counters that it drops. */
 static void add(ds_sketch *sketch, uint64_t item, uint64_t weight)
 {
     check(!ds_frequent_items_u64_update(sketch, item, weight), "update");
-    ds_frequent_items_status after = status_of(sketch);
+    ds_status after = status_of(sketch);
     if (after.maximum_error != before.maximum_error) {
         double share = 1 - (double)after.num_active_items / (double)(before.num_active_items + 1);
         if (share < least_share) least_share = share;

@@ -6,6 +6,8 @@
 #include <stdlib.h>
 #include <string.h>
 
+#include "options.h"
+
 enum { NAMES = 512, WORDS = 8 };
 
 struct named {
@@ -61,15 +63,6 @@ static uint8_t *bytes_of(const char *hex, size_t *length)
     return bytes;
 }
 
-/* Writes the image of a sketch of any of the three kinds, or queries its length. */
-static int32_t write_image(ds_sketch *handle, uint8_t *out, size_t capacity, size_t *written)
-{
-    int32_t answer = ds_bloom_serialize(handle, out, capacity, written);
-    if (answer == DS_WRONG_KIND) answer = ds_count_min_u64_serialize(handle, out, capacity, written);
-    if (answer == DS_WRONG_KIND) answer = ds_frequent_items_string_serialize(handle, out, capacity, written);
-    return answer;
-}
-
 /* Adds a weight to a string's in a sketch of either kind that has weights. */
 static int32_t add(ds_sketch *handle, const char *text, uint64_t weight)
 {
@@ -78,31 +71,31 @@ static int32_t add(ds_sketch *handle, const char *text, uint64_t weight)
     return answer == DS_WRONG_KIND ? ds_frequent_items_string_update(handle, bytes, strlen(text), weight) : answer;
 }
 
-/* Merges two sketches of one kind. */
-static int32_t merge(ds_sketch *into, ds_sketch *from)
+static bool has_filter(ds_sketch *handle)
 {
-    int32_t answer = ds_count_min_u64_merge(into, from);
-    return answer == DS_WRONG_KIND ? ds_frequent_items_string_merge(into, from) : answer;
+    ds_status status;
+    return ds_get_status(handle, &status) == DS_OK && status.kind == DS_BLOOM;
 }
 
 static void save(struct named *sketch, struct named *image)
 {
     size_t length, written;
-    int32_t answer = write_image(&sketch->handle, NULL, 0, &length);
+    int32_t answer = ds_serialize(&sketch->handle, NULL, 0, &length);
     if (answer != DS_NO_ROOM) abort();
     image->image = malloc(length);
     image->length = length;
-    answer = write_image(&sketch->handle, image->image, length, &written);
+    answer = ds_serialize(&sketch->handle, image->image, length, &written);
     if (answer < 0 || written != length) abort();
     reply(answer);
 }
 
 static int32_t join(const char *verb, ds_sketch *into, ds_sketch *from)
 {
-    if (strcmp(verb, "union") == 0) return ds_bloom_union(into, from);
     if (strcmp(verb, "intersect") == 0) return ds_bloom_intersect(into, from);
-    if (strcmp(verb, "merge") == 0) return merge(into, from);
-    return ds_bloom_difference(into, from);
+    if (strcmp(verb, "difference") == 0) return ds_bloom_difference(into, from);
+    /* one call merges sketches of each kind, and the program has two commands: for filters and for the others */
+    if (into != from && has_filter(into) != (strcmp(verb, "union") == 0)) return DS_WRONG_KIND;
+    return ds_merge(into, from);
 }
 
 static void create(char **words)
@@ -114,12 +107,12 @@ static void create(char **words)
     struct named *it = place(sketches, words[1]);
     if (strcmp(words[0], "frequent") == 0) {
         size_t greatest = strtoull(words[2], 0, 10), sample = ds_frequent_items_max_sample_size(greatest);
-        made(it, ds_frequent_items_string_new_with_key(&it->handle, greatest, sample, K0, K1));
+        made(it, ds_frequent_items_new(&it->handle, DS_FREQUENT_ITEMS_STRING, greatest, sample, &(ds_key){K0, K1}));
         return;
     }
     uint64_t seed = strtoull(words[4], 0, 10), size = strtoull(words[3], 0, 10);
     if (strcmp(words[0], "bloom") == 0) made(it, ds_bloom_new(&it->handle, strtoull(words[2], 0, 10), (uint16_t)size, seed));
-    else made(it, ds_count_min_u64_new(&it->handle, (uint8_t)atoi(words[2]), (uint32_t)size, seed));
+    else made(it, ds_count_min_new(&it->handle, DS_COUNT_MIN_U64, (uint8_t)atoi(words[2]), (uint32_t)size, seed));
 }
 
 static void load(char **words)
@@ -132,9 +125,9 @@ static void load(char **words)
     int filter = strcmp(words[2], "bloom") == 0, frequent = strcmp(words[2], "frequent") == 0;
     size_t length, most = strtoull(words[3], 0, 10);
     uint8_t *bytes = bytes_of(words[filter || frequent ? 4 : 5], &length);
-    if (filter) made(it, ds_bloom_deserialize(&it->handle, bytes, length, most));
-    else if (frequent) made(it, ds_frequent_items_string_deserialize_with_key(&it->handle, bytes, length, most, K0, K1));
-    else made(it, ds_count_min_u64_deserialize(&it->handle, bytes, length, strtoull(words[4], 0, 10), most));
+    if (filter) made(it, ds_deserialize(&it->handle, DS_BLOOM, bytes, length, WITHIN(most)));
+    else if (frequent) made(it, ds_deserialize(&it->handle, DS_FREQUENT_ITEMS_STRING, bytes, length, WITHIN_KEY(most, K0, K1)));
+    else made(it, ds_deserialize(&it->handle, DS_COUNT_MIN_U64, bytes, length, WITHIN_SEED(most, strtoull(words[4], 0, 10))));
     free(bytes);
 }
 
@@ -155,14 +148,14 @@ static void ask(ds_sketch *handle, const uint8_t *text, size_t length)
 
 static void status(ds_sketch *handle)
 {
-    ds_bloom_status filter;
-    ds_count_min_status count;
-    if (ds_bloom_get_status(handle, &filter) == DS_OK)
-        printf("bloom bits %" PRIu64 " capacity %" PRIu64 " hashes %u seed %" PRIu64 "\n", filter.bits_used, filter.capacity,
-               (unsigned)filter.num_hashes, filter.seed);
-    else if (ds_count_min_u64_get_status(handle, &count) == DS_OK)
-        printf("countu total %" PRIu64 " hashes %u buckets %u seed %" PRIu64 "\n", count.total_weight, (unsigned)count.num_hashes,
-               (unsigned)count.num_buckets, count.seed);
+    ds_status numbers;
+    if (ds_get_status(handle, &numbers) != DS_OK) abort();
+    if (numbers.kind == DS_BLOOM)
+        printf("bloom bits %" PRIu64 " capacity %" PRIu64 " hashes %u seed %" PRIu64 "\n", numbers.bits_used, numbers.num_bits,
+               (unsigned)numbers.num_hashes, numbers.seed);
+    else if (numbers.kind == DS_COUNT_MIN_U64)
+        printf("countu total %" PRIu64 " hashes %u buckets %u seed %" PRIu64 "\n", numbers.total_weight,
+               (unsigned)numbers.num_hashes, (unsigned)numbers.num_buckets, numbers.seed);
     else abort();
 }
 
@@ -202,7 +195,7 @@ static void of_sketch(char **words)
     if (strcmp(words[0], "insert") == 0) reply(ds_bloom_insert_string(handle, text, length));
     else if (strcmp(words[0], "add") == 0) reply(add(handle, words[3], strtoull(words[2], 0, 10)));
     else if (strcmp(words[0], "ask") == 0) ask(handle, text, length);
-    else if (strcmp(words[0], "reset") == 0) reply(ds_bloom_reset(handle));
+    else if (strcmp(words[0], "reset") == 0) reply(has_filter(handle) ? ds_reset(handle) : DS_WRONG_KIND);
     else if (strcmp(words[0], "halve") == 0) reply(ds_count_min_u64_halve(handle));
     else if (strcmp(words[0], "decay") == 0)
         reply(ds_count_min_u64_decay(handle, strtoull(words[2], 0, 10), strtoull(words[3], 0, 10)));

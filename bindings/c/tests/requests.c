@@ -6,6 +6,8 @@
 #include <stdio.h>
 #include <stdlib.h>
 
+#include "options.h"
+
 static int rows, failures, is_counting;
 static long asked, given_back;
 
@@ -92,14 +94,14 @@ static const uint8_t HOSTILE[44] = {4, 1, 10, 3, 3, 0, 0, 0, 1, 0, 0, 0, 0, 0, 0
 static void filters(void)
 {
     ds_sketch filter = DS_NONE, same = DS_NONE, unlike = DS_NONE, none = DS_NONE, count = DS_NONE;
-    ds_bloom_status numbers;
+    ds_status numbers;
     bool answers[3];
     uint8_t image[64];
     size_t written;
     DO(ds_bloom_new(&filter, 256, 3, 9001));
     DO(ds_bloom_new(&same, 256, 3, 9001));
     DO(ds_bloom_new(&unlike, 256, 3, 7));
-    DO(ds_count_min_u64_new(&count, 3, 64, 9001));
+    DO(ds_count_min_new(&count, DS_COUNT_MIN_U64, 3, 64, 9001));
     FREE(DS_OK, ds_bloom_insert_u64(&filter, 3));
     FREE(DS_OK, ds_bloom_insert_i64(&filter, -1));
     FREE(DS_OK, ds_bloom_insert_string(&filter, STRINGS, 5));
@@ -122,19 +124,19 @@ static void filters(void)
     FREE(DS_OK, ds_bloom_contains_and_insert_all_i64(&filter, SIGNED, 3, answers, 3));
     FREE(DS_OK, ds_bloom_contains_and_insert_all_string(&filter, STRINGS, 5, OFFSETS, 3, answers, 2));
     FREE(DS_OK, ds_bloom_contains_and_insert_all_string_pairs(&filter, PAIRS, 2, answers, 2));
-    FREE(DS_OK, ds_bloom_union(&same, &filter));
+    FREE(DS_OK, ds_merge(&same, &filter));
     FREE(DS_OK, ds_bloom_intersect(&same, &filter));
     FREE(DS_OK, ds_bloom_difference(&same, &filter));
-    FREE(DS_MISMATCH, ds_bloom_union(&filter, &unlike));
+    FREE(DS_MISMATCH, ds_merge(&filter, &unlike));
     FREE(DS_MISMATCH, ds_bloom_intersect(&filter, &unlike));
     FREE(DS_MISMATCH, ds_bloom_difference(&filter, &unlike));
-    FREE(DS_NO, ds_bloom_equal(&filter, &same));
+    FREE(DS_NO, ds_equal(&filter, &same));
     FREE(DS_OK, ds_memory_bytes(&filter, &written));
-    FREE(DS_OK, ds_bloom_get_status(&filter, &numbers));
-    FREE(DS_OK, ds_bloom_serialize(&same, image, sizeof image, &written));
-    FREE(DS_NO_ROOM, ds_bloom_serialize(&same, image, written - 1, &written));
-    FREE(DS_OK, ds_bloom_serialized_bytes(&same, &written));
-    FREE(DS_OK, ds_bloom_serialize(&filter, image, sizeof image, &written));
+    FREE(DS_OK, ds_get_status(&filter, &numbers));
+    FREE(DS_OK, ds_serialize(&same, image, sizeof image, &written));
+    FREE(DS_NO_ROOM, ds_serialize(&same, image, written - 1, &written));
+    FREE(DS_OK, ds_serialized_bytes(&same, &written));
+    FREE(DS_OK, ds_serialize(&filter, image, sizeof image, &written));
     FREE(DS_YES, ds_bloom_image_contains_u64(image, written, 5));
     FREE(DS_YES, ds_bloom_image_contains_i64(image, written, -1));
     FREE(DS_YES, ds_bloom_image_contains_string(image, written, STRINGS, 2));
@@ -142,23 +144,27 @@ static void filters(void)
     FREE(DS_OK, ds_bloom_image_contains_all_i64(image, written, SIGNED, 3, answers, 3));
     FREE(DS_NO, ds_bloom_image_contains_u64(FILTER, sizeof FILTER, 5));
     FREE(DS_INSUFFICIENT_DATA, ds_bloom_image_contains_u64(image, written - 1, 5));
-    FREE(DS_OK, ds_bloom_reset(&filter));
-    FREE(DS_YES, ds_bloom_equal(&filter, &same));
+    FREE(DS_OK, ds_reset(&filter));
+    FREE(DS_YES, ds_equal(&filter, &same));
     FREE(DS_NO, ds_bloom_contains_u64(&filter, 5));
-    FREE(DS_TABLE_TOO_LARGE, ds_bloom_deserialize(&filter, FILTER, sizeof FILTER, 31));
-    FREE(DS_BAD_FAMILY, ds_bloom_deserialize(&filter, COUNTS, sizeof COUNTS, 1 << 20));
-    FREE(DS_INSUFFICIENT_DATA, ds_bloom_deserialize(&filter, FILTER, 0, 1 << 20));
-    FREE(DS_TABLE_TOO_LARGE, ds_bloom_deserialize_prefix(&filter, FILTER, sizeof FILTER, 31, &written));
-    FREE(DS_INSUFFICIENT_DATA, ds_bloom_deserialize_prefix(&filter, FILTER, 23, 1 << 20, &written));
+    FREE(DS_TABLE_TOO_LARGE, ds_deserialize(&filter, DS_BLOOM, FILTER, sizeof FILTER, WITHIN(31)));
+    FREE(DS_BAD_FAMILY, ds_deserialize(&filter, DS_BLOOM, COUNTS, sizeof COUNTS, WITHIN(1 << 20)));
+    FREE(DS_INSUFFICIENT_DATA, ds_deserialize(&filter, DS_BLOOM, FILTER, 0, WITHIN(1 << 20)));
+    FREE(DS_TABLE_TOO_LARGE, ds_deserialize_prefix(&filter, DS_BLOOM, FILTER, sizeof FILTER, WITHIN(31), &written));
+    FREE(DS_INSUFFICIENT_DATA, ds_deserialize_prefix(&filter, DS_BLOOM, FILTER, 23, WITHIN(1 << 20), &written));
     /* the handle's block and the words, in place of those that were there */
-    ROW(2, 2, DS_OK, ds_bloom_deserialize(&filter, FILTER, sizeof FILTER, 32));
-    ROW(2, 2, DS_OK, ds_bloom_deserialize_prefix(&filter, FILTER, sizeof FILTER, 32, &written));
+    ROW(2, 2, DS_OK, ds_deserialize(&filter, DS_BLOOM, FILTER, sizeof FILTER, WITHIN(32)));
+    ROW(2, 2, DS_OK, ds_deserialize_prefix(&filter, DS_BLOOM, FILTER, sizeof FILTER, WITHIN(32), &written));
     FREE(DS_NO_SKETCH, ds_bloom_insert_u64(&none, 3));
-    FREE(DS_NO_SKETCH, ds_bloom_union(&filter, &none));
-    FREE(DS_NO_SKETCH, ds_bloom_serialize(&none, image, sizeof image, &written));
-    FREE(DS_WRONG_KIND, ds_bloom_serialize(&count, image, sizeof image, &written));
+    FREE(DS_NO_SKETCH, ds_merge(&filter, &none));
+    FREE(DS_NO_SKETCH, ds_serialize(&none, image, sizeof image, &written));
+    FREE(DS_WRONG_KIND, ds_bloom_difference(&filter, &count));
+    FREE(DS_WRONG_KIND, ds_equal(&filter, &count));
+    FREE(DS_WRONG_KIND, ds_frequent_items_set_sample_size(&filter, 2));
+    FREE(DS_WRONG_KIND, ds_deserialize(&filter, 0, FILTER, sizeof FILTER, WITHIN(32)));
+    FREE(DS_WRONG_KIND, ds_deserialize_prefix(&filter, 7, FILTER, sizeof FILTER, WITHIN(32), &written));
     FREE(DS_WRONG_KIND, ds_bloom_insert_u64(&count, 3));
-    FREE(DS_WRONG_KIND, ds_bloom_union(&filter, &count));
+    FREE(DS_WRONG_KIND, ds_merge(&filter, &count));
     ds_free(&filter);
     ds_free(&same);
     ds_free(&unlike);
@@ -168,13 +174,13 @@ static void filters(void)
 static void counts(void)
 {
     ds_sketch count = DS_NONE, same = DS_NONE, unlike = DS_NONE, none = DS_NONE, filter = DS_NONE;
-    ds_count_min_status numbers;
+    ds_status numbers;
     uint64_t estimates[3], estimate;
     uint8_t image[2048];
     size_t written;
-    DO(ds_count_min_u64_new(&count, 3, 64, 9001));
-    DO(ds_count_min_u64_new(&same, 3, 64, 9001));
-    DO(ds_count_min_u64_new(&unlike, 3, 65, 9001));
+    DO(ds_count_min_new(&count, DS_COUNT_MIN_U64, 3, 64, 9001));
+    DO(ds_count_min_new(&same, DS_COUNT_MIN_U64, 3, 64, 9001));
+    DO(ds_count_min_new(&unlike, DS_COUNT_MIN_U64, 3, 65, 9001));
     DO(ds_bloom_new(&filter, 256, 3, 9001));
     FREE(DS_OK, ds_count_min_u64_update_u64(&count, 3, 250));
     FREE(DS_OK, ds_count_min_u64_update_i64(&count, -1, 7));
@@ -198,17 +204,17 @@ static void counts(void)
     FREE(DS_OK, ds_count_min_u64_upper_bound_u64(&count, 5, &estimate));
     FREE(DS_OK, ds_count_min_u64_upper_bound_i64(&count, -1, &estimate));
     FREE(DS_OK, ds_count_min_u64_upper_bound_string(&count, STRINGS, 2, &estimate));
-    FREE(DS_OK, ds_count_min_u64_merge(&same, &count));
-    FREE(DS_YES, ds_count_min_u64_equal(&same, &count));
-    FREE(DS_NO, ds_count_min_u64_equal(&count, &unlike));
-    FREE(DS_MISMATCH, ds_count_min_u64_merge(&count, &unlike));
+    FREE(DS_OK, ds_merge(&same, &count));
+    FREE(DS_YES, ds_equal(&same, &count));
+    FREE(DS_NO, ds_equal(&count, &unlike));
+    FREE(DS_MISMATCH, ds_merge(&count, &unlike));
     FREE(DS_OK, ds_count_min_u64_halve(&same));
     FREE(DS_OK, ds_count_min_u64_decay(&same, 9, 10));
     FREE(DS_BAD_FRACTION, ds_count_min_u64_decay(&same, 3, 2));
-    FREE(DS_OK, ds_count_min_u64_get_status(&count, &numbers));
-    FREE(DS_OK, ds_count_min_u64_serialize(&count, image, sizeof image, &written));
-    FREE(DS_NO_ROOM, ds_count_min_u64_serialize(&count, image, written - 1, &written));
-    FREE(DS_OK, ds_count_min_u64_serialized_bytes(&count, &written));
+    FREE(DS_OK, ds_get_status(&count, &numbers));
+    FREE(DS_OK, ds_serialize(&count, image, sizeof image, &written));
+    FREE(DS_NO_ROOM, ds_serialize(&count, image, written - 1, &written));
+    FREE(DS_OK, ds_serialized_bytes(&count, &written));
     FREE(DS_OK, ds_count_min_u64_image_estimate_u64(image, written, 9001, 5, &estimate));
     FREE(DS_OK, ds_count_min_u64_image_estimate_i64(image, written, 9001, -1, &estimate));
     FREE(DS_OK, ds_count_min_u64_image_estimate_string(image, written, 9001, STRINGS, 2, &estimate));
@@ -218,15 +224,19 @@ static void counts(void)
     FREE(DS_OK, ds_count_min_u64_update_u64(&unlike, 3, UINT64_MAX));
     FREE(DS_WEIGHT_OVERFLOW, ds_count_min_u64_update_all_u64(&unlike, ITEMS, 3));
     FREE(DS_WEIGHT_OVERFLOW, ds_count_min_u64_update_all_weighted_u64(&unlike, ITEMS, 3, WEIGHTS, 3));
-    FREE(DS_TABLE_TOO_LARGE, ds_count_min_u64_deserialize(&count, COUNTS, sizeof COUNTS, 9001, 1559));
-    FREE(DS_SEED_HASH_MISMATCH, ds_count_min_u64_deserialize(&count, COUNTS, sizeof COUNTS, 9002, 1 << 20));
-    FREE(DS_INSUFFICIENT_DATA, ds_count_min_u64_deserialize(&count, COUNTS, 0, 9001, 1 << 20));
-    FREE(DS_TABLE_TOO_LARGE, ds_count_min_u64_deserialize_prefix(&count, COUNTS, sizeof COUNTS, 9001, 1559, &written));
-    FREE(DS_INSUFFICIENT_DATA, ds_count_min_u64_deserialize_prefix(&count, COUNTS, 15, 9001, 1 << 20, &written));
+    FREE(DS_TABLE_TOO_LARGE, ds_deserialize(&count, DS_COUNT_MIN_U64, COUNTS, sizeof COUNTS, WITHIN(1559)));
+    FREE(DS_SEED_HASH_MISMATCH, ds_deserialize(&count, DS_COUNT_MIN_U64, COUNTS, sizeof COUNTS, WITHIN_SEED(1 << 20, 9002)));
+    FREE(DS_INSUFFICIENT_DATA, ds_deserialize(&count, DS_COUNT_MIN_U64, COUNTS, 0, WITHIN(1 << 20)));
+    FREE(DS_TABLE_TOO_LARGE, ds_deserialize_prefix(&count, DS_COUNT_MIN_U64, COUNTS, sizeof COUNTS, WITHIN(1559), &written));
+    FREE(DS_INSUFFICIENT_DATA, ds_deserialize_prefix(&count, DS_COUNT_MIN_U64, COUNTS, 15, WITHIN(1 << 20), &written));
+    FREE(DS_WRONG_KIND, ds_count_min_new(&count, DS_BLOOM, 3, 64, 9001));
+    FREE(DS_NO_SKETCH, ds_reset(&none));
     FREE(DS_NO_SKETCH, ds_count_min_u64_update_u64(&none, 3, 1));
-    FREE(DS_NO_SKETCH, ds_count_min_u64_merge(&count, &none));
+    FREE(DS_NO_SKETCH, ds_merge(&count, &none));
     FREE(DS_WRONG_KIND, ds_count_min_u64_update_u64(&filter, 3, 1));
-    FREE(DS_WRONG_KIND, ds_count_min_u64_merge(&count, &filter));
+    FREE(DS_WRONG_KIND, ds_merge(&count, &filter));
+    /* the cells and the rows' seeds, in place of those that were there */
+    ROW(2, 2, DS_OK, ds_reset(&count));
     ds_free(&count);
     ds_free(&same);
     ds_free(&unlike);
@@ -236,14 +246,14 @@ static void counts(void)
 static void signed_counts(void)
 {
     ds_sketch count = DS_NONE, same = DS_NONE, unlike = DS_NONE, heavy = DS_NONE;
-    ds_count_min_status numbers;
+    ds_status numbers;
     int64_t estimates[3], estimate;
     uint8_t image[2048];
     size_t written;
-    DO(ds_count_min_i64_new(&count, 3, 64, 9001));
-    DO(ds_count_min_i64_new(&same, 3, 64, 9001));
-    DO(ds_count_min_i64_new(&heavy, 3, 64, 9001));
-    DO(ds_count_min_i64_new(&unlike, 3, 65, 9001));
+    DO(ds_count_min_new(&count, DS_COUNT_MIN_I64, 3, 64, 9001));
+    DO(ds_count_min_new(&same, DS_COUNT_MIN_I64, 3, 64, 9001));
+    DO(ds_count_min_new(&heavy, DS_COUNT_MIN_I64, 3, 64, 9001));
+    DO(ds_count_min_new(&unlike, DS_COUNT_MIN_I64, 3, 65, 9001));
     FREE(DS_OK, ds_count_min_i64_update_u64(&count, 3, 250));
     FREE(DS_OK, ds_count_min_i64_update_i64(&count, -1, -7));
     FREE(DS_OK, ds_count_min_i64_update_string(&count, STRINGS, 5, 9));
@@ -265,23 +275,25 @@ static void signed_counts(void)
     FREE(DS_OK, ds_count_min_i64_upper_bound_u64(&count, 5, &estimate));
     FREE(DS_OK, ds_count_min_i64_upper_bound_i64(&count, -1, &estimate));
     FREE(DS_OK, ds_count_min_i64_upper_bound_string(&count, STRINGS, 2, &estimate));
-    FREE(DS_OK, ds_count_min_i64_merge(&same, &count));
-    FREE(DS_MISMATCH, ds_count_min_i64_merge(&count, &unlike));
-    FREE(DS_OK, ds_count_min_i64_get_status(&count, &numbers));
-    FREE(DS_OK, ds_count_min_i64_serialize(&count, image, sizeof image, &written));
-    FREE(DS_NO_ROOM, ds_count_min_i64_serialize(&count, image, written - 1, &written));
-    FREE(DS_OK, ds_count_min_i64_serialized_bytes(&count, &written));
+    FREE(DS_OK, ds_merge(&same, &count));
+    FREE(DS_MISMATCH, ds_merge(&count, &unlike));
+    FREE(DS_OK, ds_get_status(&count, &numbers));
+    FREE(DS_OK, ds_serialize(&count, image, sizeof image, &written));
+    FREE(DS_NO_ROOM, ds_serialize(&count, image, written - 1, &written));
+    FREE(DS_OK, ds_serialized_bytes(&count, &written));
     FREE(DS_OK, ds_count_min_i64_image_estimate_u64(image, written, 9001, 5, &estimate));
     FREE(DS_OK, ds_count_min_i64_image_estimate_i64(image, written, 9001, -1, &estimate));
     FREE(DS_OK, ds_count_min_i64_image_estimate_string(image, written, 9001, STRINGS, 2, &estimate));
     FREE(DS_OK, ds_count_min_i64_update_u64(&heavy, 3, INT64_MAX));
     FREE(DS_WEIGHT_OVERFLOW, ds_count_min_i64_update_u64(&count, 3, INT64_MIN));
     FREE(DS_WEIGHT_OVERFLOW, ds_count_min_i64_update_all_u64(&heavy, ITEMS, 3));
-    FREE(DS_WEIGHT_OVERFLOW, ds_count_min_i64_merge(&heavy, &count));
-    FREE(DS_TABLE_TOO_LARGE, ds_count_min_i64_deserialize(&count, COUNTS, sizeof COUNTS, 9001, 1559));
-    FREE(DS_SEED_HASH_MISMATCH, ds_count_min_i64_deserialize(&count, COUNTS, sizeof COUNTS, 9002, 1 << 20));
-    FREE(DS_INSUFFICIENT_DATA, ds_count_min_i64_deserialize(&count, COUNTS, 0, 9001, 1 << 20));
-    FREE(DS_SEED_HASH_MISMATCH, ds_count_min_i64_deserialize_prefix(&count, COUNTS, sizeof COUNTS, 9002, 1 << 20, &written));
+    FREE(DS_WEIGHT_OVERFLOW, ds_merge(&heavy, &count));
+    FREE(DS_TABLE_TOO_LARGE, ds_deserialize(&count, DS_COUNT_MIN_I64, COUNTS, sizeof COUNTS, WITHIN(1559)));
+    FREE(DS_SEED_HASH_MISMATCH, ds_deserialize(&count, DS_COUNT_MIN_I64, COUNTS, sizeof COUNTS, WITHIN_SEED(1 << 20, 9002)));
+    FREE(DS_INSUFFICIENT_DATA, ds_deserialize(&count, DS_COUNT_MIN_I64, COUNTS, 0, WITHIN(1 << 20)));
+    FREE(DS_SEED_HASH_MISMATCH,
+         ds_deserialize_prefix(&count, DS_COUNT_MIN_I64, COUNTS, sizeof COUNTS, WITHIN_SEED(1 << 20, 9002), &written));
+    ROW(2, 2, DS_OK, ds_reset(&count));
     ds_free(&count);
     ds_free(&same);
     ds_free(&heavy);
@@ -301,7 +313,7 @@ static void shares(void)
     FREE(DS_OK, ds_freeze(&filter));
     ROW(1, 0, DS_OK, ds_share(&share, &filter));
     FREE(DS_NO, ds_bloom_contains_u64(&share, 3));
-    FREE(DS_OK, ds_bloom_serialize(&share, image, sizeof image, &written));
+    FREE(DS_OK, ds_serialize(&share, image, sizeof image, &written));
     FREE(DS_WRONG_KIND, ds_bloom_insert_u64(&share, 3));
     FREE(DS_NO, ds_thaw(&filter));
     /* the handle's block and the words */
@@ -324,13 +336,13 @@ static void shares(void)
 static void frequent_numbers(void)
 {
     ds_sketch six = DS_NONE, empty = DS_NONE, heavy = DS_NONE, none = DS_NONE;
-    ds_frequent_items_status numbers;
+    ds_status numbers;
     ds_frequent_items_bounds bounds[3];
     uint8_t image[256];
     size_t written;
-    DO(ds_frequent_items_u64_new(&six, 64, 48));
-    DO(ds_frequent_items_u64_new(&empty, 64, 48));
-    DO(ds_frequent_items_u64_new(&heavy, 8, 6));
+    DO(ds_frequent_items_new(&six, DS_FREQUENT_ITEMS_U64, 64, 48, NULL));
+    DO(ds_frequent_items_new(&empty, DS_FREQUENT_ITEMS_U64, 64, 48, NULL));
+    DO(ds_frequent_items_new(&heavy, DS_FREQUENT_ITEMS_U64, 8, 6, NULL));
     for (uint64_t i = 0; i < 6; i++) FREE(DS_OK, ds_frequent_items_u64_update(&six, i, 1));
     FREE(DS_OK, ds_frequent_items_u64_update(&six, 5, 2));
     FREE(DS_OK, ds_frequent_items_u64_update(&six, 7, 0));
@@ -340,26 +352,29 @@ static void frequent_numbers(void)
     FREE(DS_OK, ds_frequent_items_u64_bounds(&six, 7, bounds));
     FREE(DS_OK, ds_frequent_items_u64_bounds_all(&six, ITEMS, 3, bounds, 3));
     FREE(DS_NO_ROOM, ds_frequent_items_u64_bounds_all(&six, ITEMS, 3, bounds, 2));
-    FREE(DS_OK, ds_frequent_items_u64_merge(&six, &empty));
-    FREE(DS_OK, ds_frequent_items_u64_get_status(&six, &numbers));
-    FREE(DS_OK, ds_frequent_items_u64_serialized_bytes(&six, &written));
-    FREE(DS_OK, ds_frequent_items_u64_serialize(&six, image, sizeof image, &written));
-    FREE(DS_NO_ROOM, ds_frequent_items_u64_serialize(&six, image, written - 1, &written));
+    FREE(DS_OK, ds_merge(&six, &empty));
+    FREE(DS_OK, ds_get_status(&six, &numbers));
+    FREE(DS_OK, ds_serialized_bytes(&six, &written));
+    FREE(DS_OK, ds_serialize(&six, image, sizeof image, &written));
+    FREE(DS_NO_ROOM, ds_serialize(&six, image, written - 1, &written));
     FREE(DS_OK, ds_frequent_items_u64_update(&heavy, 3, UINT64_MAX));
     FREE(DS_WEIGHT_OVERFLOW, ds_frequent_items_u64_update(&six, 3, UINT64_MAX));
     FREE(DS_WEIGHT_OVERFLOW, ds_frequent_items_u64_update(&heavy, 5, 1));
     FREE(DS_WEIGHT_OVERFLOW, ds_frequent_items_u64_update_all(&heavy, ITEMS, 3));
     FREE(DS_WEIGHT_OVERFLOW, ds_frequent_items_u64_update_all_weighted(&heavy, ITEMS, 3, WEIGHTS, 3));
-    FREE(DS_WEIGHT_OVERFLOW, ds_frequent_items_u64_merge(&heavy, &six));
-    FREE(DS_TABLE_TOO_LARGE, ds_frequent_items_u64_deserialize(&six, FREQUENT, sizeof FREQUENT, 223));
-    FREE(DS_BAD_FAMILY, ds_frequent_items_u64_deserialize(&six, FILTER, sizeof FILTER, 1 << 20));
-    FREE(DS_INSUFFICIENT_DATA, ds_frequent_items_u64_deserialize(&six, FREQUENT, 0, 1 << 20));
-    FREE(DS_TABLE_TOO_LARGE, ds_frequent_items_u64_deserialize_prefix(&six, FREQUENT, sizeof FREQUENT, 223, &written));
-    FREE(DS_INSUFFICIENT_DATA, ds_frequent_items_u64_deserialize_prefix(&six, FREQUENT, 7, 1 << 20, &written));
+    FREE(DS_WEIGHT_OVERFLOW, ds_merge(&heavy, &six));
+    FREE(DS_TABLE_TOO_LARGE, ds_deserialize(&six, DS_FREQUENT_ITEMS_U64, FREQUENT, sizeof FREQUENT, WITHIN(223)));
+    FREE(DS_BAD_FAMILY, ds_deserialize(&six, DS_FREQUENT_ITEMS_U64, FILTER, sizeof FILTER, WITHIN(1 << 20)));
+    FREE(DS_INSUFFICIENT_DATA, ds_deserialize(&six, DS_FREQUENT_ITEMS_U64, FREQUENT, 0, WITHIN(1 << 20)));
+    FREE(DS_TABLE_TOO_LARGE, ds_deserialize_prefix(&six, DS_FREQUENT_ITEMS_U64, FREQUENT, sizeof FREQUENT, WITHIN(223), &written));
+    FREE(DS_INSUFFICIENT_DATA, ds_deserialize_prefix(&six, DS_FREQUENT_ITEMS_U64, FREQUENT, 7, WITHIN(1 << 20), &written));
     /* slots and fingerprints of a table of 16 replace those of 8 */
     ROW(2, 2, DS_OK, ds_frequent_items_u64_update(&six, 7, 1));
-    FREE(DS_OK, ds_frequent_items_u64_reset(&six));
+    FREE(DS_OK, ds_reset(&six));
     FREE(DS_NO_SKETCH, ds_frequent_items_u64_update(&none, 3, 1));
+    FREE(DS_OK, ds_frequent_items_set_sample_size(&six, 4));
+    FREE(DS_BAD_SAMPLE_SIZE, ds_frequent_items_set_sample_size(&six, 3));
+    FREE(DS_WRONG_KIND, ds_frequent_items_new(&six, DS_COUNT_MIN_U64, 64, 48, NULL));
     FREE(DS_WRONG_KIND, ds_frequent_items_i64_update(&six, 3, 1));
     ds_free(&six);
     ds_free(&empty);
@@ -378,10 +393,10 @@ static int32_t fill(ds_sketch *handle)
 static void full(void)
 {
     ds_sketch sketch = DS_NONE, other = DS_NONE;
-    ds_frequent_items_status numbers;
+    ds_status numbers;
     ds_frequent_items_bounds bounds[3];
-    DO(ds_frequent_items_i64_new(&sketch, 2048, 1024));
-    DO(ds_frequent_items_i64_new(&other, 8, 6));
+    DO(ds_frequent_items_new(&sketch, DS_FREQUENT_ITEMS_I64, 2048, 1024, NULL));
+    DO(ds_frequent_items_new(&other, DS_FREQUENT_ITEMS_I64, 8, 6, NULL));
     ROW(16, 16, DS_OK, fill(&sketch));
     FREE(DS_OK, ds_frequent_items_i64_update(&sketch, 5, 1));
     FREE(DS_OK, ds_frequent_items_i64_update_all(&sketch, SIGNED, 3));
@@ -389,15 +404,15 @@ static void full(void)
     FREE(DS_OK, ds_frequent_items_i64_bounds(&sketch, 5, bounds));
     FREE(DS_OK, ds_frequent_items_i64_bounds(&sketch, -1, bounds));
     FREE(DS_OK, ds_frequent_items_i64_bounds_all(&sketch, SIGNED, 3, bounds, 3));
-    FREE(DS_OK, ds_frequent_items_i64_merge(&sketch, &other));
-    FREE(DS_OK, ds_frequent_items_i64_get_status(&sketch, &numbers));
+    FREE(DS_OK, ds_merge(&sketch, &other));
+    FREE(DS_OK, ds_get_status(&sketch, &numbers));
     FREE(DS_OK, ds_frequent_items_i64_update(&sketch, 1536, 1));
-    if (ds_frequent_items_i64_get_status(&sketch, &numbers) != DS_OK || numbers.maximum_error == 0) failures++;
-    FREE(DS_OK, ds_frequent_items_i64_reset(&sketch));
+    if (ds_get_status(&sketch, &numbers) != DS_OK || numbers.maximum_error == 0) failures++;
+    FREE(DS_OK, ds_reset(&sketch));
     ROW(16, 16, DS_OK, fill(&sketch));
-    FREE(DS_OK, ds_frequent_items_i64_reset(&sketch));
-    FREE(DS_TABLE_TOO_LARGE, ds_frequent_items_i64_deserialize(&sketch, FREQUENT, sizeof FREQUENT, 223));
-    FREE(DS_INSUFFICIENT_DATA, ds_frequent_items_i64_deserialize(&sketch, FREQUENT, 0, 1 << 20));
+    FREE(DS_OK, ds_reset(&sketch));
+    FREE(DS_TABLE_TOO_LARGE, ds_deserialize(&sketch, DS_FREQUENT_ITEMS_I64, FREQUENT, sizeof FREQUENT, WITHIN(223)));
+    FREE(DS_INSUFFICIENT_DATA, ds_deserialize(&sketch, DS_FREQUENT_ITEMS_I64, FREQUENT, 0, WITHIN(1 << 20)));
     ds_free(&sketch);
     ds_free(&other);
 }
@@ -405,13 +420,13 @@ static void full(void)
 static void frequent_strings(void)
 {
     ds_sketch sketch = DS_NONE, empty = DS_NONE, pairs = DS_NONE;
-    ds_frequent_items_status numbers;
+    ds_status numbers;
     ds_frequent_items_bounds bounds[2];
     uint8_t image[256];
     size_t written;
-    DO(ds_frequent_items_string_new(&sketch, 64, 48));
-    DO(ds_frequent_items_string_new(&empty, 64, 48));
-    DO(ds_frequent_items_string_new(&pairs, 64, 48));
+    DO(ds_frequent_items_new(&sketch, DS_FREQUENT_ITEMS_STRING, 64, 48, NULL));
+    DO(ds_frequent_items_new(&empty, DS_FREQUENT_ITEMS_STRING, 64, 48, NULL));
+    DO(ds_frequent_items_new(&pairs, DS_FREQUENT_ITEMS_STRING, 64, 48, NULL));
     /* a string is copied only if it is not tracked */
     FREE(DS_OK, ds_frequent_items_string_update(&sketch, STRINGS, 5, 0));
     ROW(1, 0, DS_OK, ds_frequent_items_string_update(&sketch, STRINGS, 5, 1));
@@ -424,20 +439,20 @@ static void frequent_strings(void)
     FREE(DS_OK, ds_frequent_items_string_bounds(&sketch, STRINGS, 2, bounds));
     FREE(DS_OK, ds_frequent_items_string_bounds_all(&sketch, STRINGS, 5, OFFSETS, 3, bounds, 2));
     FREE(DS_OK, ds_frequent_items_string_bounds_all_pairs(&sketch, PAIRS, 2, bounds, 2));
-    FREE(DS_OK, ds_frequent_items_string_get_status(&sketch, &numbers));
+    FREE(DS_OK, ds_get_status(&sketch, &numbers));
     FREE(DS_OK, ds_memory_bytes(&sketch, &written));
-    FREE(DS_OK, ds_frequent_items_string_merge(&sketch, &empty));
-    FREE(DS_OK, ds_frequent_items_string_serialized_bytes(&sketch, &written));
-    FREE(DS_OK, ds_frequent_items_string_serialize(&sketch, image, sizeof image, &written));
-    FREE(DS_NO_ROOM, ds_frequent_items_string_serialize(&sketch, image, written - 1, &written));
-    FREE(DS_WRONG_KIND, ds_frequent_items_i64_serialized_bytes(&sketch, &written));
-    FREE(DS_TABLE_TOO_LARGE, ds_frequent_items_string_deserialize(&sketch, FREQUENT, sizeof FREQUENT, 223));
-    FREE(DS_INSUFFICIENT_DATA, ds_frequent_items_string_deserialize(&sketch, FREQUENT, 0, 1 << 20));
+    FREE(DS_OK, ds_merge(&sketch, &empty));
+    FREE(DS_OK, ds_serialized_bytes(&sketch, &written));
+    FREE(DS_OK, ds_serialize(&sketch, image, sizeof image, &written));
+    FREE(DS_NO_ROOM, ds_serialize(&sketch, image, written - 1, &written));
+    FREE(DS_WRONG_KIND, ds_equal(&sketch, &empty));
+    FREE(DS_TABLE_TOO_LARGE, ds_deserialize(&sketch, DS_FREQUENT_ITEMS_STRING, FREQUENT, sizeof FREQUENT, WITHIN(223)));
+    FREE(DS_INSUFFICIENT_DATA, ds_deserialize(&sketch, DS_FREQUENT_ITEMS_STRING, FREQUENT, 0, WITHIN(1 << 20)));
     /* only the table is allocated, and nothing for the string */
-    ROW(2, 2, DS_INSUFFICIENT_DATA, ds_frequent_items_string_deserialize(&sketch, HOSTILE, sizeof HOSTILE, 1 << 20));
+    ROW(2, 2, DS_INSUFFICIENT_DATA, ds_deserialize(&sketch, DS_FREQUENT_ITEMS_STRING, HOSTILE, sizeof HOSTILE, WITHIN(1 << 20)));
     ROW(2, 2, DS_INSUFFICIENT_DATA,
-        ds_frequent_items_string_deserialize_prefix(&sketch, HOSTILE, sizeof HOSTILE, 1 << 20, &written));
-    FREE(DS_OK, ds_frequent_items_string_reset(&empty));
+        ds_deserialize_prefix(&sketch, DS_FREQUENT_ITEMS_STRING, HOSTILE, sizeof HOSTILE, WITHIN(1 << 20), &written));
+    FREE(DS_OK, ds_reset(&empty));
     ds_free(&sketch);
     ds_free(&empty);
     ds_free(&pairs);
@@ -450,31 +465,30 @@ static void many(void)
     ds_sketch filter = DS_NONE, count = DS_NONE, frequent = DS_NONE, none[1] = {DS_NONE};
     ds_sketch filters[3] = {DS_NONE}, counts[3] = {DS_NONE}, others[3] = {DS_NONE};
     DO(ds_bloom_new(&filter, 256, 3, 9001));
-    DO(ds_count_min_i64_new(&count, 3, 64, 9001));
-    DO(ds_frequent_items_u64_new(&frequent, 8, 6));
+    DO(ds_count_min_new(&count, DS_COUNT_MIN_I64, 3, 64, 9001));
+    DO(ds_frequent_items_new(&frequent, DS_FREQUENT_ITEMS_U64, 8, 6, NULL));
     for (int i = 0; i < 3; i++) {
         DO(ds_bloom_new(&filters[i], 256, 3, 9001));
-        DO(ds_count_min_i64_new(&counts[i], 3, 64, 9001));
-        DO(ds_frequent_items_u64_new(&others[i], 8, 6));
+        DO(ds_count_min_new(&counts[i], DS_COUNT_MIN_I64, 3, 64, 9001));
+        DO(ds_frequent_items_new(&others[i], DS_FREQUENT_ITEMS_U64, 8, 6, NULL));
     }
-    ROW(2, 2, DS_OK, ds_bloom_union_all(&filter, filters, 3));
-    FREE(DS_OK, ds_bloom_union_all(&filter, NULL, 0));
-    FREE(DS_NO_SKETCH, ds_bloom_union_all(&filter, none, 1));
-    FREE(DS_WRONG_KIND, ds_bloom_union_all(&filter, counts, 3));
+    ROW(2, 2, DS_OK, ds_merge_all(&filter, filters, 3));
+    FREE(DS_OK, ds_merge_all(&filter, NULL, 0));
+    FREE(DS_NO_SKETCH, ds_merge_all(&filter, none, 1));
+    FREE(DS_WRONG_KIND, ds_merge_all(&filter, counts, 3));
     DO(ds_bloom_new(&filters[2], 256, 3, 7));
-    ROW(2, 2, DS_MISMATCH, ds_bloom_union_all(&filter, filters, 3));
-    ROW(2, 2, DS_OK, ds_count_min_i64_merge_all(&count, counts, 3));
-    FREE(DS_NO_SKETCH, ds_count_min_i64_merge_all(&count, none, 1));
-    FREE(DS_WRONG_KIND, ds_count_min_u64_merge_all(&count, counts, 3));
-    FREE(DS_WRONG_KIND, ds_count_min_i64_merge_all(&count, filters, 3));
+    ROW(2, 2, DS_MISMATCH, ds_merge_all(&filter, filters, 3));
+    ROW(2, 2, DS_OK, ds_merge_all(&count, counts, 3));
+    FREE(DS_NO_SKETCH, ds_merge_all(&count, none, 1));
+    FREE(DS_WRONG_KIND, ds_merge_all(&count, filters, 3));
     /* nothing is copied if the others are empty */
-    ROW(2, 2, DS_OK, ds_frequent_items_u64_merge_all(&frequent, others, 3));
+    ROW(2, 2, DS_OK, ds_merge_all(&frequent, others, 3));
     for (int i = 0; i < 3; i++) DO(ds_frequent_items_u64_update(&others[i], ITEMS[i], 1));
-    ROW(4, 4, DS_OK, ds_frequent_items_u64_merge_all(&frequent, others, 3));
-    ROW(4, 4, DS_OK, ds_frequent_items_u64_merge_all(&frequent, others, 3));
-    FREE(DS_WRONG_KIND, ds_frequent_items_i64_merge_all(&frequent, others, 3));
+    ROW(4, 4, DS_OK, ds_merge_all(&frequent, others, 3));
+    ROW(4, 4, DS_OK, ds_merge_all(&frequent, others, 3));
+    FREE(DS_WRONG_KIND, ds_merge_all(&frequent, counts, 3));
     DO(ds_frequent_items_u64_update(&others[2], 7, UINT64_MAX - 1));
-    ROW(2, 2, DS_WEIGHT_OVERFLOW, ds_frequent_items_u64_merge_all(&frequent, others, 3));
+    ROW(2, 2, DS_WEIGHT_OVERFLOW, ds_merge_all(&frequent, others, 3));
     for (int i = 0; i < 3; i++) {
         ds_free(&filters[i]);
         ds_free(&counts[i]);

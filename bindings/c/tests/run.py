@@ -37,12 +37,15 @@ TABLE_KEY = {"DATASKETCHES_TABLE_KEY": bytes(range(16)).hex()}
 
 # The C type of each Rust type of an export. A slice is a pointer and a length, and an allocator is not passed.
 CROSSES = {"u8": "uint8_t", "u16": "uint16_t", "u32": "uint32_t", "u64": "uint64_t", "i32": "int32_t", "i64": "int64_t"}
-CROSSES |= {"usize": "size_t", "bool": "bool", "SketchHandle": "ds_sketch", "FilterStatus": "ds_bloom_status"}
-CROSSES |= {"CountStatus": "ds_count_min_status", "ItemBounds": "ds_frequent_items_bounds"}
-CROSSES |= {"FrequentStatus": "ds_frequent_items_status"}
+CROSSES |= {"usize": "size_t", "bool": "bool", "SketchHandle": "ds_sketch", "Status": "ds_status"}
+CROSSES |= {"ItemBounds": "ds_frequent_items_bounds"}
 
 # The exports of the sources that only the library's own C calls.
-INTERNAL = {"ds_free_handle"}
+INTERNAL = {"ds_free_handle", "ds_new_frequent_items", "ds_read_image"}
+
+# The constant of each kind of the sources.
+KINDS = {"Filter": "BLOOM", "CountU64": "COUNT_MIN_U64", "CountI64": "COUNT_MIN_I64", "FrequentU64": "FREQUENT_ITEMS_U64"}
+KINDS |= {"FrequentI64": "FREQUENT_ITEMS_I64", "FrequentStrings": "FREQUENT_ITEMS_STRING"}
 
 # The start of a function in C++, in which each line of `NOT_CPP` does not compile: the line, the compiler's message, and flags.
 CPP_BEFORE = """#include <datasketches.hpp>
@@ -65,9 +68,12 @@ NOT_CPP = [
     ("auto report = heavy.rows(error_type::no_false_positives); auto copy = report;", "deleted", []),
     ("counts = with_sign;", "no (match|viable)", []),
     ("counts.merge(with_sign);", "cannot convert|no matching|non-const lvalue reference", []),
-    ("filter.union_all(std::vector<count_min_sketch<std::uint64_t>>());", "of the type of this sketch", []),
-    ("filter.union_all(std::list<bloom_filter>());", "a contiguous range", []),
-    ("const std::vector<bloom_filter> filters; filter.union_all(filters);", "are not const", []),
+    ("filter.merge_all(std::vector<count_min_sketch<std::uint64_t>>());", "of the type of this sketch", []),
+    ("filter.merge_all(std::list<bloom_filter>());", "a contiguous range", []),
+    ("const std::vector<bloom_filter> filters; filter.merge_all(filters);", "are not const", []),
+    ("heavy.equal(heavy);", "no member", []),
+    ("(void)(heavy == heavy);", "no match|invalid operands", []),
+    ("counts.set_sample_size(4);", "no member", []),
     ("count_min_sketch<int> sketch;", "weights of count_min_sketch are std::int64_t or std::uint64_t", []),
     ("count_min_sketch<double> sketch;", "weights of count_min_sketch are std::int64_t or std::uint64_t", []),
     ("frequent_items<int> sketch(64);", "items of frequent_items are std::string, std::int64_t or std::uint64_t", []),
@@ -140,16 +146,6 @@ def exported():
     return found
 
 
-def without_key(sources):
-    """Returns the functions of `src/keys.c`, as `exported` does: each has the parameters of the export but the key."""
-    found = {}
-    for name, (result, kinds) in sources.items():
-        if name.endswith("_with_key"):
-            at = next(i for i in range(len(kinds)) if kinds[i:i + 2] == ["uint64_t", "uint64_t"])
-            found[name.removesuffix("_with_key")] = (result, kinds[:at] + kinds[at + 2:])
-    return found
-
-
 def functions(path, end):
     """Returns the functions of a header or a C source, as `exported` does. `end` is what comes after the parameters."""
     text = re.sub(r"/\*.*?\*/", "", read(path), flags=re.DOTALL)
@@ -161,7 +157,7 @@ def functions(path, end):
 
 
 def in_c_sources():
-    """Returns the functions of `src/` but those of `keys.c`, as `exported` does."""
+    """Returns the functions of `src/`, as `exported` does."""
     found = {}
     for path in glob.glob(f"{C}/src/*.c"):
         found |= functions(path, r"\n\{")
@@ -202,10 +198,10 @@ class Tests:
             self.failed += 1
             print(f"failed: {name} {said}")
 
-    def compile(self, source, *flags, static=True):
-        """Compiles a source with the static library or the shared object. Returns the program's path."""
+    def compile(self, source, *flags, static=True, libraries=None):
+        """Compiles a source with the static library, the shared object, or other libraries. Returns the program's path."""
         out = os.path.join(self.work, f"{os.path.basename(source)[:-2]}{len(os.listdir(self.work))}")
-        libraries = [f"{self.built}/libdatasketches.a"] if static else ["-L", self.built, "-ldatasketches"]
+        libraries = libraries or ([f"{self.built}/libdatasketches.a"] if static else ["-L", self.built, "-ldatasketches"])
         command = [COMPILER, *STRICT, *flags, "-I", f"{C}/include", source, "-o", out, *libraries, "-lpthread"]
         subprocess.run(command, check=True)
         return out
@@ -218,10 +214,12 @@ class Tests:
         """Compares prototypes with exports, and the header's error numbers, names and strings with the sources."""
         sources, header, in_c = exported(), declared(), in_c_sources()
         called = {name: form for name, form in sources.items() if name not in INTERNAL}
-        calls = called | without_key(sources) | in_c
-        self.check("there are exports", len(sources) > 30 and len(calls) == len(called) + 9 + len(in_c))
+        calls = called | in_c
+        self.check("there are exports", len(sources) > 30 and len(calls) == len(called) + len(in_c))
         self.check("there are internal exports", INTERNAL <= set(sources))
-        self.check("there are calls in C", {"ds_free", "ds_result_name", "ds_result_message"} <= set(in_c), in_c)
+        self.check("there are calls in C", {"ds_free", "ds_deserialize", "ds_frequent_items_new", "ds_result_name"} <= set(in_c), in_c)
+        for name, form in functions(f"{C}/src/keys.c", ";").items():
+            self.check(f"the prototype of {name}", sources.get(name) == form, (sources.get(name), form))
         for name in sorted(calls | header):
             self.check(f"the prototype of {name}", calls.get(name) == header.get(name), (calls.get(name), header.get(name)))
         for path, flags, wanted in [(self.archive, [], set(sources)), (f"{self.built}/libdatasketches.a", [], set(calls)),
@@ -244,7 +242,10 @@ class Tests:
         others = re.findall(r"pub const (\w+): i32 = (-?\d+);", read(f"{CRATE}/src/status_code.rt"))
         constants = re.findall(r"DS_(\w+) = (-?\d+)", read(f"{C}/include/datasketches.h"))
         of_c = {("BAD_ARGUMENT", "-5"), ("NO_RANDOM", "-7"), ("MIN_RESULT", "-44")}
-        self.check("the other results", set(others) == set(constants) - of_c, constants)
+        kinds = re.findall(r"^ +(\d) => Some\(SketchKind::(\w+)\),$", read(f"{CRATE}/src/sketch_kind.rt"), re.MULTILINE)
+        of_kinds = [(KINDS.get(name), number) for number, name in kinds]
+        self.check("the kinds", of_kinds == constants[-len(KINDS):], (of_kinds, constants))
+        self.check("the other results", set(others) == set(constants[:-len(KINDS)]) - of_c, constants)
 
     def calls(self, source):
         """Runs a source's checks plainly, with the address sanitizer, and under valgrind."""
@@ -337,11 +338,10 @@ class Tests:
             self.check(f"two libraries, {flags[1]}", ran.returncode == 0 and ran.stdout == b"1 1 0\n", ran)
 
     def keys_drawn(self):
-        """Checks which keys are passed on, also if the system has no random bytes or interrupts the call for them."""
-        forms = ["new", "deserialize", "deserialize_prefix"]
-        calls = [f"ds_frequent_items_{kind}_{form}_with_key" for kind in ["u64", "i64", "string"] for form in forms]
-        wraps = [f"-Wl,--wrap={name}" for name in ["getrandom", "open", *calls]]
-        ran = self.run([self.compile(f"{HERE}/draws.c", "-O2", f"{C}/src/keys.c", *wraps, static=False)])
+        """Checks which arguments and keys are passed on, also if the system has no random bytes or interrupts the call for them."""
+        wraps = [f"-Wl,--wrap={name}" for name in ["getrandom", "open", "ds_new_frequent_items", "ds_read_image"]]
+        sources = sorted(glob.glob(f"{C}/src/*.c"))
+        ran = self.run([self.compile(f"{HERE}/draws.c", "-O2", *sources, *wraps, libraries=[self.archive])])
         self.check("keys drawn", ran.returncode == 0 and b"checks hold" in ran.stdout, ran)
 
     def requests_counted(self):

@@ -39,9 +39,9 @@ typedef struct {
     ds_frequent_items_bounds bounds[2][ITEMS], of_rows[64];
     size_t num_rows, lengths[4];
     uint8_t images[4][1 << 14];
-    ds_bloom_status filter;
-    ds_count_min_status count;
-    ds_frequent_items_status heavy;
+    ds_status filter;
+    ds_status count;
+    ds_status heavy;
 } answers;
 
 /* A thread's handles, what it reads, and whether its calls were done. */
@@ -63,17 +63,17 @@ static bool read_all(reader *it)
         done &= found >= 0 && ds_count_min_u64_estimate_u64(&it->count, numbers[i], &got->estimates[0][i]) == DS_OK;
         done &= ds_frequent_items_u64_bounds(&it->heavy, numbers[i], &got->bounds[0][i]) == DS_OK;
     }
-    done &= ds_bloom_get_status(&it->filter, &got->filter) == DS_OK;
-    done &= ds_bloom_serialize(&it->filter, got->images[0], sizeof got->images[0], &got->lengths[0]) == DS_OK;
+    done &= ds_get_status(&it->filter, &got->filter) == DS_OK;
+    done &= ds_serialize(&it->filter, got->images[0], sizeof got->images[0], &got->lengths[0]) == DS_OK;
     done &= ds_count_min_u64_estimate_all_string_pairs(&it->count, pairs, ITEMS, got->estimates[1], ITEMS) == DS_OK;
     done &= ds_count_min_u64_upper_bound_u64(&it->count, 1, &got->bound) == DS_OK;
-    done &= ds_count_min_u64_get_status(&it->count, &got->count) == DS_OK;
-    done &= ds_count_min_u64_serialize(&it->count, got->images[1], sizeof got->images[1], &got->lengths[1]) == DS_OK;
+    done &= ds_get_status(&it->count, &got->count) == DS_OK;
+    done &= ds_serialize(&it->count, got->images[1], sizeof got->images[1], &got->lengths[1]) == DS_OK;
     done &= ds_frequent_items_string_bounds_all_pairs(&it->words, pairs, ITEMS, got->bounds[1], ITEMS) == DS_OK;
     done &= ds_frequent_items_u64_rows(&it->heavy, false, 0, got->rows, 64, got->of_rows, 64, &got->num_rows) == DS_OK;
-    done &= ds_frequent_items_u64_get_status(&it->heavy, &got->heavy) == DS_OK;
-    done &= ds_frequent_items_u64_serialize(&it->heavy, got->images[2], sizeof got->images[2], &got->lengths[2]) == DS_OK;
-    done &= ds_frequent_items_string_serialize(&it->words, got->images[3], sizeof got->images[3], &got->lengths[3]) == DS_OK;
+    done &= ds_get_status(&it->heavy, &got->heavy) == DS_OK;
+    done &= ds_serialize(&it->heavy, got->images[2], sizeof got->images[2], &got->lengths[2]) == DS_OK;
+    done &= ds_serialize(&it->words, got->images[3], sizeof got->images[3], &got->lengths[3]) == DS_OK;
     return done;
 }
 
@@ -91,7 +91,7 @@ static void *run(void *argument)
     reader *it = argument;
     ds_sketch more = DS_NONE, copy = DS_NONE;
     bool done = read_all(it);
-    done &= ds_share(&more, &it->filter) == DS_OK && ds_bloom_equal(&more, &it->filter) == DS_YES;
+    done &= ds_share(&more, &it->filter) == DS_OK && ds_equal(&more, &it->filter) == DS_YES;
     done &= ds_clone(&copy, &more) == DS_OK && ds_bloom_insert_u64(&copy, UINT64_MAX) == DS_OK;
     done &= ds_share(&copy, &it->heavy) == DS_OK && ds_frequent_items_u64_update(&copy, 1, 1) == DS_WRONG_KIND;
     it->done = done && read_all(it);
@@ -106,13 +106,13 @@ static bool fill(reader *it)
     bool done = ds_bloom_new(&it->filter, 8000, 5, 9001) == DS_OK;
     done &= ds_bloom_insert_all_u64(&it->filter, numbers, ITEMS / 2) == DS_OK;
     done &= ds_bloom_insert_all_string_pairs(&it->filter, pairs, ITEMS / 2) == DS_OK;
-    done &= ds_count_min_u64_new(&it->count, 4, 256, 9001) == DS_OK;
+    done &= ds_count_min_new(&it->count, DS_COUNT_MIN_U64, 4, 256, 9001) == DS_OK;
     done &= ds_count_min_u64_update_all_u64(&it->count, numbers, ITEMS / 2) == DS_OK;
     done &= ds_count_min_u64_update_all_string_pairs(&it->count, pairs, ITEMS / 2) == DS_OK;
-    done &= ds_frequent_items_u64_new_with_key(&it->heavy, 256, 192, 7, 8) == DS_OK;
+    done &= ds_frequent_items_new(&it->heavy, DS_FREQUENT_ITEMS_U64, 256, 192, &(ds_key){7, 8}) == DS_OK;
     done &= ds_frequent_items_u64_update(&it->heavy, numbers[0], 1000) == DS_OK;
     done &= ds_frequent_items_u64_update_all(&it->heavy, numbers, ITEMS) == DS_OK;
-    done &= ds_frequent_items_string_new_with_key(&it->words, 256, 192, 7, 8) == DS_OK;
+    done &= ds_frequent_items_new(&it->words, DS_FREQUENT_ITEMS_STRING, 256, 192, &(ds_key){7, 8}) == DS_OK;
     done &= ds_frequent_items_string_update(&it->words, letters, 2, 1000) == DS_OK;
     done &= ds_frequent_items_string_update_all_pairs(&it->words, pairs, ITEMS) == DS_OK;
     return done;
@@ -150,7 +150,7 @@ static void threads(bool thaws_early)
                 CHECK(ds_bloom_contains_u64(&first.filter, numbers[0]) == DS_YES);
                 nanosleep(&pause, NULL);
             }
-            CHECK(result == DS_YES && ds_bloom_reset(&first.filter) == DS_OK);
+            CHECK(result == DS_YES && ds_reset(&first.filter) == DS_OK);
         } else {
             CHECK(read_all(&first) && memcmp(&first.got, &alone, sizeof alone) == 0);
         }
@@ -174,44 +174,40 @@ static bool make(ds_sketch *handle, int kind)
     switch (kind) {
     case 0: return ds_bloom_new(handle, 640, 3, 9001) == DS_OK && ds_bloom_insert_all_u64(handle, numbers, 9) == DS_OK;
     case 1:
-        return ds_count_min_u64_new(handle, 3, 16, 9001) == DS_OK && ds_count_min_u64_update_all_u64(handle, numbers, 9) == DS_OK;
+        return ds_count_min_new(handle, DS_COUNT_MIN_U64, 3, 16, 9001) == DS_OK &&
+               ds_count_min_u64_update_all_u64(handle, numbers, 9) == DS_OK;
     case 2:
-        return ds_count_min_i64_new(handle, 3, 16, 9001) == DS_OK && ds_count_min_i64_update_all_u64(handle, numbers, 9) == DS_OK;
+        return ds_count_min_new(handle, DS_COUNT_MIN_I64, 3, 16, 9001) == DS_OK &&
+               ds_count_min_i64_update_all_u64(handle, numbers, 9) == DS_OK;
     case 3:
-        return ds_frequent_items_u64_new_with_key(handle, 64, 48, 7, 8) == DS_OK &&
+        return ds_frequent_items_new(handle, DS_FREQUENT_ITEMS_U64, 64, 48, &(ds_key){7, 8}) == DS_OK &&
                ds_frequent_items_u64_update_all(handle, numbers, 9) == DS_OK;
     case 4:
-        return ds_frequent_items_i64_new_with_key(handle, 64, 48, 7, 8) == DS_OK &&
+        return ds_frequent_items_new(handle, DS_FREQUENT_ITEMS_I64, 64, 48, &(ds_key){7, 8}) == DS_OK &&
                ds_frequent_items_i64_update_all(handle, with_sign, 9) == DS_OK;
     default:
-        return ds_frequent_items_string_new_with_key(handle, 64, 48, 7, 8) == DS_OK &&
+        return ds_frequent_items_new(handle, DS_FREQUENT_ITEMS_STRING, 64, 48, &(ds_key){7, 8}) == DS_OK &&
                ds_frequent_items_string_update_all_pairs(handle, pairs, 9) == DS_OK;
     }
 }
 
-/* The image of a sketch of a kind. */
+/* The image of a sketch. */
 typedef struct {
     size_t length;
     uint8_t bytes[2048];
 } image;
 
-static image image_of(ds_sketch *handle, int kind)
+static image image_of(ds_sketch *handle)
 {
-    static int32_t (*const CALLS[KINDS])(ds_sketch *, uint8_t *, size_t, size_t *) = {ds_bloom_serialize,
-                                                                                      ds_count_min_u64_serialize,
-                                                                                      ds_count_min_i64_serialize,
-                                                                                      ds_frequent_items_u64_serialize,
-                                                                                      ds_frequent_items_i64_serialize,
-                                                                                      ds_frequent_items_string_serialize};
     image made;
     memset(&made, 0, sizeof made);
-    CHECK(CALLS[kind](handle, made.bytes, sizeof made.bytes, &made.length) == DS_OK && made.length > 24);
+    CHECK(ds_serialize(handle, made.bytes, sizeof made.bytes, &made.length) == DS_OK && made.length > 24);
     return made;
 }
 
-static bool is_image_of(const image *wanted, ds_sketch *handle, int kind)
+static bool is_image_of(const image *wanted, ds_sketch *handle)
 {
-    image got = image_of(handle, kind);
+    image got = image_of(handle);
     return memcmp(wanted, &got, sizeof got) == 0;
 }
 
@@ -235,11 +231,11 @@ static int32_t change_filter(ds_sketch *handle, ds_sketch *other, int call)
     case 13: return ds_bloom_contains_and_insert_all_i64(handle, with_sign, 9, results, 9);
     case 14: return ds_bloom_contains_and_insert_all_string(handle, letters, sizeof letters, offsets, 10, results, 9);
     case 15: return ds_bloom_contains_and_insert_all_string_pairs(handle, pairs, 9, results, 9);
-    case 16: return ds_bloom_union(handle, other);
+    case 16: return ds_merge(handle, other);
     case 17: return ds_bloom_intersect(handle, other);
     case 18: return ds_bloom_difference(handle, other);
-    case 19: return ds_bloom_union_all(handle, other, 1);
-    default: return ds_bloom_reset(handle);
+    case 19: return ds_merge_all(handle, other, 1);
+    default: return ds_reset(handle);
     }
 }
 
@@ -261,8 +257,9 @@ static int32_t change_filter(ds_sketch *handle, ds_sketch *other, int call)
         case 10: return ds_count_min_##kind##_update_all_weighted_string_pairs(handle, pairs, 4, weights, 4); \
         case 11: return ds_count_min_##kind##_update_words(handle, letters, 3); \
         case 12: return ds_count_min_##kind##_update_lines(handle, letters, 3); \
-        case 13: return ds_count_min_##kind##_merge(handle, other); \
-        default: return ds_count_min_##kind##_merge_all(handle, other, 1); \
+        case 13: return ds_merge(handle, other); \
+        case 14: return ds_merge_all(handle, other, 1); \
+        default: return ds_reset(handle); \
         } \
     }
 CHANGE_COUNT(u64, uint64_t)
@@ -282,10 +279,10 @@ static int32_t scale_count(ds_sketch *handle, ds_sketch *other, int call)
         case 0: return ds_frequent_items_##kind##_update(handle, items[0], 1); \
         case 1: return ds_frequent_items_##kind##_update_all(handle, items, 4); \
         case 2: return ds_frequent_items_##kind##_update_all_weighted(handle, items, 4, weights, 4); \
-        case 3: return ds_frequent_items_##kind##_merge(handle, other); \
-        case 4: return ds_frequent_items_##kind##_merge_all(handle, other, 1); \
-        case 5: return ds_frequent_items_##kind##_set_sample_size(handle, 8); \
-        default: return ds_frequent_items_##kind##_reset(handle); \
+        case 3: return ds_merge(handle, other); \
+        case 4: return ds_merge_all(handle, other, 1); \
+        case 5: return ds_frequent_items_set_sample_size(handle, 8); \
+        default: return ds_reset(handle); \
         } \
     }
 CHANGE_FREQUENT(u64, numbers)
@@ -300,20 +297,20 @@ static int32_t change_frequent_string(ds_sketch *handle, ds_sketch *other, int c
     case 2: return ds_frequent_items_string_update_all_pairs(handle, pairs, 4);
     case 3: return ds_frequent_items_string_update_all_weighted(handle, letters, sizeof letters, offsets, 5, weights, 4);
     case 4: return ds_frequent_items_string_update_all_weighted_pairs(handle, pairs, 4, weights, 4);
-    case 5: return ds_frequent_items_string_merge(handle, other);
-    case 6: return ds_frequent_items_string_merge_all(handle, other, 1);
+    case 5: return ds_merge(handle, other);
+    case 6: return ds_merge_all(handle, other, 1);
     case 7: return ds_frequent_items_string_update_words(handle, letters, 3);
     case 8: return ds_frequent_items_string_update_lines(handle, letters, 3);
-    case 9: return ds_frequent_items_string_set_sample_size(handle, 8);
-    default: return ds_frequent_items_string_reset(handle);
+    case 9: return ds_frequent_items_set_sample_size(handle, 8);
+    default: return ds_reset(handle);
     }
 }
 
 static const struct {
     int kind, calls;
     int32_t (*change)(ds_sketch *, ds_sketch *, int);
-} CHANGES[] = {{0, 21, change_filter},         {1, 15, change_count_u64},   {1, 2, scale_count},
-               {2, 15, change_count_i64},      {3, 7, change_frequent_u64}, {4, 7, change_frequent_i64},
+} CHANGES[] = {{0, 21, change_filter},         {1, 16, change_count_u64},   {1, 2, scale_count},
+               {2, 16, change_count_i64},      {3, 7, change_frequent_u64}, {4, 7, change_frequent_i64},
                {5, 11, change_frequent_string}};
 
 /* Each call that changes a sketch returns DS_WRONG_KIND for a shared one, changes nothing, and is done after the thaw. The other
@@ -325,14 +322,14 @@ static void changes(void)
         for (int call = 0; call < CHANGES[i].calls; call++) {
             ds_sketch handle = DS_NONE, other = DS_NONE, share = DS_NONE;
             CHECK(make(&handle, kind) && make(&other, kind) && ds_freeze(&handle) == DS_OK && ds_freeze(&other) == DS_OK);
-            image before = image_of(&handle, kind), of_other = image_of(&other, kind);
-            CHECK(CHANGES[i].change(&handle, &other, call) == DS_WRONG_KIND && is_image_of(&before, &handle, kind));
+            image before = image_of(&handle), of_other = image_of(&other);
+            CHECK(CHANGES[i].change(&handle, &other, call) == DS_WRONG_KIND && is_image_of(&before, &handle));
             CHECK(ds_share(&share, &handle) == DS_OK && CHANGES[i].change(&share, &other, call) == DS_WRONG_KIND);
-            CHECK(is_image_of(&before, &handle, kind) && is_image_of(&before, &share, kind));
+            CHECK(is_image_of(&before, &handle) && is_image_of(&before, &share));
             CHECK(ds_thaw(&handle) == DS_NO && CHANGES[i].change(&handle, &other, call) == DS_WRONG_KIND);
             ds_free(&share);
-            CHECK(ds_thaw(&handle) == DS_YES && is_image_of(&before, &handle, kind));
-            CHECK(CHANGES[i].change(&handle, &other, call) >= 0 && is_image_of(&of_other, &other, kind));
+            CHECK(ds_thaw(&handle) == DS_YES && is_image_of(&before, &handle));
+            CHECK(CHANGES[i].change(&handle, &other, call) >= 0 && is_image_of(&of_other, &other));
             CHECK(ds_thaw(&other) == DS_YES);
             ds_free(&handle);
             ds_free(&other);
@@ -348,25 +345,24 @@ static void each_kind(void)
         size_t bytes, shared_bytes;
         CHECK(ds_freeze(&none) == DS_NO_SKETCH && ds_thaw(&none) == DS_NO_SKETCH && ds_share(&share, &none) == DS_NO_SKETCH);
         CHECK(make(&own, kind) && ds_share(&share, &own) == DS_WRONG_KIND && !share.sketch && ds_thaw(&own) == DS_YES);
-        image before = image_of(&own, kind);
+        image before = image_of(&own);
         CHECK(ds_memory_bytes(&own, &bytes) == DS_OK && ds_freeze(&own) == DS_OK && ds_freeze(&own) == DS_OK);
-        CHECK(ds_memory_bytes(&own, &shared_bytes) == DS_OK && shared_bytes == bytes && is_image_of(&before, &own, kind));
+        CHECK(ds_memory_bytes(&own, &shared_bytes) == DS_OK && shared_bytes == bytes && is_image_of(&before, &own));
         CHECK(ds_share(&own, &own) == DS_BAD_ARGUMENT && ds_share(&share, &own) == DS_OK && ds_share(&third, &share) == DS_OK);
-        CHECK(is_image_of(&before, &share, kind) && is_image_of(&before, &third, kind));
+        CHECK(is_image_of(&before, &share) && is_image_of(&before, &third));
         /* a share of no sketch, or of one that is not shared, keeps what the handle had */
-        CHECK(ds_share(&third, &none) == DS_NO_SKETCH && is_image_of(&before, &third, kind));
+        CHECK(ds_share(&third, &none) == DS_NO_SKETCH && is_image_of(&before, &third));
         /* a clone is not shared */
-        CHECK(ds_clone(&copy, &share) == DS_OK && is_image_of(&before, &copy, kind));
-        CHECK(ds_share(&third, &copy) == DS_WRONG_KIND && is_image_of(&before, &third, kind) && ds_thaw(&copy) == DS_YES);
-        if (kind == 0) CHECK(ds_bloom_equal(&copy, &own) == DS_YES && ds_bloom_equal(&own, &share) == DS_YES);
-        if (kind == 1) CHECK(ds_count_min_u64_equal(&copy, &own) == DS_YES && ds_count_min_u64_equal(&own, &share) == DS_YES);
-        if (kind == 2) CHECK(ds_count_min_i64_equal(&copy, &own) == DS_YES && ds_count_min_i64_equal(&own, &share) == DS_YES);
+        CHECK(ds_clone(&copy, &share) == DS_OK && is_image_of(&before, &copy));
+        CHECK(ds_share(&third, &copy) == DS_WRONG_KIND && is_image_of(&before, &third) && ds_thaw(&copy) == DS_YES);
+        CHECK(ds_equal(&copy, &own) == (kind < 3 ? DS_YES : DS_WRONG_KIND));
+        CHECK(ds_equal(&own, &share) == (kind < 3 ? DS_YES : DS_WRONG_KIND));
         /* each handle can be the last one, and another sketch replaces a share alone */
         CHECK(ds_thaw(&own) == DS_NO && ds_thaw(&share) == DS_NO && ds_thaw(&third) == DS_NO);
         ds_free(&own);
         CHECK(ds_thaw(&third) == DS_NO && ds_share(&share, &third) == DS_OK && ds_thaw(&third) == DS_NO);
-        CHECK(make(&share, (kind + 1) % KINDS) && ds_thaw(&third) == DS_YES && is_image_of(&before, &third, kind));
-        CHECK(ds_freeze(&third) == DS_OK && is_image_of(&before, &third, kind));
+        CHECK(make(&share, (kind + 1) % KINDS) && ds_thaw(&third) == DS_YES && is_image_of(&before, &third));
+        CHECK(ds_freeze(&third) == DS_OK && is_image_of(&before, &third));
         ds_free(&share);
         ds_free(&third);
         ds_free(&copy);
@@ -381,14 +377,14 @@ static void merges_of_shares(void)
     ds_frequent_items_bounds bounds;
     CHECK(make(&others[0], 0) && ds_freeze(&others[0]) == DS_OK && ds_share(&others[2], &others[0]) == DS_OK);
     CHECK(ds_bloom_new(&others[1], 640, 3, 9001) == DS_OK && ds_bloom_insert_u64(&others[1], 5000) == DS_OK);
-    CHECK(ds_bloom_new(&all, 640, 3, 9001) == DS_OK && ds_bloom_union_all(&all, others, 3) == DS_OK);
+    CHECK(ds_bloom_new(&all, 640, 3, 9001) == DS_OK && ds_merge_all(&all, others, 3) == DS_OK);
     CHECK(ds_bloom_contains_u64(&all, 5000) == DS_YES && ds_bloom_contains_u64(&all, numbers[8]) == DS_YES);
     CHECK(ds_thaw(&others[0]) == DS_NO);
     CHECK(make(&others[0], 1) && ds_freeze(&others[0]) == DS_OK && ds_share(&others[2], &others[0]) == DS_OK);
-    CHECK(make(&others[1], 1) && make(&all, 1) && ds_count_min_u64_merge_all(&all, others, 3) == DS_OK);
+    CHECK(make(&others[1], 1) && make(&all, 1) && ds_merge_all(&all, others, 3) == DS_OK);
     CHECK(ds_count_min_u64_estimate_u64(&all, numbers[8], &estimate) == DS_OK && estimate >= 4);
     CHECK(make(&others[0], 3) && ds_freeze(&others[0]) == DS_OK && ds_share(&others[2], &others[0]) == DS_OK);
-    CHECK(make(&others[1], 3) && make(&all, 3) && ds_frequent_items_u64_merge_all(&all, others, 3) == DS_OK);
+    CHECK(make(&others[1], 3) && make(&all, 3) && ds_merge_all(&all, others, 3) == DS_OK);
     CHECK(ds_frequent_items_u64_bounds(&all, numbers[8], &bounds) == DS_OK && bounds.estimate == 4);
     CHECK(ds_thaw(&others[2]) == DS_NO);
     for (int i = 0; i < 3; i++) ds_free(&others[i]);
@@ -401,15 +397,15 @@ static void first_errors(void)
     ds_sketch shared = DS_NONE, none = DS_NONE;
     bool result;
     CHECK(make(&shared, 0) && ds_freeze(&shared) == DS_OK);
-    CHECK(ds_bloom_union(&shared, &none) == DS_WRONG_KIND && ds_bloom_union(&none, &shared) == DS_NO_SKETCH);
-    CHECK(ds_bloom_union_all(&shared, &none, 1) == DS_WRONG_KIND && ds_bloom_equal(&shared, &none) == DS_NO_SKETCH);
+    CHECK(ds_merge(&shared, &none) == DS_WRONG_KIND && ds_merge(&none, &shared) == DS_NO_SKETCH);
+    CHECK(ds_merge_all(&shared, &none, 1) == DS_WRONG_KIND && ds_equal(&shared, &none) == DS_NO_SKETCH);
     CHECK(ds_bloom_contains_and_insert_all_u64(&shared, numbers, 1, &result, 0) == DS_NO_ROOM);
     CHECK(ds_bloom_insert_string(&shared, (const uint8_t *)"\xff", 1) == DS_INVALID_UTF8);
     CHECK(ds_count_min_u64_update_u64(&shared, 1, 1) == DS_WRONG_KIND);
     CHECK(make(&shared, 1) && ds_freeze(&shared) == DS_OK && ds_count_min_u64_decay(&shared, 3, 2) == DS_BAD_FRACTION);
-    CHECK(ds_count_min_i64_merge(&shared, &none) == DS_WRONG_KIND && ds_count_min_u64_merge(&shared, &none) == DS_WRONG_KIND);
+    CHECK(ds_merge(&shared, &none) == DS_WRONG_KIND && ds_reset(&shared) == DS_WRONG_KIND);
     CHECK(make(&shared, 3) && ds_freeze(&shared) == DS_OK);
-    CHECK(ds_frequent_items_u64_set_sample_size(&shared, 7) == DS_WRONG_KIND);
+    CHECK(ds_frequent_items_set_sample_size(&shared, 7) == DS_WRONG_KIND && ds_equal(&shared, &none) == DS_WRONG_KIND);
     ds_free(&shared);
 }
 

@@ -5,6 +5,7 @@
 #include <string.h>
 
 #include "check.h"
+#include "options.h"
 
 enum { ITEMS = 300, SMALL = 32, LARGE = 1024, ROUNDS = 24, THREADS = 4, CREATED = 100 };
 
@@ -63,8 +64,22 @@ static bool are_same(const struct image *a, const struct image *b)
     return a->length == b->length && memcmp(a->bytes, b->bytes, a->length) == 0;
 }
 
+static void write_image(ds_sketch *handle, struct image *image)
+{
+    CHECK(ds_serialize(handle, image->bytes, sizeof image->bytes, &image->length) == DS_OK);
+}
+
+/* Checks that both have the same image. Their counters are then the same, in the same order. */
+static void same(ds_sketch *a, ds_sketch *b)
+{
+    static struct image of_a, of_b;
+    write_image(a, &of_a);
+    write_image(b, &of_b);
+    CHECK(are_same(&of_a, &of_b));
+}
+
 /* The checks for one type of items. A table of SMALL slots purges counters, and one of LARGE slots has room for all items. */
-#define KEYS(kind) \
+#define KEYS(kind, number) \
     /* Adds weights to items, and to the exact counts. */ \
     static void fill_##kind(ds_sketch *handle, uint64_t seed, int count, uint64_t *exact) \
     { \
@@ -74,21 +89,9 @@ static bool are_same(const struct image *a, const struct image *b)
             exact[item] += weight; \
         } \
     } \
-    static void write_##kind(ds_sketch *handle, struct image *image) \
-    { \
-        CHECK(ds_frequent_items_##kind##_serialize(handle, image->bytes, sizeof image->bytes, &image->length) == DS_OK); \
-    } \
-    /* Checks that both have the same image. Their counters are then the same, in the same order. */ \
-    static void same_##kind(ds_sketch *a, ds_sketch *b) \
-    { \
-        static struct image of_a, of_b; \
-        write_##kind(a, &of_a); \
-        write_##kind(b, &of_b); \
-        CHECK(are_same(&of_a, &of_b)); \
-    } \
     static void hold_##kind(ds_sketch *handle, const uint64_t *exact) \
     { \
-        ds_frequent_items_status status; \
+        ds_status status; \
         uint64_t total = 0; \
         for (uint64_t item = 0; item < ITEMS; item++) { \
             ds_frequent_items_bounds bounds; \
@@ -96,7 +99,7 @@ static bool are_same(const struct image *a, const struct image *b)
             CHECK(bounds.lower_bound <= exact[item] && exact[item] <= bounds.upper_bound); \
             total += exact[item]; \
         } \
-        CHECK(ds_frequent_items_##kind##_get_status(handle, &status) == DS_OK && status.total_weight == total); \
+        CHECK(ds_get_status(handle, &status) == DS_OK && status.total_weight == total); \
     } \
     /* Runs under the same key are the same: created, read, cloned and merged. Under another key the bounds hold too. */ \
     static void given_keys_##kind(void) \
@@ -107,41 +110,41 @@ static bool are_same(const struct image *a, const struct image *b)
             ds_sketch a = DS_NONE, b = DS_NONE, clone = DS_NONE, other = DS_NONE; \
             memset(exact, 0, sizeof exact); \
             memset(others, 0, sizeof others); \
-            CHECK(ds_frequent_items_##kind##_new_with_key(&a, SMALL, 24, K0 + round, K1) == DS_OK); \
-            CHECK(ds_frequent_items_##kind##_new_with_key(&b, SMALL, 24, K0 + round, K1) == DS_OK); \
-            CHECK(ds_frequent_items_##kind##_new_with_key(&other, SMALL, 24, K0, K1 + 1 + round) == DS_OK); \
+            CHECK(ds_frequent_items_new(&a, number, SMALL, 24, &(ds_key){K0 + round, K1}) == DS_OK); \
+            CHECK(ds_frequent_items_new(&b, number, SMALL, 24, &(ds_key){K0 + round, K1}) == DS_OK); \
+            CHECK(ds_frequent_items_new(&other, number, SMALL, 24, &(ds_key){K0, K1 + 1 + round}) == DS_OK); \
             fill_##kind(&a, round, 200, exact); \
             fill_##kind(&b, round, 200, unused); \
             fill_##kind(&other, round, 200, others); \
-            same_##kind(&a, &b); \
+            same(&a, &b); \
             hold_##kind(&a, exact); \
             hold_##kind(&other, others); \
             CHECK(ds_clone(&clone, &a) == DS_OK); \
-            same_##kind(&a, &clone); \
+            same(&a, &clone); \
             fill_##kind(&a, round + 1, 200, exact); \
             fill_##kind(&clone, round + 1, 200, unused); \
-            same_##kind(&a, &clone); \
+            same(&a, &clone); \
             /* a merge keeps its own key, which is that of the clone */ \
-            CHECK(ds_frequent_items_##kind##_merge(&a, &other) == DS_OK); \
-            CHECK(ds_frequent_items_##kind##_merge_all(&clone, &other, 1) == DS_OK); \
-            same_##kind(&a, &clone); \
+            CHECK(ds_merge(&a, &other) == DS_OK); \
+            CHECK(ds_merge_all(&clone, &other, 1) == DS_OK); \
+            same(&a, &clone); \
             for (uint64_t item = 0; item < ITEMS; item++) exact[item] += others[item]; \
             fill_##kind(&a, round + 2, 100, exact); \
             fill_##kind(&clone, round + 2, 100, unused); \
-            same_##kind(&a, &clone); \
+            same(&a, &clone); \
             hold_##kind(&a, exact); \
             /* an image has no key, and is read under any */ \
-            write_##kind(&a, &image); \
-            CHECK(ds_frequent_items_##kind##_deserialize_with_key(&b, image.bytes, image.length, 1 << 20, 7, round) == DS_OK); \
-            CHECK(ds_frequent_items_##kind##_deserialize_with_key(&clone, image.bytes, image.length, 1 << 20, 7, round) == DS_OK); \
-            CHECK(ds_frequent_items_##kind##_deserialize(&other, image.bytes, image.length, 1 << 20) == DS_OK); \
-            same_##kind(&b, &clone); \
+            write_image(&a, &image); \
+            CHECK(ds_deserialize(&b, number, image.bytes, image.length, WITHIN_KEY(1 << 20, 7, round)) == DS_OK); \
+            CHECK(ds_deserialize(&clone, number, image.bytes, image.length, WITHIN_KEY(1 << 20, 7, round)) == DS_OK); \
+            CHECK(ds_deserialize(&other, number, image.bytes, image.length, WITHIN(1 << 20)) == DS_OK); \
+            same(&b, &clone); \
             hold_##kind(&b, exact); \
             hold_##kind(&other, exact); \
             fill_##kind(&b, round + 3, 100, exact); \
             fill_##kind(&clone, round + 3, 100, unused); \
             fill_##kind(&other, round + 3, 100, unused); \
-            same_##kind(&b, &clone); \
+            same(&b, &clone); \
             hold_##kind(&b, exact); \
             hold_##kind(&other, exact); \
             ds_free(&a); \
@@ -156,17 +159,17 @@ static bool are_same(const struct image *a, const struct image *b)
     { \
         static struct image images[6]; \
         ds_sketch sketches[6] = {DS_NONE}; \
-        CHECK(ds_frequent_items_##kind##_new_with_key(&sketches[0], LARGE, 768, K0, K1) == DS_OK); \
-        CHECK(ds_frequent_items_##kind##_new_with_key(&sketches[1], LARGE, 768, K0 + 1, K1) == DS_OK); \
-        CHECK(ds_frequent_items_##kind##_new_with_key(&sketches[2], LARGE, 768, K0, K1 + 1) == DS_OK); \
-        CHECK(ds_frequent_items_##kind##_new(&sketches[3], LARGE, 768) == DS_OK); \
-        CHECK(ds_frequent_items_##kind##_new(&sketches[4], LARGE, 768) == DS_OK); \
+        CHECK(ds_frequent_items_new(&sketches[0], number, LARGE, 768, &(ds_key){K0, K1}) == DS_OK); \
+        CHECK(ds_frequent_items_new(&sketches[1], number, LARGE, 768, &(ds_key){K0 + 1, K1}) == DS_OK); \
+        CHECK(ds_frequent_items_new(&sketches[2], number, LARGE, 768, &(ds_key){K0, K1 + 1}) == DS_OK); \
+        CHECK(ds_frequent_items_new(&sketches[3], number, LARGE, 768, NULL) == DS_OK); \
+        CHECK(ds_frequent_items_new(&sketches[4], number, LARGE, 768, NULL) == DS_OK); \
         for (int i = 0; i < 5; i++) { \
             for (uint64_t item = 0; item < ITEMS; item++) CHECK(add_##kind(&sketches[i], item, item + 1) == DS_OK); \
-            write_##kind(&sketches[i], &images[i]); \
+            write_image(&sketches[i], &images[i]); \
         } \
-        CHECK(ds_frequent_items_##kind##_deserialize(&sketches[5], images[0].bytes, images[0].length, 1 << 20) == DS_OK); \
-        write_##kind(&sketches[5], &images[5]); \
+        CHECK(ds_deserialize(&sketches[5], number, images[0].bytes, images[0].length, WITHIN(1 << 20)) == DS_OK); \
+        write_image(&sketches[5], &images[5]); \
         for (int i = 0; i < 6; i++) { \
             for (int j = 0; j < i; j++) CHECK(images[i].length == images[j].length && !are_same(&images[i], &images[j])); \
             for (uint64_t item = 0; item < ITEMS; item++) { \
@@ -184,7 +187,7 @@ static bool are_same(const struct image *a, const struct image *b)
         for (uint64_t round = 0; round < ROUNDS; round++) { \
             ds_sketch sketch = DS_NONE; \
             memset(exact, 0, sizeof exact); \
-            CHECK(ds_frequent_items_##kind##_new(&sketch, SMALL, 24) == DS_OK); \
+            CHECK(ds_frequent_items_new(&sketch, number, SMALL, 24, NULL) == DS_OK); \
             fill_##kind(&sketch, round, 400, exact); \
             hold_##kind(&sketch, exact); \
             ds_free(&sketch); \
@@ -195,21 +198,20 @@ static bool are_same(const struct image *a, const struct image *b)
     { \
         ds_sketch sketch = DS_NONE; \
         struct image image; \
-        CHECK(ds_frequent_items_##kind##_new_with_key(&sketch, 9, 2, K0, K1) == DS_MAP_SIZE_NOT_POWER_OF_TWO); \
-        CHECK(ds_frequent_items_##kind##_new_with_key(&sketch, 8, 5, K0, K1) == DS_BAD_SAMPLE_SIZE); \
-        CHECK(ds_frequent_items_##kind##_deserialize_with_key(&sketch, NULL, 1, 8, K0, K1) == DS_BAD_ARGUMENT); \
-        CHECK(ds_frequent_items_##kind##_deserialize_with_key(&sketch, NULL, 0, 8, K0, K1) == DS_INSUFFICIENT_DATA); \
-        CHECK(!sketch.sketch && ds_frequent_items_##kind##_new_with_key(&sketch, 64, 48, 0, 0) == DS_OK); \
-        write_##kind(&sketch, &image); \
-        CHECK(ds_frequent_items_##kind##_deserialize_with_key(&sketch, image.bytes, image.length, 8, K0, K1) == \
-              DS_TABLE_TOO_LARGE); \
-        CHECK(ds_frequent_items_##kind##_deserialize_with_key(&sketch, image.bytes, image.length, 1 << 20, 0, 0) == DS_OK); \
+        CHECK(ds_frequent_items_new(&sketch, number, 9, 2, &(ds_key){K0, K1}) == DS_MAP_SIZE_NOT_POWER_OF_TWO); \
+        CHECK(ds_frequent_items_new(&sketch, number, 8, 5, &(ds_key){K0, K1}) == DS_BAD_SAMPLE_SIZE); \
+        CHECK(ds_deserialize(&sketch, number, NULL, 1, WITHIN_KEY(8, K0, K1)) == DS_BAD_ARGUMENT); \
+        CHECK(ds_deserialize(&sketch, number, NULL, 0, WITHIN_KEY(8, K0, K1)) == DS_INSUFFICIENT_DATA); \
+        CHECK(!sketch.sketch && ds_frequent_items_new(&sketch, number, 64, 48, &(ds_key){0, 0}) == DS_OK); \
+        write_image(&sketch, &image); \
+        CHECK(ds_deserialize(&sketch, number, image.bytes, image.length, WITHIN_KEY(8, K0, K1)) == DS_TABLE_TOO_LARGE); \
+        CHECK(ds_deserialize(&sketch, number, image.bytes, image.length, WITHIN_KEY(1 << 20, 0, 0)) == DS_OK); \
         ds_free(&sketch); \
     }
 
-KEYS(u64)
-KEYS(i64)
-KEYS(string)
+KEYS(u64, DS_FREQUENT_ITEMS_U64)
+KEYS(i64, DS_FREQUENT_ITEMS_I64)
+KEYS(string, DS_FREQUENT_ITEMS_STRING)
 
 /* Creates sketches under drawn keys. Returns null if each counts its items. */
 static void *create(void *argument)
@@ -218,7 +220,7 @@ static void *create(void *argument)
     for (uint64_t i = 0; i < CREATED; i++) {
         ds_sketch sketch = DS_NONE;
         ds_frequent_items_bounds bounds = {0, 0, 0};
-        bool done = ds_frequent_items_u64_new(&sketch, 8, 6) == DS_OK;
+        bool done = ds_frequent_items_new(&sketch, DS_FREQUENT_ITEMS_U64, 8, 6, NULL) == DS_OK;
         for (uint64_t item = 0; item < 5; item++) done &= ds_frequent_items_u64_update(&sketch, item, item + i) == DS_OK;
         done &= ds_frequent_items_u64_bounds(&sketch, 4, &bounds) == DS_OK && bounds.estimate == 4 + i;
         ds_free(&sketch);

@@ -16,9 +16,10 @@ struct sketches {
 static void create(struct sketches *it)
 {
     memset(it, 0, sizeof *it);
-    CHECK(ds_bloom_new(&it->filter, 959, 7, 9001) == DS_OK && ds_count_min_u64_new(&it->count, 4, 128, 9001) == DS_OK);
-    CHECK(ds_count_min_i64_new(&it->signs, 4, 128, 9001) == DS_OK);
-    CHECK(ds_frequent_items_string_new_with_key(&it->frequent, 64, 48, 7, 8) == DS_OK);
+    CHECK(ds_bloom_new(&it->filter, 959, 7, 9001) == DS_OK &&
+          ds_count_min_new(&it->count, DS_COUNT_MIN_U64, 4, 128, 9001) == DS_OK);
+    CHECK(ds_count_min_new(&it->signs, DS_COUNT_MIN_I64, 4, 128, 9001) == DS_OK);
+    CHECK(ds_frequent_items_new(&it->frequent, DS_FREQUENT_ITEMS_STRING, 64, 48, &(ds_key){7, 8}) == DS_OK);
 }
 
 static void clear(struct sketches *it)
@@ -34,10 +35,10 @@ static void same_images(struct sketches *a, struct sketches *b)
 {
     static uint8_t one[1 << 13], two[1 << 13];
     size_t length = 0, again = 1;
-    CHECK(ds_bloom_equal(&a->filter, &b->filter) == DS_YES && ds_count_min_u64_equal(&a->count, &b->count) == DS_YES);
-    CHECK(ds_count_min_i64_equal(&a->signs, &b->signs) == DS_YES);
-    CHECK(ds_frequent_items_string_serialize(&a->frequent, one, sizeof one, &length) == DS_OK);
-    CHECK(ds_frequent_items_string_serialize(&b->frequent, two, sizeof two, &again) == DS_OK && length == again);
+    CHECK(ds_equal(&a->filter, &b->filter) == DS_YES && ds_equal(&a->count, &b->count) == DS_YES);
+    CHECK(ds_equal(&a->signs, &b->signs) == DS_YES);
+    CHECK(ds_serialize(&a->frequent, one, sizeof one, &length) == DS_OK);
+    CHECK(ds_serialize(&b->frequent, two, sizeof two, &again) == DS_OK && length == again);
     CHECK(length == again && memcmp(one, two, length) == 0);
 }
 
@@ -161,19 +162,19 @@ static void overflow(void)
 {
     static const uint8_t text[] = "a b c d";
     struct sketches it;
-    ds_count_min_status status;
-    ds_frequent_items_status numbers;
+    ds_status status;
+    ds_status numbers;
     ds_frequent_items_bounds bounds;
     create(&it);
     CHECK(ds_count_min_u64_update_u64(&it.count, 7, UINT64_MAX - 2) == DS_OK);
     CHECK(ds_count_min_u64_update_words(&it.count, text, 7) == DS_WEIGHT_OVERFLOW);
-    CHECK(ds_count_min_u64_get_status(&it.count, &status) == DS_OK && status.total_weight == UINT64_MAX);
+    CHECK(ds_get_status(&it.count, &status) == DS_OK && status.total_weight == UINT64_MAX);
     CHECK(ds_count_min_i64_update_u64(&it.signs, 7, INT64_MAX - 3) == DS_OK);
     CHECK(ds_count_min_i64_update_lines(&it.signs, (const uint8_t *)"\n\n\n\n", 4) == DS_WEIGHT_OVERFLOW);
-    CHECK(ds_count_min_i64_get_status(&it.signs, &status) == DS_OK && status.total_weight == INT64_MAX);
+    CHECK(ds_get_status(&it.signs, &status) == DS_OK && status.total_weight == INT64_MAX);
     CHECK(ds_frequent_items_string_update(&it.frequent, text, 1, UINT64_MAX - 2) == DS_OK);
     CHECK(ds_frequent_items_string_update_words(&it.frequent, text, 7) == DS_WEIGHT_OVERFLOW);
-    CHECK(ds_frequent_items_string_get_status(&it.frequent, &numbers) == DS_OK && numbers.total_weight == UINT64_MAX);
+    CHECK(ds_get_status(&it.frequent, &numbers) == DS_OK && numbers.total_weight == UINT64_MAX);
     CHECK(ds_frequent_items_string_bounds(&it.frequent, text + 2, 1, &bounds) == DS_OK && bounds.estimate == 1);
     CHECK(ds_frequent_items_string_bounds(&it.frequent, text + 4, 1, &bounds) == DS_OK && bounds.estimate == 0);
     clear(&it);
