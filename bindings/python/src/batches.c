@@ -179,9 +179,10 @@ static int32_t take_items(Batch *batch, const Weights *weights, const Updates *u
 {
     Chunk chunk;
     const Items *items = batch->items;
-    bool by_one = updates->room == NULL || (!weights->each && weights->same == 1);
-    int32_t answer = updates->room != NULL ? weights_fit(items, weights, updates->room(batch->self)) : DS_OK;
-    chunk_open(&chunk, items->count, by_one && updates->longest != NULL ? updates->longest(batch->self) : CHUNK);
+    bool by_one = !weights->each && weights->same == 1;
+    uint64_t most = weights->with_sign ? INT64_MAX : UINT64_MAX;
+    int32_t answer = weights_fit(items, weights, most - sketch_total(batch->self));
+    chunk_open(&chunk, items->count, by_one && updates->longest != NULL ? updates->longest(batch->handle) : CHUNK);
     for (size_t i = 0; i < items->count && answer >= 0; i += chunk.rows) {
         if (i > 0 && !batch_goes_on(batch)) answer = STOPPED;
         else answer = chunk_read(&chunk, items, by_one ? NULL : weights, i);
@@ -269,7 +270,7 @@ static int32_t ask_items(Batch *batch, const Question *question, char *answers)
     Chunk chunk;
     const Items *items = batch->items;
     int32_t answer = DS_OK;
-    chunk_open(&chunk, items->count, question->longest != NULL ? question->longest(batch->self) : CHUNK);
+    chunk_open(&chunk, items->count, question->longest != NULL ? question->longest(batch->handle) : CHUNK);
     for (size_t i = 0; i < items->count && answer >= 0; i += chunk.rows) {
         answer = i > 0 && !batch_goes_on(batch) ? STOPPED : chunk_read(&chunk, items, NULL, i);
         if (answer >= 0 && chunk.count < chunk.rows) answer = CHANGED;

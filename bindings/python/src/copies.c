@@ -1,18 +1,6 @@
 /* Copies by `copy` and `pickle`, with the attributes that an object of a subclass has besides its sketch. */
 #include "sketches.h"
 
-PyObject *sketch_like(const Sketch *self, ds_sketch *made)
-{
-    Sketch *like = sketch_of(Py_TYPE(self), made);
-    if (like == NULL) return NULL;
-    like->seed = self->seed;
-    like->buckets = self->buckets;
-    like->hashes = self->hashes;
-    like->with_sign = self->with_sign;
-    like->with_texts = self->with_texts;
-    return (PyObject *)like;
-}
-
 static PyObject *copy_of(Sketch *self)
 {
     Use use = {.sketch = self};
@@ -23,7 +11,7 @@ static PyObject *copy_of(Sketch *self)
     answer = ds_clone(&made, &use.share);
     Py_END_ALLOW_THREADS
     use_end(&use);
-    return answer < 0 ? refuse(answer) : sketch_like(self, &made);
+    return answer < 0 ? refuse(answer) : sketch_of(Py_TYPE(self), self->kind, &made);
 }
 
 /* Returns an attribute, or NULL. No error is set if there is no attribute of this name. */
@@ -121,21 +109,37 @@ PyObject *sketch_deepcopy(PyObject *self, PyObject *memo)
     return with_state(copy, deep);
 }
 
-PyObject *sketch_reduce(PyObject *self, PyObject *arguments)
+/* Returns the arguments of `_unpickle`: the image, whose reference this takes, and what it does not say. */
+static PyObject *pickled(const ds_status *status, PyObject *image)
 {
-    if (arguments == NULL) return NULL;
-    PyObject *reader = PyObject_GetAttrString((PyObject *)Py_TYPE(self), "_unpickle");
+    unsigned long long seed = status->seed, sample = status->sample_size;
+    switch (status->kind) {
+    case DS_BLOOM: return Py_BuildValue("(N)", image);
+    case DS_COUNT_MIN_U64: return Py_BuildValue("(NKO)", image, seed, Py_False);
+    case DS_COUNT_MIN_I64: return Py_BuildValue("(NKO)", image, seed, Py_True);
+    case DS_FREQUENT_ITEMS_STRING: return Py_BuildValue("(NOK)", image, (PyObject *)&PyUnicode_Type, sample);
+    default: return Py_BuildValue("(NsK)", image, item_name(status->kind), sample);
+    }
+}
+
+PyObject *sketch_reduce(PyObject *self, PyObject *Py_UNUSED(unused))
+{
+    ds_status status;
+    PyObject *image = sketch_status((Sketch *)self, &status) ? sketch_serialize(self, NULL) : NULL;
+    PyObject *arguments = image != NULL ? pickled(&status, image) : NULL;
+    PyObject *reader = arguments != NULL ? PyObject_GetAttrString((PyObject *)Py_TYPE(self), "_unpickle") : NULL;
     PyObject *state = reader != NULL ? state_of(self) : NULL;
     PyObject *result = NULL;
     if (state != NULL) result = state == Py_None ? PyTuple_Pack(2, reader, arguments) : PyTuple_Pack(3, reader, arguments, state);
     Py_XDECREF(state);
     Py_XDECREF(reader);
-    Py_DECREF(arguments);
+    Py_XDECREF(arguments);
     return result;
 }
 
-PyObject *sketch_unpickle(PyObject *type, PyObject *args, const char *const *names, image_reader read)
+PyObject *sketch_unpickle(PyObject *type, PyObject *args)
 {
+    const char *const *names = class_of((PyTypeObject *)type)->pickled;
     PyObject *limit = PyObject_GetAttrString(type, "unpickle_max_bytes");
     PyObject *keywords = limit != NULL ? Py_BuildValue("{sO}", "max_bytes", limit) : NULL;
     PyObject *none = keywords != NULL ? PyTuple_New(0) : NULL;
@@ -148,7 +152,7 @@ PyObject *sketch_unpickle(PyObject *type, PyObject *args, const char *const *nam
             break;
         }
     }
-    if (named) result = read(type, none, keywords);
+    if (named) result = sketch_deserialize(type, none, keywords);
     Py_XDECREF(none);
     Py_XDECREF(keywords);
     Py_XDECREF(limit);

@@ -6,16 +6,18 @@
 #define LONG_CHUNK ((size_t)1 << 19)
 #define LONG_WORK ((size_t)1 << 23)
 
-static size_t longest(const Sketch *self)
+static size_t longest(ds_sketch *handle)
 {
-    return self->hashes > 16 ? LONG_WORK / self->hashes : LONG_CHUNK;
+    ds_status status = {0};
+    ds_get_status(handle, &status);
+    return status.num_hashes > 16 ? LONG_WORK / status.num_hashes : LONG_CHUNK;
 }
 
 static int32_t update_one(Sketch *self, const Item *item, uint64_t weight)
 {
     const uint8_t *text = (const uint8_t *)item->text;
     ds_sketch *handle = &self->handle;
-    if (self->with_sign)
+    if (has_sign(self))
         return text != NULL     ? ds_count_min_i64_update_string(handle, text, item->value, (int64_t)weight)
                : item->negative ? ds_count_min_i64_update_i64(handle, (int64_t)item->value, (int64_t)weight)
                                 : ds_count_min_i64_update_u64(handle, item->value, (int64_t)weight);
@@ -28,7 +30,7 @@ static int32_t estimate_one(Sketch *self, const Item *item, uint64_t *number)
 {
     const uint8_t *text = (const uint8_t *)item->text;
     ds_sketch *handle = &self->handle;
-    if (self->with_sign)
+    if (has_sign(self))
         return text != NULL     ? ds_count_min_i64_estimate_string(handle, text, item->value, (int64_t *)number)
                : item->negative ? ds_count_min_i64_estimate_i64(handle, (int64_t)item->value, (int64_t *)number)
                                 : ds_count_min_i64_estimate_u64(handle, item->value, (int64_t *)number);
@@ -41,7 +43,7 @@ static int32_t upper_bound_one(Sketch *self, const Item *item, uint64_t *number)
 {
     const uint8_t *text = (const uint8_t *)item->text;
     ds_sketch *handle = &self->handle;
-    if (self->with_sign)
+    if (has_sign(self))
         return text != NULL     ? ds_count_min_i64_upper_bound_string(handle, text, item->value, (int64_t *)number)
                : item->negative ? ds_count_min_i64_upper_bound_i64(handle, (int64_t)item->value, (int64_t *)number)
                                 : ds_count_min_i64_upper_bound_u64(handle, item->value, (int64_t *)number);
@@ -50,20 +52,11 @@ static int32_t upper_bound_one(Sketch *self, const Item *item, uint64_t *number)
                             : ds_count_min_u64_upper_bound_u64(handle, item->value, number);
 }
 
-/* Returns the sum of weights that does not overflow. */
-static uint64_t room(Sketch *self)
-{
-    ds_count_min_status status = {0};
-    if (self->with_sign) ds_count_min_i64_get_status(&self->handle, &status);
-    else ds_count_min_u64_get_status(&self->handle, &status);
-    return (self->with_sign ? INT64_MAX : UINT64_MAX) - status.total_weight;
-}
-
 static int32_t update_strings(Batch *batch, const ds_string *strings, const uint64_t *weights, size_t count)
 {
     ds_sketch *handle = batch->handle;
     const int64_t *with_sign = (const int64_t *)weights;
-    if (batch->self->with_sign)
+    if (has_sign(batch->self))
         return weights == NULL ? (ds_count_min_i64_update_all_string_pairs)(handle, strings, count)
                                : (ds_count_min_i64_update_all_weighted_string_pairs)(handle, strings, count, with_sign, count);
     return weights == NULL ? (ds_count_min_u64_update_all_string_pairs)(handle, strings, count)
@@ -75,14 +68,14 @@ static int32_t update_numbers(Batch *batch, const uint64_t *numbers, const uint6
 {
     ds_sketch *handle = batch->handle;
     const int64_t *with_sign = (const int64_t *)weights;
-    if (batch->self->with_sign)
+    if (has_sign(batch->self))
         return weights == NULL ? ds_count_min_i64_update_all_u64(handle, numbers, count)
                                : ds_count_min_i64_update_all_weighted_u64(handle, numbers, count, with_sign, count);
     return weights == NULL ? ds_count_min_u64_update_all_u64(handle, numbers, count)
                            : ds_count_min_u64_update_all_weighted_u64(handle, numbers, count, weights, count);
 }
 
-static const Updates updates = {.room = room, .longest = longest, .strings = update_strings, .numbers = update_numbers};
+static const Updates updates = {.longest = longest, .strings = update_strings, .numbers = update_numbers};
 
 const char count_update_doc[] = PyDoc_STR(
 "update($self, items, /, weight=1)\n--\n\n"
@@ -115,10 +108,10 @@ PyObject *count_update(PyObject *object, PyObject *const *args, Py_ssize_t count
     uint64_t weight = 1;
     if (!update_arguments(args, count, names, &given)) return NULL;
     if (!is_single(args[0])) {
-        bool opened = update_open(args[0], given, self->with_sign, &items, &weights);
+        bool opened = update_open(args[0], given, has_sign(self), &items, &weights);
         return opened ? update_all(self, &items, &weights, &updates) : NULL;
     }
-    if ((given != NULL && !number_of_kind(given, "weight", self->with_sign, &weight)) || !item_of(args[0], &item) ||
+    if ((given != NULL && !number_of_kind(given, "weight", has_sign(self), &weight)) || !item_of(args[0], &item) ||
         !sketch_ready_to_change(self))
         return NULL;
     int32_t answer = update_one(self, &item, weight);
@@ -128,7 +121,7 @@ PyObject *count_update(PyObject *object, PyObject *const *args, Py_ssize_t count
 
 static PyObject *number_for(const Sketch *self, uint64_t number)
 {
-    return self->with_sign ? PyLong_FromLongLong((int64_t)number) : PyLong_FromUnsignedLongLong(number);
+    return has_sign(self) ? PyLong_FromLongLong((int64_t)number) : PyLong_FromUnsignedLongLong(number);
 }
 
 typedef int32_t (*question)(Sketch *, const Item *, uint64_t *);
@@ -152,15 +145,15 @@ PyObject *count_at(PyObject *object, PyObject *item)
 static int32_t estimate_strings(Batch *batch, const ds_string *strings, size_t count, void *answers)
 {
     ds_sketch *handle = batch->handle;
-    return batch->self->with_sign ? (ds_count_min_i64_estimate_all_string_pairs)(handle, strings, count, answers, count)
-                                  : (ds_count_min_u64_estimate_all_string_pairs)(handle, strings, count, answers, count);
+    return has_sign(batch->self) ? (ds_count_min_i64_estimate_all_string_pairs)(handle, strings, count, answers, count)
+                                 : (ds_count_min_u64_estimate_all_string_pairs)(handle, strings, count, answers, count);
 }
 
 static int32_t estimate_numbers(Batch *batch, const uint64_t *numbers, size_t count, void *answers)
 {
     ds_sketch *handle = batch->handle;
-    return batch->self->with_sign ? ds_count_min_i64_estimate_all_u64(handle, numbers, count, answers, count)
-                                  : ds_count_min_u64_estimate_all_u64(handle, numbers, count, answers, count);
+    return has_sign(batch->self) ? ds_count_min_i64_estimate_all_u64(handle, numbers, count, answers, count)
+                                 : ds_count_min_u64_estimate_all_u64(handle, numbers, count, answers, count);
 }
 
 const char count_estimate_doc[] = PyDoc_STR(
@@ -181,24 +174,16 @@ static PyObject *number_at(const Sketch *self, const void *answers, size_t index
 
 PyObject *count_estimate(PyObject *object, PyObject *given)
 {
-    static const Question natural = {.call = "estimate",
-                                     .size = sizeof(uint64_t),
-                                     .kind = "u8",
-                                     .width = 1,
-                                     .object = number_at,
-                                     .longest = longest,
-                                     .strings = estimate_strings,
-                                     .numbers = estimate_numbers};
-    static const Question with_sign = {.call = "estimate",
-                                       .size = sizeof(int64_t),
-                                       .kind = "i8",
-                                       .width = 1,
-                                       .object = number_at,
-                                       .longest = longest,
-                                       .strings = estimate_strings,
-                                       .numbers = estimate_numbers};
     Sketch *self = (Sketch *)object;
-    return is_single(given) ? count_at(object, given) : ask_all(self, given, self->with_sign ? &with_sign : &natural);
+    const Question question = {.call = "estimate",
+                               .size = sizeof(uint64_t),
+                               .kind = has_sign(self) ? "i8" : "u8",
+                               .width = 1,
+                               .object = number_at,
+                               .longest = longest,
+                               .strings = estimate_strings,
+                               .numbers = estimate_numbers};
+    return is_single(given) ? count_at(object, given) : ask_all(self, given, &question);
 }
 
 const char count_upper_bound_doc[] =

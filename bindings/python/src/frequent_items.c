@@ -2,17 +2,17 @@
 #include "sketches.h"
 
 #define BY_SIGN(self, call, handle, value, ...) \
-    ((self)->with_sign ? ds_frequent_items_i64_##call((handle), (int64_t)(value), __VA_ARGS__) \
-                       : ds_frequent_items_u64_##call((handle), (value), __VA_ARGS__))
+    (has_sign(self) ? ds_frequent_items_i64_##call((handle), (int64_t)(value), __VA_ARGS__) \
+                    : ds_frequent_items_u64_##call((handle), (value), __VA_ARGS__))
 
 /* Returns whether the sketch counts this item. Sets an error if not. `negative` says whether a number is below 0. */
 static bool counts(const Sketch *self, bool text, uint64_t value, bool negative)
 {
-    if (text != self->with_texts)
+    if (text != has_texts(self))
         PyErr_SetString(PyExc_TypeError, text ? "this sketch counts int, not str" : "this sketch counts str, not int");
     else if (text) return true;
-    else if (self->with_sign && !negative && value > INT64_MAX) PyErr_SetString(PyExc_OverflowError, "the item is above 2**63 - 1");
-    else if (!self->with_sign && negative) PyErr_SetString(PyExc_OverflowError, "the item is below 0");
+    else if (has_sign(self) && !negative && value > INT64_MAX) PyErr_SetString(PyExc_OverflowError, "the item is above 2**63 - 1");
+    else if (!has_sign(self) && negative) PyErr_SetString(PyExc_OverflowError, "the item is below 0");
     else return true;
     return false;
 }
@@ -20,7 +20,7 @@ static bool counts(const Sketch *self, bool text, uint64_t value, bool negative)
 /* Returns whether the items are numbers of runs that have the other signedness than the sketch's. */
 static bool other_sign(const Sketch *self, const Items *items)
 {
-    return items->items == NULL && !items->of_entries && items->with_sign != self->with_sign;
+    return items->items == NULL && !items->of_entries && items->with_sign != has_sign(self);
 }
 
 /* Returns whether all values of the dictionary are counted, which need not all be used. Sets no error. */
@@ -29,8 +29,8 @@ static bool counts_entries(const Sketch *self, const Run *run)
     bool good = true;
     for (size_t i = 0; good && i < run->num_entries; i++) {
         const Item *item = &run->entries[i];
-        bool in_range = self->with_sign ? item->negative || item->value <= INT64_MAX : !item->negative;
-        good = item->missing || (self->with_texts ? item->text != NULL : item->text == NULL && in_range);
+        bool in_range = has_sign(self) ? item->negative || item->value <= INT64_MAX : !item->negative;
+        good = item->missing || (has_texts(self) ? item->text != NULL : item->text == NULL && in_range);
     }
     return good;
 }
@@ -38,7 +38,7 @@ static bool counts_entries(const Sketch *self, const Run *run)
 /* Checks the items of a list, or of a column with a dictionary. */
 static bool counts_each(const Sketch *self, const Items *items)
 {
-    bool all_texts = self->with_texts && !items->with_numbers;
+    bool all_texts = has_texts(self) && !items->with_numbers;
     for (size_t i = 0; items->items != NULL && !all_texts && i < items->count; i++) {
         const Item *item = &items->items[i];
         if (!item->missing && !counts(self, item->text != NULL, item->value, item->negative)) return false;
@@ -72,9 +72,8 @@ static bool counts_numbers(const Sketch *self, const Items *items)
 static bool counts_all(const Sketch *self, const Items *items)
 {
     if (items->items != NULL || items->of_entries) return counts_each(self, items);
-    if (items->with_texts != self->with_texts)
-        return items_gaps(items) == items->count || counts(self, items->with_texts, 0, false);
-    return self->with_texts || !other_sign(self, items) || counts_numbers(self, items);
+    if (items->with_texts != has_texts(self)) return items_gaps(items) == items->count || counts(self, items->with_texts, 0, false);
+    return has_texts(self) || !other_sign(self, items) || counts_numbers(self, items);
 }
 
 const char frequent_update_doc[] = PyDoc_STR(
@@ -106,25 +105,11 @@ static int32_t update_one(Sketch *self, const Item *item, uint64_t weight)
     return BY_SIGN(self, update, &self->handle, item->value, weight);
 }
 
-static uint64_t total_of(Sketch *self)
-{
-    ds_frequent_items_status numbers = {0};
-    if (self->with_texts) ds_frequent_items_string_get_status(&self->handle, &numbers);
-    else if (self->with_sign) ds_frequent_items_i64_get_status(&self->handle, &numbers);
-    else ds_frequent_items_u64_get_status(&self->handle, &numbers);
-    return numbers.total_weight;
-}
-
-static uint64_t room(Sketch *self)
-{
-    return UINT64_MAX - total_of(self);
-}
-
 /* Adds to `done` the number of items that a call counted before its error, by the weight that it added. The next item weighs more
  * than 0, since an update by 0 returns no error. */
 static int32_t note_counted(Batch *batch, int32_t answer, const uint64_t *weights, size_t count, uint64_t was)
 {
-    uint64_t added = answer < 0 ? total_of(batch->self) - was : 0;
+    uint64_t added = answer < 0 ? sketch_total(batch->self) - was : 0;
     for (size_t i = 0; answer < 0 && i < count && (weights == NULL ? 1 : weights[i]) <= added; i++) {
         added -= weights == NULL ? 1 : weights[i];
         batch->done++;
@@ -135,7 +120,7 @@ static int32_t note_counted(Batch *batch, int32_t answer, const uint64_t *weight
 static int32_t update_strings(Batch *batch, const ds_string *strings, const uint64_t *weights, size_t count)
 {
     ds_sketch *handle = batch->handle;
-    uint64_t was = total_of(batch->self);
+    uint64_t was = sketch_total(batch->self);
     int32_t answer = weights == NULL ? (ds_frequent_items_string_update_all_pairs)(handle, strings, count)
                                      : (ds_frequent_items_string_update_all_weighted_pairs)(handle, strings, count, weights, count);
     return note_counted(batch, answer, weights, count, was);
@@ -145,10 +130,10 @@ static int32_t update_numbers(Batch *batch, const uint64_t *numbers, const uint6
 {
     ds_sketch *handle = batch->handle;
     const int64_t *with_sign = (const int64_t *)numbers;
-    uint64_t was = total_of(batch->self);
+    uint64_t was = sketch_total(batch->self);
     int32_t answer;
     if (other_sign(batch->self, batch->items) && !below_top(numbers, count)) return CHANGED;
-    if (batch->self->with_sign)
+    if (has_sign(batch->self))
         answer = weights == NULL ? ds_frequent_items_i64_update_all(handle, with_sign, count)
                                  : ds_frequent_items_i64_update_all_weighted(handle, with_sign, count, weights, count);
     else
@@ -157,7 +142,7 @@ static int32_t update_numbers(Batch *batch, const uint64_t *numbers, const uint6
     return note_counted(batch, answer, weights, count, was);
 }
 
-static const Updates updates = {.check = counts_all, .room = room, .strings = update_strings, .numbers = update_numbers};
+static const Updates updates = {.check = counts_all, .strings = update_strings, .numbers = update_numbers};
 
 PyObject *frequent_update(PyObject *object, PyObject *const *args, Py_ssize_t count, PyObject *names)
 {
@@ -185,7 +170,7 @@ static bool bounds_of(PyObject *object, PyObject *given, ds_frequent_items_bound
     Sketch *self = (Sketch *)object;
     Item item;
     if (!item_of(given, &item) || !counts(self, item.text != NULL, item.value, item.negative) || !sketch_ready(self)) return false;
-    int32_t answer = self->with_texts
+    int32_t answer = has_texts(self)
                          ? ds_frequent_items_string_bounds(&self->handle, (const uint8_t *)item.text, item.value, bounds)
                          : BY_SIGN(self, bounds, &self->handle, item.value, bounds);
     return answer >= 0 || refuse(answer) != NULL;
@@ -200,8 +185,8 @@ static int32_t bounds_numbers(Batch *batch, const uint64_t *numbers, size_t coun
 {
     ds_sketch *handle = batch->handle;
     if (other_sign(batch->self, batch->items) && !below_top(numbers, count)) return CHANGED;
-    return batch->self->with_sign ? ds_frequent_items_i64_bounds_all(handle, (const int64_t *)numbers, count, answers, count)
-                                  : ds_frequent_items_u64_bounds_all(handle, numbers, count, answers, count);
+    return has_sign(batch->self) ? ds_frequent_items_i64_bounds_all(handle, (const int64_t *)numbers, count, answers, count)
+                                 : ds_frequent_items_u64_bounds_all(handle, numbers, count, answers, count);
 }
 
 static void keep_estimates(const ds_frequent_items_bounds *bounds, size_t count, uint64_t *estimates)

@@ -31,15 +31,16 @@ static size_t end_of_string(const uint8_t *bytes, size_t length, size_t cut)
     return at > cut ? at : cut;
 }
 
-bool image_take(Image *image, size_t limit)
+bool image_take(Image *image)
 {
+    size_t limit = image->options.max_bytes;
     image->bytes = image->view.buf;
     image->length = (size_t)image->view.len;
     if (is_constant(&image->view)) return true;
     image->is_cut = image->length > LONGEST_PREAMBLE && image->length - LONGEST_PREAMBLE > limit;
     if (image->is_cut) {
         size_t cut = limit + LONGEST_PREAMBLE;
-        image->length = image->has_strings ? end_of_string(image->bytes, image->length, cut) : cut;
+        image->length = image->kind == DS_FREQUENT_ITEMS_STRING ? end_of_string(image->bytes, image->length, cut) : cut;
     }
     image->copy = PyMem_RawMalloc(image->length);
     if (image->copy == NULL) {
@@ -67,15 +68,16 @@ static uint64_t checked_bytes(const uint8_t *header)
     }
 }
 
-/* A part that ends too early is of an image that does so too, or that exceeds the limit. Strings that end too early do so in the whole
- * image, since the string at the end of the part is there. */
-int32_t image_answer(const Image *image, int32_t answer)
+/* Returns the result for the whole image, from the library's result for the bytes of `image_take`. A part that ends too early is of
+ * an image that does so too, or that exceeds the limit. Strings that end too early do so in the whole image, since the string at the
+ * end of the part is there. */
+static int32_t image_answer(const Image *image, int32_t answer)
 {
     uint64_t checked;
     if (!image->is_cut || answer != DS_INSUFFICIENT_DATA) return answer;
     checked = checked_bytes(image->bytes);
-    if (checked > (uint64_t)image->view.len || (image->has_strings && checked <= image->length)) return answer;
-    return DS_TABLE_TOO_LARGE;
+    if (checked > (uint64_t)image->view.len) return answer;
+    return image->kind == DS_FREQUENT_ITEMS_STRING && checked <= image->length ? answer : DS_TABLE_TOO_LARGE;
 }
 
 void image_release(Image *image)
@@ -84,13 +86,42 @@ void image_release(Image *image)
     PyBuffer_Release(&image->view);
 }
 
-PyObject *with_used(PyObject *sketch, size_t used)
+/* Reads the image at the front of the argument's bytes. `used` is the number of bytes that it takes. */
+static PyObject *read_image(PyObject *type, PyObject *args, PyObject *keywords, bool prefix, size_t *used)
 {
+    Image image = {.options = {.max_bytes = DEFAULT_LIMIT, .seed = DS_DEFAULT_SEED}};
+    ds_sketch made = DS_NONE;
+    int32_t answer = DS_OK, sampled = DS_OK;
+    bool ready = class_of((PyTypeObject *)type)->arguments(args, keywords, prefix, &image) && image_take(&image);
+    if (ready) {
+        Py_BEGIN_ALLOW_THREADS
+        answer = ds_deserialize_prefix(&made, image.kind, image.bytes, image.length, &image.options, used);
+        if (answer >= 0 && image.has_sample_size) sampled = ds_frequent_items_set_sample_size(&made, image.sample_size);
+        if (sampled < 0) ds_free(&made);
+        Py_END_ALLOW_THREADS
+        answer = image_answer(&image, answer);
+    }
+    image_release(&image);
+    if (answer < 0) return refuse_image(answer);
+    if (sampled < 0) return refuse(sampled);
+    return ready ? sketch_of((PyTypeObject *)type, image.kind, &made) : NULL;
+}
+
+PyObject *sketch_deserialize(PyObject *type, PyObject *args, PyObject *keywords)
+{
+    size_t used = 0;
+    return read_image(type, args, keywords, false, &used);
+}
+
+PyObject *sketch_deserialize_prefix(PyObject *type, PyObject *args, PyObject *keywords)
+{
+    size_t used = 0;
+    PyObject *sketch = read_image(type, args, keywords, true, &used);
     return sketch != NULL ? Py_BuildValue("(Nn)", sketch, (Py_ssize_t)used) : NULL;
 }
 
 /* Writes an image of `length` bytes into a new object. */
-static int32_t write_image(Use *use, image_writer write, size_t length, PyObject **image)
+static int32_t write_image(Use *use, size_t length, PyObject **image)
 {
     size_t written;
     int32_t answer;
@@ -100,23 +131,23 @@ static int32_t write_image(Use *use, image_writer write, size_t length, PyObject
         return DS_NO_MEMORY;
     }
     Py_BEGIN_ALLOW_THREADS
-    answer = write(use_handle(use), (uint8_t *)PyBytes_AS_STRING(*image), length, &written);
+    answer = ds_serialize(use_handle(use), (uint8_t *)PyBytes_AS_STRING(*image), length, &written);
     Py_END_ALLOW_THREADS
     if (answer < 0) Py_CLEAR(*image);
     return answer;
 }
 
-PyObject *sketch_image(Sketch *self, image_measure measure, image_writer write)
+PyObject *sketch_serialize(PyObject *self, PyObject *Py_UNUSED(unused))
 {
-    Use use = {.sketch = self};
+    Use use = {.sketch = (Sketch *)self};
     PyObject *image = NULL;
     size_t length = 0;
     int32_t answer;
     if (!use_begin(&use)) return NULL;
     Py_BEGIN_ALLOW_THREADS
-    answer = measure(use_handle(&use), &length);
+    answer = ds_serialized_bytes(use_handle(&use), &length);
     Py_END_ALLOW_THREADS
-    if (answer >= 0) answer = write_image(&use, write, length, &image);
+    if (answer >= 0) answer = write_image(&use, length, &image);
     use_end(&use);
     return answer < 0 ? refuse(answer) : image;
 }

@@ -14,30 +14,32 @@ static bool open_bytes(PyObject *object, const char *what, const char *kinds, Im
         return false;
     }
     if (PyObject_GetBuffer(object, &image->view, PyBUF_ND | PyBUF_FORMAT) < 0) return false;
+    image->options.max_bytes = SIZE_MAX;
     if (image->view.itemsize != 1)
         PyErr_Format(PyExc_TypeError, "%s is %s, not a buffer of entries of %zd bytes", what, kinds, image->view.itemsize);
-    else if (image_take(image, SIZE_MAX)) return true;
+    else if (image_take(image)) return true;
     PyBuffer_Release(&image->view);
     return false;
 }
 
-bool key_of(PyObject *object, uint64_t words[2])
+bool key_of(PyObject *object, ds_key *key)
 {
     Image image = {0};
-    words[0] = words[1] = 0;
+    uint64_t words[2] = {0, 0};
     if (!open_bytes(object, "the key", "bytes", &image)) return false;
     bool fits = image.length == KEY_BYTES;
     for (size_t i = 0; fits && i < KEY_BYTES; i++) words[i / 8] |= (uint64_t)image.bytes[i] << 8 * (i % 8);
     if (!fits) PyErr_Format(PyExc_ValueError, "the key has %d bytes, not %zu", KEY_BYTES, image.length);
     image_release(&image);
+    *key = (ds_key){words[0], words[1]};
     return fits;
 }
 
-static PyObject *hash_of(const uint8_t *bytes, size_t length, const uint64_t words[2])
+static PyObject *hash_of(const uint8_t *bytes, size_t length, const ds_key *key)
 {
     uint64_t hash;
     PyThreadState *thread = length >= LONG_ITEM ? PyEval_SaveThread() : NULL;
-    hash = ds_keyed_hash(bytes, length, words[0], words[1]);
+    hash = ds_keyed_hash(bytes, length, key->k0, key->k1);
     if (thread != NULL) PyEval_RestoreThread(thread);
     return PyLong_FromUnsignedLongLong(hash);
 }
@@ -73,9 +75,9 @@ static bool are_strings(const Sketch *Py_UNUSED(self), const Items *items)
 
 static int32_t hash_strings(Batch *batch, const ds_string *strings, size_t count, void *answers)
 {
-    const uint64_t *words = batch->context;
+    const ds_key *key = batch->context;
     for (size_t i = 0; i < count; i++)
-        ((uint64_t *)answers)[i] = ds_keyed_hash(strings[i].bytes, strings[i].length, words[0], words[1]);
+        ((uint64_t *)answers)[i] = ds_keyed_hash(strings[i].bytes, strings[i].length, key->k0, key->k1);
     return DS_OK;
 }
 
@@ -110,28 +112,28 @@ PyDoc_STRVAR(keyed_hash_doc,
 
 static PyObject *keyed_hash(PyObject *Py_UNUSED(module), PyObject *const *args, Py_ssize_t count)
 {
-    uint64_t words[2];
+    ds_key key;
     const Question many = {.call = "keyed_hash",
                            .size = sizeof(uint64_t),
                            .kind = "u8",
                            .width = 1,
-                           .context = words,
+                           .context = &key,
                            .object = hash_at,
                            .check = are_strings,
                            .strings = hash_strings,
                            .numbers = hash_numbers};
     Image image = {0};
     if (count != 2) return PyErr_Format(PyExc_TypeError, "keyed_hash takes a key and items, not %zd arguments", count);
-    if (!key_of(args[0], words)) return NULL;
+    if (!key_of(args[0], &key)) return NULL;
     if (PyUnicode_Check(args[1])) {
         Py_ssize_t length;
         const char *text = PyUnicode_AsUTF8AndSize(args[1], &length);
-        return text != NULL ? hash_of((const uint8_t *)text, (size_t)length, words) : NULL;
+        return text != NULL ? hash_of((const uint8_t *)text, (size_t)length, &key) : NULL;
     }
     int of_many = is_many(args[1]);
     if (of_many != 0) return of_many > 0 ? ask_all(NULL, args[1], &many) : NULL;
     if (!open_bytes(args[1], "an item", "a str or bytes", &image)) return NULL;
-    PyObject *hash = hash_of(image.bytes, image.length, words);
+    PyObject *hash = hash_of(image.bytes, image.length, &key);
     image_release(&image);
     return hash;
 }

@@ -57,10 +57,10 @@ typedef struct {
 
 static int32_t rows_of(Use *use, const Wanted *wanted, Rows *rows, size_t room, size_t *count)
 {
-    return use->sketch->with_sign ? ds_frequent_items_i64_rows(&use->share, wanted->no_false_negatives, wanted->threshold,
-                                                               (int64_t *)rows->items, room, rows->bounds, room, count)
-                                  : ds_frequent_items_u64_rows(&use->share, wanted->no_false_negatives, wanted->threshold,
-                                                               rows->items, room, rows->bounds, room, count);
+    return has_sign(use->sketch) ? ds_frequent_items_i64_rows(&use->share, wanted->no_false_negatives, wanted->threshold,
+                                                              (int64_t *)rows->items, room, rows->bounds, room, count)
+                                 : ds_frequent_items_u64_rows(&use->share, wanted->no_false_negatives, wanted->threshold,
+                                                              rows->items, room, rows->bounds, room, count);
 }
 
 static PyObject *list_of(const Sketch *self, const Rows *rows, size_t count, const Wanted *wanted)
@@ -69,7 +69,7 @@ static PyObject *list_of(const Sketch *self, const Rows *rows, size_t count, con
     bool good = row_list_open(&list, wanted->columns);
     for (size_t i = 0; good && i < count && i < wanted->most; i++) {
         uint64_t item = rows->items[i];
-        good = row_list_append(&list, self->with_sign ? PyLong_FromLongLong((int64_t)item) : PyLong_FromUnsignedLongLong(item),
+        good = row_list_append(&list, has_sign(self) ? PyLong_FromLongLong((int64_t)item) : PyLong_FromUnsignedLongLong(item),
                                &rows->bounds[i]);
     }
     return row_list_close(&list, good);
@@ -78,13 +78,13 @@ static PyObject *list_of(const Sketch *self, const Rows *rows, size_t count, con
 /* Returns the rows of a sketch of numbers. */
 static PyObject *number_rows(Sketch *self, const Wanted *wanted)
 {
-    ds_frequent_items_status numbers;
+    ds_status status;
     Use use = {.sketch = self};
     Rows rows = {NULL, NULL};
     size_t room, count = 0;
     int32_t answer;
-    if (!frequent_status(self, &numbers)) return NULL;
-    room = (size_t)numbers.num_active_items;
+    if (!sketch_status(self, &status)) return NULL;
+    room = (size_t)status.num_active_items;
     do {
         PyMem_Free(rows.items);
         PyMem_Free(rows.bounds);
@@ -113,7 +113,7 @@ static PyObject *wanted_rows(PyObject *object, Wanted *wanted, const char *no_fa
     Sketch *self = (Sketch *)object;
     wanted->no_false_negatives = strcmp(no_false, "negatives") == 0;
     if (wanted->no_false_negatives || strcmp(no_false, "positives") == 0)
-        return self->with_texts ? texts_rows(self, wanted) : number_rows(self, wanted);
+        return has_texts(self) ? texts_rows(self, wanted) : number_rows(self, wanted);
     PyErr_SetString(PyExc_ValueError, "no_false is 'negatives' or 'positives'");
     return NULL;
 }

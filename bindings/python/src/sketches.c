@@ -5,16 +5,46 @@
 
 PyObject *sketch_error;
 
-Sketch *sketch_of(PyTypeObject *type, ds_sketch *made)
+static const Class classes[] = {
+    {.type = &filter_type,
+     .name = "BloomFilter",
+     .merge_all = "union_all",
+     .pickled = {"image", NULL},
+     .arguments = filter_arguments},
+    {.type = &count_type,
+     .name = "CountMinSketch",
+     .merge_all = "merge_all",
+     .differ = "one sketch has signed weights, and the other has not",
+     .pickled = {"image", "seed", "signed", NULL},
+     .arguments = count_arguments},
+    {.type = &frequent_type,
+     .name = "FrequentItemsSketch",
+     .merge_all = "merge_all",
+     .differ = "the sketches count items of different types",
+     .pickled = {"image", "item", "sample_size", NULL},
+     .arguments = frequent_arguments},
+};
+
+#define NUM_CLASSES (sizeof classes / sizeof *classes)
+
+const Class *class_of(PyTypeObject *type)
+{
+    for (size_t i = 0; i < NUM_CLASSES; i++)
+        if (PyType_IsSubtype(type, classes[i].type)) return &classes[i];
+    return NULL;
+}
+
+PyObject *sketch_of(PyTypeObject *type, int32_t kind, ds_sketch *made)
 {
     Sketch *self = (Sketch *)type->tp_alloc(type, 0);
     if (self == NULL) {
         ds_free(made);
         return NULL;
     }
+    self->kind = kind;
     self->handle = *made;
     *made = (ds_sketch)DS_NONE;
-    return self;
+    return (PyObject *)self;
 }
 
 void sketch_dealloc(PyObject *self)
@@ -250,84 +280,63 @@ PyObject *sketch_change(Sketch *self, int32_t (*change)(ds_sketch *))
     return none_or_refuse(answer);
 }
 
-/* The uses of two sketches, which may be one, in the order of addresses. */
-typedef struct {
-    Use uses[2];
-    size_t count;
-    Use *first, *second;
-} Pair;
-
-/* Begins to use two sketches. Only the first may be changed. */
-static bool pair_begin(Pair *pair, Sketch *self, Sketch *other, bool changes)
+PyObject *sketch_reset(PyObject *self, PyObject *Py_UNUSED(unused))
 {
-    size_t at = (uintptr_t)self > (uintptr_t)other;
-    *pair = (Pair){.count = self == other ? 1 : 2};
-    pair->first = &pair->uses[at];
-    pair->second = self == other ? pair->first : &pair->uses[1 - at];
-    pair->second->sketch = other;
-    *pair->first = (Use){.sketch = self, .changes = changes};
-    return uses_begin(pair->uses, pair->count);
+    return sketch_change((Sketch *)self, ds_reset);
 }
 
-static void pair_end(Pair *pair)
+bool sketch_status(Sketch *self, ds_status *status)
 {
-    uses_end(pair->uses, pair->count);
+    if (!sketch_ready(self)) return false;
+    int32_t answer = ds_get_status(&self->handle, status);
+    return answer >= 0 || refuse(answer) != NULL;
 }
 
-/* Combines the second sketch of the pair into the handle's. If the handle is the sketch's own, it combines a copy: no call of the
- * library takes the same handle twice. */
-static int32_t pair_join(ds_sketch *handle, Pair *pair, of_two join)
+uint64_t sketch_total(Sketch *self)
 {
-    ds_sketch twin = DS_NONE, *other = use_handle(pair->second);
-    int32_t answer = DS_OK;
-    if (handle == other) {
-        answer = ds_clone(&twin, handle);
-        other = &twin;
+    ds_status status = {0};
+    ds_get_status(&self->handle, &status);
+    return status.total_weight;
+}
+
+PyObject *sketch_number(PyObject *self, void *which)
+{
+    ds_status status;
+    if (!sketch_status((Sketch *)self, &status)) return NULL;
+    const uint64_t numbers[] = {[BITS] = status.num_bits,
+                                [BITS_USED] = status.bits_used,
+                                [HASHES] = status.num_hashes,
+                                [BUCKETS] = status.num_buckets,
+                                [SEED] = status.seed,
+                                [TOTAL_WEIGHT] = status.total_weight,
+                                [MAXIMUM_ERROR] = status.maximum_error,
+                                [ACTIVE_ITEMS] = status.num_active_items,
+                                [MAX_MAP_SIZE] = status.max_map_size,
+                                [SAMPLE_SIZE] = status.sample_size};
+    return PyLong_FromUnsignedLongLong(numbers[(uintptr_t)which]);
+}
+
+PyObject *sketch_repr(PyObject *self)
+{
+    const char *name = class_of(Py_TYPE(self))->name;
+    ds_status status;
+    if (!sketch_status((Sketch *)self, &status)) {
+        PyErr_Clear();
+        return PyUnicode_FromFormat("<%s, closed>", name);
     }
-    if (answer >= 0) answer = join(handle, other);
-    ds_free(&twin);
-    return answer;
-}
-
-PyObject *sketch_join(Sketch *self, Sketch *other, of_two join)
-{
-    Pair pair;
-    int32_t answer;
-    if (!pair_begin(&pair, self, other, true)) return NULL;
-    Py_BEGIN_ALLOW_THREADS
-    answer = pair_join(&self->handle, &pair, join);
-    Py_END_ALLOW_THREADS
-    pair_end(&pair);
-    return answer < 0 ? refuse(answer) : Py_NewRef((PyObject *)self);
-}
-
-PyObject *sketch_joined(Sketch *self, Sketch *other, of_two join)
-{
-    ds_sketch made = DS_NONE;
-    Pair pair;
-    int32_t answer;
-    if (!pair_begin(&pair, self, other, false)) return NULL;
-    Py_BEGIN_ALLOW_THREADS
-    answer = ds_clone(&made, use_handle(pair.first));
-    if (answer >= 0) answer = pair_join(&made, &pair, join);
-    if (answer < 0) ds_free(&made);
-    Py_END_ALLOW_THREADS
-    pair_end(&pair);
-    return answer < 0 ? refuse(answer) : sketch_like(self, &made);
-}
-
-PyObject *sketch_equal(Sketch *self, Sketch *other, of_two equal, int operation)
-{
-    Pair pair;
-    int32_t answer = DS_YES;
-    if (!pair_begin(&pair, self, other, false)) return NULL;
-    if (self != other) {
-        Py_BEGIN_ALLOW_THREADS
-        answer = equal(use_handle(pair.first), use_handle(pair.second));
-        Py_END_ALLOW_THREADS
+    unsigned hashes = status.num_hashes, buckets = status.num_buckets;
+    unsigned long long seed = status.seed, total = status.total_weight, size = status.max_map_size;
+    unsigned long long bits = status.num_bits, used = status.bits_used;
+    switch (status.kind) {
+    case DS_BLOOM:
+        return PyUnicode_FromFormat("<%s capacity=%llu num_hashes=%u seed=%llu bits_used=%llu>", name, bits, hashes, seed, used);
+    case DS_COUNT_MIN_U64:
+    case DS_COUNT_MIN_I64:
+        return PyUnicode_FromFormat("<%s num_hashes=%u num_buckets=%u seed=%llu%s>", name, hashes, buckets, seed,
+                                    status.kind == DS_COUNT_MIN_I64 ? " signed=True" : "");
+    default:
+        return PyUnicode_FromFormat("<%s max_map_size=%llu item=%s total_weight=%llu>", name, size, item_name(status.kind), total);
     }
-    pair_end(&pair);
-    return answer < 0 ? refuse(answer) : PyBool_FromLong((answer == DS_YES) == (operation == Py_EQ));
 }
 
 const char sketch_sizeof_doc[] = PyDoc_STR(
@@ -410,10 +419,14 @@ static bool add_limit(PyTypeObject *type)
     return done;
 }
 
-static bool add_class(PyObject *m, const char *name, PyTypeObject *type)
+static bool add_classes(PyObject *m)
 {
-    return (type->tp_dict != NULL || add_limit(type)) && PyType_Ready(type) == 0 &&
-           PyModule_AddObjectRef(m, name, (PyObject *)type) == 0;
+    bool done = true;
+    for (size_t i = 0; done && i < NUM_CLASSES; i++) {
+        PyTypeObject *type = classes[i].type;
+        done = (type->tp_dict != NULL || add_limit(type)) && PyModule_AddType(m, type) == 0;
+    }
+    return done;
 }
 
 PyMODINIT_FUNC PyInit__sketches(void)
@@ -423,10 +436,7 @@ PyMODINIT_FUNC PyInit__sketches(void)
     if (m == NULL || fields == NULL) goto failed;
     sketch_error = PyErr_NewExceptionWithDoc("datasketches_rattle.SketchError", error_doc, NULL, fields);
     if (sketch_error == NULL || PyModule_AddObjectRef(m, "SketchError", sketch_error) < 0) goto failed;
-    if (!add_class(m, "BloomFilter", &filter_type) || !add_class(m, "CountMinSketch", &count_type) ||
-        !add_class(m, "FrequentItemsSketch", &frequent_type) || !add_keyed_hash(m) ||
-        PyModule_AddStringConstant(m, "__version__", ds_version()) < 0)
-        goto failed;
+    if (!add_classes(m) || !add_keyed_hash(m) || PyModule_AddStringConstant(m, "__version__", ds_version()) < 0) goto failed;
     Py_DECREF(fields);
     return m;
 failed:

@@ -7,7 +7,6 @@
 
 #include "datasketches.h"
 
-#define DEFAULT_SEED 9001
 #define DEFAULT_LIMIT ((size_t)1 << 30)
 
 typedef struct Waiter Waiter;
@@ -17,29 +16,55 @@ typedef struct Waiter Waiter;
  * While it reads, it has a handle of its own that shares the sketch, so many such calls run at once. `enter` in `sketches.c` has
  * the order.
  *
- * Only a thread with the interpreter's lock reads or changes the fields after `handle`, and only such a thread or a long call that
- * changes the sketch uses `handle`. No Python code runs during a long call. A new sketch is created in its own handle. Its object
- * is created last, so no other thread sees it before. */
+ * Only a thread with the interpreter's lock reads or changes the fields after `kind`, which never changes, and only such a thread or
+ * a long call that changes the sketch uses `handle`. No Python code runs during a long call. A new sketch is created in its own
+ * handle. Its object is created last, so no other thread sees it before. */
 typedef struct {
     PyObject_HEAD
     ds_sketch handle;
+    int32_t kind;         /* DS_BLOOM .. */
     bool changing;        /* whether a long call changes the sketch */
     bool frozen;          /* whether the library does not change the sketch, since handles may share it */
     size_t readers;       /* the number of long calls that read the sketch */
     Waiter *first, *last; /* the threads that wait for the sketch, in the order of their calls */
-    uint64_t seed;
-    uint32_t buckets;
-    uint8_t hashes;
-    bool with_sign;  /* of CountMinSketch: whether its weights are signed; of FrequentItemsSketch: whether its items are */
-    bool with_texts; /* of FrequentItemsSketch: whether its items are strings */
 } Sketch;
+
+/* Returns whether the weights of a CountMinSketch, or the items of a FrequentItemsSketch, are signed. */
+static inline bool has_sign(const Sketch *self)
+{
+    return self->kind == DS_COUNT_MIN_I64 || self->kind == DS_FREQUENT_ITEMS_I64;
+}
+
+/* Returns whether the items of a FrequentItemsSketch are strings. */
+static inline bool has_texts(const Sketch *self)
+{
+    return self->kind == DS_FREQUENT_ITEMS_STRING;
+}
 
 extern PyObject *sketch_error;
 
+typedef struct Image Image;
+
+/* What differs between the classes in the functions that serve all of them. */
+typedef struct {
+    PyTypeObject *type;
+    const char *name;
+    const char *merge_all;  /* the name of the method that merges many sketches */
+    const char *differ;     /* the message if two sketches are of different kinds; NULL if the class has one kind */
+    const char *pickled[4]; /* the names of the arguments of `deserialize` that pickle stores, and NULL */
+
+    /* Reads the arguments of `deserialize`, or of `deserialize_prefix` if `prefix`, into `image`. Returns false, with an error set,
+     * if one is malformed. */
+    bool (*arguments)(PyObject *args, PyObject *keywords, bool prefix, Image *image);
+} Class;
+
 /* --- sketches.c --- */
 
+/* Returns the class that the type is or is derived from, or NULL. */
+const Class *class_of(PyTypeObject *type);
+
 /* Returns a new object of this type that owns the handle's sketch. If that fails, frees the sketch and returns NULL. */
-Sketch *sketch_of(PyTypeObject *type, ds_sketch *made);
+PyObject *sketch_of(PyTypeObject *type, int32_t kind, ds_sketch *made);
 void sketch_dealloc(PyObject *self);
 
 /* Waits until the sketch can be read by its handle, in a call that keeps the interpreter's lock. Returns false, with an error set,
@@ -79,18 +104,20 @@ PyObject *refuse_at(int32_t answer, size_t byte);
 
 /* Changes the whole sketch: a reset or a halving. */
 PyObject *sketch_change(Sketch *self, int32_t (*change)(ds_sketch *));
+PyObject *sketch_reset(PyObject *self, PyObject *unused);
 
-/* A call that reads a second sketch: a merge, a set operation or a comparison. */
-typedef int32_t (*of_two)(ds_sketch *, ds_sketch *);
+/* Reads the sketch's numbers. Returns false, with an error set, if it is closed. */
+bool sketch_status(Sketch *self, ds_status *status);
 
-/* Combines the other sketch, which may be the same, into the first, and returns the first. */
-PyObject *sketch_join(Sketch *self, Sketch *other, of_two join);
+/* Returns the total weight, or 0 for a filter, in a call that may use the object's handle. */
+uint64_t sketch_total(Sketch *self);
 
-/* Returns a new sketch: a copy of the first, combined with the other, which may be the same. */
-PyObject *sketch_joined(Sketch *self, Sketch *other, of_two join);
+/* The numbers that are attributes. */
+enum { BITS, BITS_USED, HASHES, BUCKETS, SEED, TOTAL_WEIGHT, MAXIMUM_ERROR, ACTIVE_ITEMS, MAX_MAP_SIZE, SAMPLE_SIZE };
 
-/* Returns whether two sketches of one class are equal, for rich comparison. */
-PyObject *sketch_equal(Sketch *self, Sketch *other, of_two equal, int operation);
+/* Returns one of these numbers. */
+PyObject *sketch_number(PyObject *self, void *which);
+PyObject *sketch_repr(PyObject *self);
 
 /* Returns the number of bytes that the object and its sketch take. */
 extern const char sketch_sizeof_doc[];
@@ -103,18 +130,26 @@ PyObject *sketch_exit(PyObject *self, PyObject *unused);
 
 /* --- joins.c --- */
 
-/* Returns whether a call can combine two sketches of one class. Sets an error if not. */
-typedef bool (*joins_check)(PyObject *self, PyObject *other);
+/* A call that reads a second sketch: a merge or a set operation. */
+typedef int32_t (*of_two)(ds_sketch *, ds_sketch *);
 
-/* Returns the sketches of an iterable as a tuple. Returns NULL, with an error set, if the sketch is closed, or if another one is
- * not of the class or fails the check. */
-PyObject *joins_given(PyObject *self, PyObject *given, const char *call, PyTypeObject *type, joins_check check);
+/* Combines the second sketch, which may be the same, into the first, and returns the first. Returns NotImplemented unless both are
+ * of one class. */
+PyObject *sketch_join(PyObject *first, PyObject *second, of_two join);
 
-/* A call that reads many other sketches. */
-typedef int32_t (*of_many)(ds_sketch *, ds_sketch *, size_t);
+/* Returns a new sketch, a copy of the first, combined with the second. Otherwise as `sketch_join`. */
+PyObject *sketch_joined(PyObject *first, PyObject *second, of_two join);
 
-/* Combines the sketches of a tuple, whose reference this takes, into the sketch, which may be among them. */
-PyObject *sketch_join_all(PyObject *self, PyObject *others, of_many join);
+/* Do the same for a merge. */
+PyObject *sketch_merge(PyObject *first, PyObject *second);
+PyObject *sketch_merged(PyObject *first, PyObject *second);
+
+/* Merges the sketches of an iterable into the sketch, which may be among them. */
+PyObject *sketch_merge_all(PyObject *self, PyObject *given);
+
+/* Compares two sketches. Those of different kinds are unequal. One of frequent items is equal only to itself: the order of its
+ * items is open, and no call compares two. */
+PyObject *sketch_compare(PyObject *first, PyObject *second, int operation);
 
 /* --- images.c --- */
 
@@ -122,46 +157,42 @@ PyObject *sketch_join_all(PyObject *self, PyObject *others, of_many join);
 bool is_constant(const Py_buffer *view);
 
 /* An image that a call reads: the bytes of an object, or a copy of them if another thread may change them. */
-typedef struct {
+struct Image {
+    int32_t kind; /* of the sketch, or 0 if the bytes are no image */
+    ds_image_options options;
+    ds_key key;           /* that of the options, unless they have none */
+    bool has_sample_size; /* whether the sketch gets this sample size */
+    uint64_t sample_size;
     const uint8_t *bytes;
     size_t length;
     uint8_t *copy;
-    bool has_strings; /* whether it is read as one of frequent strings */
-    bool is_cut;      /* whether the copy is of a part: as far as a limit may accept, and to the end of the string there */
+    bool is_cut; /* whether the copy is of a part: as far as a limit may accept, and to the end of the string there */
     Py_buffer view;
-} Image;
+};
 
-/* Takes the image of a view for a reader with this limit. Returns false, with an error set, if there is no memory for a copy. */
-bool image_take(Image *image, size_t limit);
-
-/* Returns the result for the whole image, from the library's result for the bytes of `image_take`. */
-int32_t image_answer(const Image *image, int32_t answer);
+/* Takes the image of the view, for a reader with the limit of the options. Returns false, with an error set, if there is no memory
+ * for a copy. */
+bool image_take(Image *image);
 void image_release(Image *image);
 
-/* Takes a sketch, which may be NULL, and returns it with the number of bytes that its image takes. */
-PyObject *with_used(PyObject *sketch, size_t used);
+/* Returns the sketch's image as bytes. */
+PyObject *sketch_serialize(PyObject *self, PyObject *unused);
 
-/* Returns the image that a call writes, as bytes. `measure` writes its number of bytes. */
-typedef int32_t (*image_writer)(ds_sketch *, uint8_t *, size_t, size_t *);
-typedef int32_t (*image_measure)(ds_sketch *, size_t *);
-PyObject *sketch_image(Sketch *self, image_measure measure, image_writer write);
+/* Return the sketch of an image, and the number of bytes that it takes if `prefix`. */
+PyObject *sketch_deserialize(PyObject *type, PyObject *args, PyObject *keywords);
+PyObject *sketch_deserialize_prefix(PyObject *type, PyObject *args, PyObject *keywords);
 
 /* --- copies.c --- */
-
-/* Returns a new object of the same class that owns the handle's sketch. If that fails, frees the sketch and returns NULL. */
-PyObject *sketch_like(const Sketch *self, ds_sketch *made);
 
 /* Return copies, with the attributes of an object of a subclass. */
 PyObject *sketch_copy(PyObject *self, PyObject *unused);
 PyObject *sketch_deepcopy(PyObject *self, PyObject *memo);
 
-/* Returns what pickle stores: the class's `_unpickle`, its arguments, whose reference this takes, and the state of an object of a
- * subclass. */
-PyObject *sketch_reduce(PyObject *self, PyObject *arguments);
+/* Returns what pickle stores: the class's `_unpickle`, its arguments, and the state of an object of a subclass. */
+PyObject *sketch_reduce(PyObject *self, PyObject *unused);
 
-/* Calls the class's reader of images with the arguments of `sketch_reduce`, under these names, and the class's limit. */
-typedef PyObject *(*image_reader)(PyObject *type, PyObject *args, PyObject *keywords);
-PyObject *sketch_unpickle(PyObject *type, PyObject *args, const char *const *names, image_reader read);
+/* Returns the sketch of these arguments, under the limit of the class. */
+PyObject *sketch_unpickle(PyObject *type, PyObject *args);
 
 /* --- items.c --- */
 
@@ -466,9 +497,8 @@ typedef bool (*items_check)(const Sketch *self, const Items *items);
 /* How a sketch takes many items. `weights` is NULL if each item weighs 1. A function that returns an error adds to `done` the
  * number of items before it. */
 typedef struct {
-    items_check check;                     /* of all items, before the first is taken; or NULL */
-    uint64_t (*room)(Sketch *self);        /* the maximum sum of weights that the sketch can take; or NULL */
-    size_t (*longest)(const Sketch *self); /* the maximum of numbers without weights in one call; or NULL for CHUNK */
+    items_check check;                    /* of all items, before the first is taken; or NULL */
+    size_t (*longest)(ds_sketch *handle); /* the maximum of numbers without weights in one call; or NULL for CHUNK */
     int32_t (*strings)(Batch *batch, const ds_string *strings, const uint64_t *weights, size_t count);
     int32_t (*numbers)(Batch *batch, const uint64_t *numbers, const uint64_t *weights, size_t count);
 } Updates;
@@ -487,7 +517,7 @@ typedef struct {
     bool changes;        /* whether the query also changes the sketch */
     PyObject *(*object)(const Sketch *self, const void *answers, size_t index);
     items_check check;
-    size_t (*longest)(const Sketch *self);
+    size_t (*longest)(ds_sketch *handle);
     int32_t (*strings)(Batch *batch, const ds_string *strings, size_t count, void *answers);
     int32_t (*numbers)(Batch *batch, const uint64_t *numbers, size_t count, void *answers);
 } Question;
@@ -527,29 +557,25 @@ PyObject *frequent_estimate(PyObject *object, PyObject *items);
 
 /* --- words.c --- */
 
-extern const char filter_insert_words_doc[];
-extern const char filter_insert_lines_doc[];
-extern const char count_update_words_doc[];
-extern const char count_update_lines_doc[];
-extern const char frequent_update_words_doc[];
-extern const char frequent_update_lines_doc[];
-PyObject *filter_insert_words(PyObject *object, PyObject *args, PyObject *keywords);
-PyObject *filter_insert_lines(PyObject *object, PyObject *args, PyObject *keywords);
-PyObject *count_update_words(PyObject *object, PyObject *args, PyObject *keywords);
-PyObject *count_update_lines(PyObject *object, PyObject *args, PyObject *keywords);
-PyObject *frequent_update_words(PyObject *object, PyObject *args, PyObject *keywords);
-PyObject *frequent_update_lines(PyObject *object, PyObject *args, PyObject *keywords);
+extern const char filter_words_doc[];
+extern const char filter_lines_doc[];
+extern const char count_words_doc[];
+extern const char count_lines_doc[];
+extern const char frequent_words_doc[];
+extern const char frequent_lines_doc[];
 
-/* A method that takes keywords. */
-#define WITH_KEYWORDS(name, function) \
-    { \
-        name, (PyCFunction)(void (*)(void))function, METH_VARARGS | METH_KEYWORDS, function##_doc \
-    }
+/* Take the words or the lines of a string or of a buffer, in all classes. */
+PyObject *sketch_words(PyObject *self, PyObject *args, PyObject *keywords);
+PyObject *sketch_lines(PyObject *self, PyObject *args, PyObject *keywords);
 
-/* --- frequent.c --- */
+/* --- filter.c, count.c, frequent.c --- */
 
-/* Reads the sketch's numbers. Returns false, with an error set, if it is closed. */
-bool frequent_status(Sketch *self, ds_frequent_items_status *numbers);
+bool filter_arguments(PyObject *args, PyObject *keywords, bool prefix, Image *image);
+bool count_arguments(PyObject *args, PyObject *keywords, bool prefix, Image *image);
+bool frequent_arguments(PyObject *args, PyObject *keywords, bool prefix, Image *image);
+
+/* Returns the name of a kind's items: 'i64', 'u64' or 'str'. */
+const char *item_name(int32_t kind);
 
 /* --- rows.c --- */
 
@@ -601,16 +627,10 @@ PyObject *count_suggest_buckets(PyObject *type, PyObject *args, PyObject *keywor
 PyObject *count_suggest_hashes(PyObject *type, PyObject *args, PyObject *keywords);
 PyObject *frequent_suggest_max_map_size(PyObject *type, PyObject *args, PyObject *keywords);
 
-/* A class method that takes keywords. */
-#define CLASS_METHOD(name, function) \
-    { \
-        name, (PyCFunction)(void (*)(void))function, METH_CLASS | METH_VARARGS | METH_KEYWORDS, function##_doc \
-    }
-
 /* --- keyed_hash.c --- */
 
-/* Reads a key of 16 bytes as two words. Returns false, with an error set, if the object is none. */
-bool key_of(PyObject *object, uint64_t words[2]);
+/* Reads a key of 16 bytes. Returns false, with an error set, if the object is none. */
+bool key_of(PyObject *object, ds_key *key);
 
 /* Adds the function `keyed_hash` to the module. */
 bool add_keyed_hash(PyObject *m);
@@ -618,5 +638,35 @@ bool add_keyed_hash(PyObject *m);
 extern PyTypeObject filter_type;
 extern PyTypeObject count_type;
 extern PyTypeObject frequent_type;
+
+/* --- Rows of the tables of methods. --- */
+
+#define KEYWORDS_ROW(name, function, flags, doc) \
+    { \
+        name, (PyCFunction)(void (*)(void))function, (flags) | METH_VARARGS | METH_KEYWORDS, doc \
+    }
+
+/* A method that takes keywords. */
+#define WITH_KEYWORDS(name, function) KEYWORDS_ROW(name, function, 0, function##_doc)
+
+/* A class method that takes keywords. */
+#define CLASS_METHOD(name, function) KEYWORDS_ROW(name, function, METH_CLASS, function##_doc)
+
+/* The methods that all classes have. The docs of these names are those of the class. */
+/* clang-format off */
+#define METHODS_OF_ALL \
+    {"serialize", sketch_serialize, METH_NOARGS, serialize_doc}, \
+    KEYWORDS_ROW("deserialize", sketch_deserialize, METH_CLASS, deserialize_doc), \
+    KEYWORDS_ROW("deserialize_prefix", sketch_deserialize_prefix, METH_CLASS, deserialize_prefix_doc), \
+    {"close", sketch_close, METH_NOARGS, sketch_close_doc}, \
+    {"__bytes__", sketch_serialize, METH_NOARGS, NULL}, \
+    {"__copy__", sketch_copy, METH_NOARGS, NULL}, \
+    {"__deepcopy__", sketch_deepcopy, METH_O, NULL}, \
+    {"__reduce__", sketch_reduce, METH_NOARGS, NULL}, \
+    {"_unpickle", sketch_unpickle, METH_CLASS | METH_VARARGS, NULL}, \
+    {"__sizeof__", sketch_sizeof, METH_NOARGS, sketch_sizeof_doc}, \
+    {"__enter__", sketch_enter, METH_NOARGS, NULL}, \
+    {"__exit__", sketch_exit, METH_VARARGS, NULL}
+/* clang-format on */
 
 #endif

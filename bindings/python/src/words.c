@@ -78,48 +78,31 @@ static uint64_t count_front(const Text *text, bool of_lines, size_t length)
     return count;
 }
 
-static bool is_filter(const Sketch *self)
-{
-    return PyObject_TypeCheck((PyObject *)self, &filter_type);
-}
-
-static bool is_count(const Sketch *self)
-{
-    return PyObject_TypeCheck((PyObject *)self, &count_type);
-}
-
-/* Returns the total weight, or 0 for a filter. */
-static uint64_t total_of(Sketch *self)
-{
-    ds_count_min_status count = {0};
-    ds_frequent_items_status frequent = {0};
-    if (is_count(self) && self->with_sign) ds_count_min_i64_get_status(&self->handle, &count);
-    else if (is_count(self)) ds_count_min_u64_get_status(&self->handle, &count);
-    else if (!is_filter(self)) ds_frequent_items_string_get_status(&self->handle, &frequent);
-    return count.total_weight + frequent.total_weight;
-}
-
 static int32_t take_words(Sketch *self, const uint8_t *text, size_t length)
 {
-    if (is_filter(self)) return ds_bloom_insert_words(&self->handle, text, length);
-    if (!is_count(self)) return ds_frequent_items_string_update_words(&self->handle, text, length);
-    return self->with_sign ? ds_count_min_i64_update_words(&self->handle, text, length)
-                           : ds_count_min_u64_update_words(&self->handle, text, length);
+    switch (self->kind) {
+    case DS_BLOOM: return ds_bloom_insert_words(&self->handle, text, length);
+    case DS_COUNT_MIN_U64: return ds_count_min_u64_update_words(&self->handle, text, length);
+    case DS_COUNT_MIN_I64: return ds_count_min_i64_update_words(&self->handle, text, length);
+    default: return ds_frequent_items_string_update_words(&self->handle, text, length);
+    }
 }
 
 static int32_t take_lines(Sketch *self, const uint8_t *text, size_t length)
 {
-    if (is_filter(self)) return ds_bloom_insert_lines(&self->handle, text, length);
-    if (!is_count(self)) return ds_frequent_items_string_update_lines(&self->handle, text, length);
-    return self->with_sign ? ds_count_min_i64_update_lines(&self->handle, text, length)
-                           : ds_count_min_u64_update_lines(&self->handle, text, length);
+    switch (self->kind) {
+    case DS_BLOOM: return ds_bloom_insert_lines(&self->handle, text, length);
+    case DS_COUNT_MIN_U64: return ds_count_min_u64_update_lines(&self->handle, text, length);
+    case DS_COUNT_MIN_I64: return ds_count_min_i64_update_lines(&self->handle, text, length);
+    default: return ds_frequent_items_string_update_lines(&self->handle, text, length);
+    }
 }
 
 /* Takes the words or lines of a piece. Runs without the interpreter's lock. */
 static int32_t take_piece(Sketch *self, Text *text, bool of_lines, size_t from, size_t end)
 {
     const uint8_t *piece = text->bytes + from;
-    uint64_t before = total_of(self);
+    uint64_t before = sketch_total(self);
     if (text->may_change) {
         uint8_t *copy = PyMem_RawRealloc(text->copy, end - from);
         if (copy == NULL) return DS_NO_MEMORY;
@@ -128,7 +111,7 @@ static int32_t take_piece(Sketch *self, Text *text, bool of_lines, size_t from, 
         piece = copy;
     }
     int32_t answer = of_lines ? take_lines(self, piece, end - from) : take_words(self, piece, end - from);
-    text->done += total_of(self) - before;
+    text->done += sketch_total(self) - before;
     return answer;
 }
 
@@ -149,7 +132,7 @@ static void refuse_piece(Sketch *self, Text *text, const Method *method, int32_t
     }
     if (answer == DS_INVALID_UTF8) refuse_utf8(text, from, end);
     else if (answer < 0) refuse(answer);
-    if (is_filter(self)) text->done = count_front(text, method->of_lines, answer < 0 ? from : end);
+    if (self->kind == DS_BLOOM) text->done = count_front(text, method->of_lines, answer < 0 ? from : end);
     if (text->done > 0) note_taken(text->done);
 }
 
@@ -193,7 +176,7 @@ static PyObject *take(PyObject *object, PyObject *args, PyObject *keywords, cons
     int final = 1;
     Text text = {0};
     if (!PyArg_ParseTupleAndKeywords(args, keywords, "O|$p", names, &given, &final) || !sketch_ready(self)) return NULL;
-    if (!is_filter(self) && !is_count(self) && !self->with_texts)
+    if (self->kind == DS_FREQUENT_ITEMS_U64 || self->kind == DS_FREQUENT_ITEMS_I64)
         return PyErr_Format(PyExc_TypeError, "%s takes a sketch of strings: FrequentItemsSketch(.., item=str)", method->name);
     if (text_open(given, method, &text)) {
         size_t whole = text.length;
@@ -215,7 +198,7 @@ static PyObject *take(PyObject *object, PyObject *args, PyObject *keywords, cons
     "Raise 'InvalidUtf8' if some bytes are not UTF-8, with the offset of the first as `byte`. A buffer is read in pieces of about\n" \
     "1 MiB. " words " before an error may be counted: a note of the error has their number.\n\n"
 
-const char filter_insert_words_doc[] =
+const char filter_words_doc[] =
     PyDoc_STR(
 "insert_words($self, text, /, *, final=True)\n--\n\n"
 "Insert each word of a str, or of a buffer of UTF-8 bytes, such as bytes or an mmap.\n\n"
@@ -227,7 +210,7 @@ WORDS_ARE HOW_MUCH("word") ERRORS_ARE("Words")
 ">>> 'not' in seen, 'apple' in seen\n"
 "(True, False)\n");
 
-const char filter_insert_lines_doc[] =
+const char filter_lines_doc[] =
     PyDoc_STR(
 "insert_lines($self, text, /, *, final=True)\n--\n\n"
 "Insert each line of a str, or of a buffer of UTF-8 bytes, such as bytes or an mmap.\n\n"
@@ -239,7 +222,7 @@ LINES_ARE HOW_MUCH("line") ERRORS_ARE("Lines")
 ">>> 'second line' in seen, 'second' in seen\n"
 "(True, False)\n");
 
-const char count_update_words_doc[] = PyDoc_STR(
+const char count_words_doc[] = PyDoc_STR(
 "update_words($self, text, /, *, final=True)\n--\n\n"
 "Add 1 to the weight of each word of a str, or of a buffer of UTF-8 bytes, such as bytes or an mmap.\n\n"
 WORDS_ARE HOW_MUCH("word") ERRORS_ARE("Words")
@@ -250,7 +233,7 @@ WORDS_ARE HOW_MUCH("word") ERRORS_ARE("Words")
 ">>> load['be'], load.total_weight\n"
 "(2, 6)\n");
 
-const char count_update_lines_doc[] = PyDoc_STR(
+const char count_lines_doc[] = PyDoc_STR(
 "update_lines($self, text, /, *, final=True)\n--\n\n"
 "Add 1 to the weight of each line of a str, or of a buffer of UTF-8 bytes, such as bytes or an mmap.\n\n"
 LINES_ARE HOW_MUCH("line") ERRORS_ARE("Lines")
@@ -261,7 +244,7 @@ LINES_ARE HOW_MUCH("line") ERRORS_ARE("Lines")
 ">>> load['second line'], load.total_weight\n"
 "(1, 2)\n");
 
-const char frequent_update_words_doc[] = PyDoc_STR(
+const char frequent_words_doc[] = PyDoc_STR(
 "update_words($self, text, /, *, final=True)\n--\n\n"
 "Add 1 to the weight of each word of a str, or of a buffer of UTF-8 bytes, such as bytes or an mmap.\n\n"
 WORDS_ARE HOW_MUCH("word") ERRORS_ARE("Words")
@@ -276,7 +259,7 @@ WORDS_ARE HOW_MUCH("word") ERRORS_ARE("Words")
 ">>> chunk[used:]\n"
 "'to'\n");
 
-const char frequent_update_lines_doc[] = PyDoc_STR(
+const char frequent_lines_doc[] = PyDoc_STR(
 "update_lines($self, text, /, *, final=True)\n--\n\n"
 "Add 1 to the weight of each line of a str, or of a buffer of UTF-8 bytes, such as bytes or an mmap.\n\n"
 LINES_ARE HOW_MUCH("line") ERRORS_ARE("Lines")
@@ -287,36 +270,14 @@ LINES_ARE HOW_MUCH("line") ERRORS_ARE("Lines")
 ">>> lines['second line'], lines.total_weight\n"
 "(1, 2)\n");
 
-PyObject *filter_insert_words(PyObject *object, PyObject *args, PyObject *keywords)
+PyObject *sketch_words(PyObject *self, PyObject *args, PyObject *keywords)
 {
-    static const Method method = {"insert_words", false};
-    return take(object, args, keywords, &method);
+    const Method method = {((Sketch *)self)->kind == DS_BLOOM ? "insert_words" : "update_words", false};
+    return take(self, args, keywords, &method);
 }
 
-PyObject *filter_insert_lines(PyObject *object, PyObject *args, PyObject *keywords)
+PyObject *sketch_lines(PyObject *self, PyObject *args, PyObject *keywords)
 {
-    static const Method method = {"insert_lines", true};
-    return take(object, args, keywords, &method);
-}
-
-PyObject *count_update_words(PyObject *object, PyObject *args, PyObject *keywords)
-{
-    static const Method method = {"update_words", false};
-    return take(object, args, keywords, &method);
-}
-
-PyObject *count_update_lines(PyObject *object, PyObject *args, PyObject *keywords)
-{
-    static const Method method = {"update_lines", true};
-    return take(object, args, keywords, &method);
-}
-
-PyObject *frequent_update_words(PyObject *object, PyObject *args, PyObject *keywords)
-{
-    return count_update_words(object, args, keywords);
-}
-
-PyObject *frequent_update_lines(PyObject *object, PyObject *args, PyObject *keywords)
-{
-    return count_update_lines(object, args, keywords);
+    const Method method = {((Sketch *)self)->kind == DS_BLOOM ? "insert_lines" : "update_lines", true};
+    return take(self, args, keywords, &method);
 }
