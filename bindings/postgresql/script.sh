@@ -53,9 +53,9 @@ SQL
 # unions VOLATILITY: the aggregate of sketches, and the operator of two. Frequent items are merged under a random key.
 unions() {
     echo
-    function_of "${type}_add_sketch(internal, $type) RETURNS internal" "${type}_add_sketch" IMMUTABLE
+    function_of "${type}_add_sketch(internal, $type) RETURNS internal" state_add_sketch IMMUTABLE
     aggregate "${type}_union($type)" "${type}_add_sketch"
-    function_of "sketch_union($type, $type) RETURNS $type" "${type}_union" "$1 STRICT" ' COST 100'
+    function_of "sketch_union($type, $type) RETURNS $type" sketch_union "$1 STRICT" ' COST 100'
     echo "CREATE OPERATOR | (LEFTARG = $type, RIGHTARG = $type, FUNCTION = sketch_union, COMMUTATOR = |);"
 }
 
@@ -118,7 +118,7 @@ frequent() {
 SQL
     change "${type}_empty(max_map_size integer DEFAULT 1024)" "${type}_empty_by_size"
     change "${type}_empty(relative_error double precision)" "${type}_empty_by_error"
-    change "sketch_reset(sketch $type)" "${type}_reset"
+    change "sketch_reset(sketch $type)" sketch_reset
     change "sketch_add(sketch $type, item $item, weight bigint DEFAULT 1)" "${type}_with_item" STABLE
     comparisons
     for query in lower_bound estimate upper_bound; do
@@ -169,7 +169,7 @@ count() {
 SQL
     change "${type}_empty(relative_error double precision, confidence double precision)" "${type}_empty_by_error"
     change "${type}_empty_sized(num_hashes integer, num_buckets integer)" "${type}_empty_by_size"
-    change "sketch_reset(sketch $type)" "${type}_reset"
+    change "sketch_reset(sketch $type)" sketch_reset
     change "sketch_add(sketch $type, item text, weight bigint DEFAULT 1)" "${type}_with_string"
     change "sketch_add(sketch $type, item bigint, weight bigint DEFAULT 1)" "${type}_with_bigint"
     if [ -z "$moving" ]; then
@@ -205,7 +205,7 @@ CREATE OPERATOR & (LEFTARG = $type, RIGHTARG = $type, FUNCTION = sketch_intersec
 SQL
     change "${type}_empty(expected_items bigint, false_positive_rate double precision)" "${type}_empty_by_error"
     change "${type}_empty_sized(num_bits bigint, num_hashes integer)" "${type}_empty_by_size"
-    change "sketch_reset(filter $type)" "${type}_reset"
+    change "sketch_reset(filter $type)" sketch_reset
     change "sketch_add(filter $type, item text)" "${type}_with_string"
     change "sketch_add(filter $type, item bigint)" "${type}_with_bigint"
     change "sketch_difference($type, $type)" "${type}_difference"

@@ -155,8 +155,7 @@ typedef struct Row {
 /* Returns whether the call has weights. Calls of frequent items leave out the weight only if they leave out the sizes too. */
 static inline bool has_weights(FunctionCallInfo fcinfo, Row row)
 {
-    bool is_frequent = row.kind == FREQUENT_STRINGS || row.kind == FREQUENT_BIGINTS;
-    return is_frequent ? PG_NARGS() > 2 : row.number == 3;
+    return is_frequent(row.kind) ? PG_NARGS() > 2 : row.number == 3;
 }
 
 /* Puts an empty sketch of the first row's sizes into a state. */
@@ -189,8 +188,8 @@ static inline void check_sizes(FunctionCallInfo fcinfo, const State *state, int 
 static inline void check_strings(State *state, size_t length)
 {
     state->unchecked += length;
-    if (likely(state->unchecked < limit_of(FREQUENT_STRINGS) / 4)) return;
-    check_limit(FREQUENT_STRINGS, &state->handle);
+    if (likely(state->unchecked < limit_of(DS_FREQUENT_ITEMS_STRING) / 4)) return;
+    check_limit(&state->handle);
     state->unchecked = 0;
 }
 
@@ -235,32 +234,27 @@ static pg_attribute_always_inline Datum add_row(FunctionCallInfo fcinfo, Row row
     check_weight(row.kind, weight);
     string = row_string(fcinfo, row.items);
     check_result(add_item(fcinfo, state, row, string, weight));
-    if (row.kind == FREQUENT_STRINGS) check_strings(state, string.length);
+    if (row.kind == DS_FREQUENT_ITEMS_STRING) check_strings(state, string.length);
     PG_RETURN_POINTER(state);
 }
 
-#define ROW(name, add, ...) \
-    PG_FUNCTION_INFO_V1(name); \
-    Datum name(PG_FUNCTION_ARGS) \
-    { \
-        return add(fcinfo, (Row){__VA_ARGS__}); \
-    }
+#define ROW(name, add, ...) FUNCTION(name, add, ((Row){__VA_ARGS__}))
 #define ROWS(name, add, kind, items, number, prefix) \
     ROW(name##_by_size, add, kind, items, number, prefix##_by_size) \
     ROW(name##_by_error, add, kind, items, number, prefix##_by_error)
 
-ROWS(frequent_strings_add, add_row, FREQUENT_STRINGS, STRINGS, 3, frequent)
-ROWS(frequent_bigints_add, add_row, FREQUENT_BIGINTS, BIGINTS, 3, frequent)
-ROWS(count_min_add_string, add_row, COUNT_MIN, STRINGS, 2, count)
-ROWS(count_min_add_weighted_string, add_row, COUNT_MIN, STRINGS, 3, count)
-ROWS(count_min_add_bigint, add_row, COUNT_MIN, BIGINTS, 2, count)
-ROWS(count_min_add_weighted_bigint, add_row, COUNT_MIN, BIGINTS, 3, count)
-ROWS(signed_count_min_add_string, add_row, SIGNED_COUNT_MIN, STRINGS, 2, count)
-ROWS(signed_count_min_add_weighted_string, add_row, SIGNED_COUNT_MIN, STRINGS, 3, count)
-ROWS(signed_count_min_add_bigint, add_row, SIGNED_COUNT_MIN, BIGINTS, 2, count)
-ROWS(signed_count_min_add_weighted_bigint, add_row, SIGNED_COUNT_MIN, BIGINTS, 3, count)
-ROWS(bloom_filter_add_string, add_row, BLOOM_FILTER, STRINGS, 2, filter)
-ROWS(bloom_filter_add_bigint, add_row, BLOOM_FILTER, BIGINTS, 2, filter)
+ROWS(frequent_strings_add, add_row, DS_FREQUENT_ITEMS_STRING, STRINGS, 3, frequent)
+ROWS(frequent_bigints_add, add_row, DS_FREQUENT_ITEMS_I64, BIGINTS, 3, frequent)
+ROWS(count_min_add_string, add_row, DS_COUNT_MIN_U64, STRINGS, 2, count)
+ROWS(count_min_add_weighted_string, add_row, DS_COUNT_MIN_U64, STRINGS, 3, count)
+ROWS(count_min_add_bigint, add_row, DS_COUNT_MIN_U64, BIGINTS, 2, count)
+ROWS(count_min_add_weighted_bigint, add_row, DS_COUNT_MIN_U64, BIGINTS, 3, count)
+ROWS(signed_count_min_add_string, add_row, DS_COUNT_MIN_I64, STRINGS, 2, count)
+ROWS(signed_count_min_add_weighted_string, add_row, DS_COUNT_MIN_I64, STRINGS, 3, count)
+ROWS(signed_count_min_add_bigint, add_row, DS_COUNT_MIN_I64, BIGINTS, 2, count)
+ROWS(signed_count_min_add_weighted_bigint, add_row, DS_COUNT_MIN_I64, BIGINTS, 3, count)
+ROWS(bloom_filter_add_string, add_row, DS_BLOOM, STRINGS, 2, filter)
+ROWS(bloom_filter_add_bigint, add_row, DS_BLOOM, BIGINTS, 2, filter)
 
 /* --- Frames of windows that move: a row that leaves a frame is added again with its weight negated, so each row costs two updates.
  * The cells are then those of the frame's rows. The library's total counts all weights without their signs, so it is more than that
@@ -272,10 +266,9 @@ ROWS(bloom_filter_add_bigint, add_row, BLOOM_FILTER, BIGINTS, 2, filter)
 static void settle(State *state)
 {
     MemoryContext before = MemoryContextSwitchTo(state->context);
-    ds_count_min_status status = {0};
-    check_result(ds_count_min_i64_get_status(&state->handle, &status));
+    ds_status status = status_of(&state->handle);
     if (status.total_weight != state->frame.total) {
-        struct varlena *image = write_image(state->kind, &state->handle, VARHDRSZ);
+        struct varlena *image = write_image(&state->handle, VARHDRSZ);
         for (int i = 0; i < 8; i++) VARDATA(image)[TOTAL + i] = state->frame.total >> 8 * i & 0xff;
         ds_free(&state->handle);
         read_image(state->kind, &state->handle, VARDATA(image), VARSIZE(image) - VARHDRSZ, status.seed, false);
@@ -335,14 +328,14 @@ static pg_attribute_always_inline Datum leave_row(FunctionCallInfo fcinfo, Row r
     PG_RETURN_POINTER(state);
 }
 
-ROWS(signed_count_min_enter_string, enter_row, SIGNED_COUNT_MIN, STRINGS, 2, count)
-ROWS(signed_count_min_enter_weighted_string, enter_row, SIGNED_COUNT_MIN, STRINGS, 3, count)
-ROWS(signed_count_min_enter_bigint, enter_row, SIGNED_COUNT_MIN, BIGINTS, 2, count)
-ROWS(signed_count_min_enter_weighted_bigint, enter_row, SIGNED_COUNT_MIN, BIGINTS, 3, count)
-ROW(signed_count_min_leave_string, leave_row, SIGNED_COUNT_MIN, STRINGS, 2, NULL)
-ROW(signed_count_min_leave_weighted_string, leave_row, SIGNED_COUNT_MIN, STRINGS, 3, NULL)
-ROW(signed_count_min_leave_bigint, leave_row, SIGNED_COUNT_MIN, BIGINTS, 2, NULL)
-ROW(signed_count_min_leave_weighted_bigint, leave_row, SIGNED_COUNT_MIN, BIGINTS, 3, NULL)
+ROWS(signed_count_min_enter_string, enter_row, DS_COUNT_MIN_I64, STRINGS, 2, count)
+ROWS(signed_count_min_enter_weighted_string, enter_row, DS_COUNT_MIN_I64, STRINGS, 3, count)
+ROWS(signed_count_min_enter_bigint, enter_row, DS_COUNT_MIN_I64, BIGINTS, 2, count)
+ROWS(signed_count_min_enter_weighted_bigint, enter_row, DS_COUNT_MIN_I64, BIGINTS, 3, count)
+ROW(signed_count_min_leave_string, leave_row, DS_COUNT_MIN_I64, STRINGS, 2, NULL)
+ROW(signed_count_min_leave_weighted_string, leave_row, DS_COUNT_MIN_I64, STRINGS, 3, NULL)
+ROW(signed_count_min_leave_bigint, leave_row, DS_COUNT_MIN_I64, BIGINTS, 2, NULL)
+ROW(signed_count_min_leave_weighted_bigint, leave_row, DS_COUNT_MIN_I64, BIGINTS, 3, NULL)
 
 PG_FUNCTION_INFO_V1(signed_count_min_of_frame);
 
@@ -353,7 +346,7 @@ Datum signed_count_min_of_frame(PG_FUNCTION_ARGS)
     aggregate_context(fcinfo);
     if (state == NULL || !state->has_sketch) PG_RETURN_NULL();
     settle(state);
-    PG_RETURN_POINTER(store(state->kind, state->items, &state->handle));
+    PG_RETURN_POINTER(store(state->items, &state->handle));
 }
 
 /* --- Unions. --- */
@@ -366,7 +359,7 @@ static void flush(State *state)
     int32_t result;
     if (batch == NULL || batch->count == 0) return;
     before = MemoryContextSwitchTo(state->context);
-    result = merge_all(state->kind, &state->handle, batch->handles, batch->count);
+    result = ds_merge_all(&state->handle, batch->handles, batch->count);
     MemoryContextSwitchTo(before);
     check_result(result);
     for (size_t i = 0; i < batch->count; i++) ds_free(&batch->handles[i]);
@@ -391,32 +384,21 @@ static void add_image(State *state, const void *image, size_t bytes, uint64 seed
     MemoryContextSwitchTo(before);
 }
 
+PG_FUNCTION_INFO_V1(state_add_sketch);
+
 /* Adds a stored sketch to the state, or begins a state with it. A null is ignored. */
-static Datum add_sketch(FunctionCallInfo fcinfo, Kind kind)
+Datum state_add_sketch(PG_FUNCTION_ARGS)
 {
     State *state = state_argument(fcinfo, 0);
     Sketch *sketch;
     if (PG_ARGISNULL(1)) return state_result(fcinfo, state);
-    sketch = detoast_sketch(PG_GETARG_DATUM(1), kind);
-    if (state == NULL) state = new_state(fcinfo, kind, sketch->items);
+    sketch = detoast_sketch(PG_GETARG_DATUM(1), state == NULL ? ANY_KIND : state->kind);
+    if (state == NULL) state = new_state(fcinfo, kind_of(sketch), sketch->items);
     add_image(state, sketch->image, IMAGE_BYTES(sketch), seed_of(sketch), true);
     state->items |= sketch->items;
     PG_FREE_IF_COPY(sketch, 1);
     PG_RETURN_POINTER(state);
 }
-
-#define SKETCHES(name, kind) \
-    PG_FUNCTION_INFO_V1(name); \
-    Datum name(PG_FUNCTION_ARGS) \
-    { \
-        return add_sketch(fcinfo, kind); \
-    }
-
-SKETCHES(frequent_strings_add_sketch, FREQUENT_STRINGS)
-SKETCHES(frequent_bigints_add_sketch, FREQUENT_BIGINTS)
-SKETCHES(count_min_add_sketch, COUNT_MIN)
-SKETCHES(signed_count_min_add_sketch, SIGNED_COUNT_MIN)
-SKETCHES(bloom_filter_add_sketch, BLOOM_FILTER)
 
 /* --- The end of a group, and workers. --- */
 
@@ -429,7 +411,7 @@ Datum state_final(PG_FUNCTION_ARGS)
     aggregate_context(fcinfo);
     if (state == NULL) PG_RETURN_NULL();
     flush(state);
-    PG_RETURN_POINTER(store(state->kind, state->items, &state->handle));
+    PG_RETURN_POINTER(store(state->items, &state->handle));
 }
 
 PG_FUNCTION_INFO_V1(state_serial);
@@ -442,8 +424,8 @@ Datum state_serial(PG_FUNCTION_ARGS)
     uint64 seed;
     aggregate_context(fcinfo);
     flush(state);
-    seed = handle_seed(state->kind, &state->handle);
-    message = (Message *)write_image(state->kind, &state->handle, offsetof(Message, image));
+    seed = status_of(&state->handle).seed;
+    message = (Message *)write_image(&state->handle, offsetof(Message, image));
     message->kind = state->kind;
     message->items = state->items;
     memset(message->zero, 0, sizeof message->zero);

@@ -2,117 +2,77 @@
 #include "extension.h"
 #include "update.h"
 
-/* Returns a stored sketch from a handle, and frees the handle's. */
-static Datum stored(Kind kind, uint8 items, ds_sketch *handle)
+/* Reads the stored sketch of an argument into a handle that has no sketch. Returns the stored sketch, detoasted. */
+static const Sketch *read_argument(FunctionCallInfo fcinfo, int number, Kind kind, ds_sketch *handle)
 {
-    Sketch *sketch = store(kind, items, handle);
+    Sketch *sketch = detoast_sketch(PG_GETARG_DATUM(number), kind);
+    load(sketch, handle);
+    return sketch;
+}
+
+/* Returns a stored sketch from a handle, and frees the handle's. */
+static Datum stored(uint8 items, ds_sketch *handle)
+{
+    Sketch *sketch = store(items, handle);
     ds_free(handle);
     PG_RETURN_POINTER(sketch);
 }
 
-/* Returns the types of items of an empty sketch. A filter or counts get them with the first item. */
-static inline uint8 first_items(Kind kind)
-{
-    return kind == FREQUENT_STRINGS ? STRINGS : kind == FREQUENT_BIGINTS ? BIGINTS : NO_ITEMS;
-}
-
-/* --- Empty sketches. --- */
+/* --- Empty sketches. A filter or counts get types of items with the first item. --- */
 
 /* Returns an empty sketch of the sizes in the arguments. */
 static Datum empty(FunctionCallInfo fcinfo, Kind kind, Make make)
 {
     ds_sketch handle = DS_NONE;
     make(fcinfo, kind, &handle, 0);
-    return stored(kind, first_items(kind), &handle);
+    return stored(items_of(kind, NO_ITEMS), &handle);
 }
 
-#define EMPTY(name, kind, make) \
-    PG_FUNCTION_INFO_V1(name); \
-    Datum name(PG_FUNCTION_ARGS) \
-    { \
-        return empty(fcinfo, kind, make); \
-    }
 #define EMPTIES(type, kind, prefix) \
-    EMPTY(type##_empty_by_size, kind, prefix##_by_size) \
-    EMPTY(type##_empty_by_error, kind, prefix##_by_error)
+    FUNCTION(type##_empty_by_size, empty, kind, prefix##_by_size) \
+    FUNCTION(type##_empty_by_error, empty, kind, prefix##_by_error)
 
-EMPTIES(frequent_strings, FREQUENT_STRINGS, frequent)
-EMPTIES(frequent_bigints, FREQUENT_BIGINTS, frequent)
-EMPTIES(count_min, COUNT_MIN, count)
-EMPTIES(signed_count_min, SIGNED_COUNT_MIN, count)
-EMPTIES(bloom_filter, BLOOM_FILTER, filter)
+EMPTIES(frequent_strings, DS_FREQUENT_ITEMS_STRING, frequent)
+EMPTIES(frequent_bigints, DS_FREQUENT_ITEMS_I64, frequent)
+EMPTIES(count_min, DS_COUNT_MIN_U64, count)
+EMPTIES(signed_count_min, DS_COUNT_MIN_I64, count)
+EMPTIES(bloom_filter, DS_BLOOM, filter)
 
-void clear(Kind kind, ds_sketch *handle)
-{
-    ds_count_min_status status = {0};
-    switch (kind) {
-    case FREQUENT_STRINGS: check_result(ds_frequent_items_string_reset(handle)); break;
-    case FREQUENT_BIGINTS: check_result(ds_frequent_items_i64_reset(handle)); break;
-    case COUNT_MIN:
-        check_result(ds_count_min_u64_get_status(handle, &status));
-        check_result(ds_count_min_u64_new(handle, status.num_hashes, status.num_buckets, status.seed));
-        break;
-    case SIGNED_COUNT_MIN:
-        check_result(ds_count_min_i64_get_status(handle, &status));
-        check_result(ds_count_min_i64_new(handle, status.num_hashes, status.num_buckets, status.seed));
-        break;
-    case BLOOM_FILTER: check_result(ds_bloom_reset(handle)); break;
-    }
-}
+PG_FUNCTION_INFO_V1(sketch_reset);
 
 /* Returns an empty sketch of the sizes and the seed of another one. */
-static Datum reset(FunctionCallInfo fcinfo, Kind kind)
+Datum sketch_reset(PG_FUNCTION_ARGS)
 {
     ds_sketch handle = DS_NONE;
-    read_argument(fcinfo, 0, kind, &handle);
-    clear(kind, &handle);
-    return stored(kind, first_items(kind), &handle);
+    Kind kind = kind_of(read_argument(fcinfo, 0, ANY_KIND, &handle));
+    check_result(ds_reset(&handle));
+    return stored(items_of(kind, NO_ITEMS), &handle);
 }
-
-#define RESET(type, kind) \
-    PG_FUNCTION_INFO_V1(type##_reset); \
-    Datum type##_reset(PG_FUNCTION_ARGS) \
-    { \
-        return reset(fcinfo, kind); \
-    }
-
-RESET(frequent_strings, FREQUENT_STRINGS)
-RESET(frequent_bigints, FREQUENT_BIGINTS)
-RESET(count_min, COUNT_MIN)
-RESET(signed_count_min, SIGNED_COUNT_MIN)
-RESET(bloom_filter, BLOOM_FILTER)
 
 /* --- One more item. --- */
 
 /* Returns a sketch with an item added: the second argument, with the weight in the third one, which filters do not have. */
 static Datum with_item(FunctionCallInfo fcinfo, Kind kind, uint8 items)
 {
-    int64 weight = kind == BLOOM_FILTER ? 1 : PG_GETARG_INT64(2);
+    int64 weight = kind == DS_BLOOM ? 1 : PG_GETARG_INT64(2);
     ds_sketch handle = DS_NONE;
-    Sketch *sketch = read_argument(fcinfo, 0, kind, &handle);
+    const Sketch *sketch = read_argument(fcinfo, 0, kind, &handle);
     check_equality(fcinfo, 1);
     check_items(sketch, items);
     check_weight(kind, weight);
     check_result(items == STRINGS ? add_string(kind, &handle, string_argument(fcinfo, 1), weight)
                                   : add_bigint(kind, &handle, PG_GETARG_INT64(1), weight));
-    return stored(kind, sketch->items | items, &handle);
+    return stored(sketch->items | items, &handle);
 }
 
-#define WITH_ITEM(name, kind, items) \
-    PG_FUNCTION_INFO_V1(name); \
-    Datum name(PG_FUNCTION_ARGS) \
-    { \
-        return with_item(fcinfo, kind, items); \
-    }
-
-WITH_ITEM(frequent_strings_with_item, FREQUENT_STRINGS, STRINGS)
-WITH_ITEM(frequent_bigints_with_item, FREQUENT_BIGINTS, BIGINTS)
-WITH_ITEM(count_min_with_string, COUNT_MIN, STRINGS)
-WITH_ITEM(count_min_with_bigint, COUNT_MIN, BIGINTS)
-WITH_ITEM(signed_count_min_with_string, SIGNED_COUNT_MIN, STRINGS)
-WITH_ITEM(signed_count_min_with_bigint, SIGNED_COUNT_MIN, BIGINTS)
-WITH_ITEM(bloom_filter_with_string, BLOOM_FILTER, STRINGS)
-WITH_ITEM(bloom_filter_with_bigint, BLOOM_FILTER, BIGINTS)
+FUNCTION(frequent_strings_with_item, with_item, DS_FREQUENT_ITEMS_STRING, STRINGS)
+FUNCTION(frequent_bigints_with_item, with_item, DS_FREQUENT_ITEMS_I64, BIGINTS)
+FUNCTION(count_min_with_string, with_item, DS_COUNT_MIN_U64, STRINGS)
+FUNCTION(count_min_with_bigint, with_item, DS_COUNT_MIN_U64, BIGINTS)
+FUNCTION(signed_count_min_with_string, with_item, DS_COUNT_MIN_I64, STRINGS)
+FUNCTION(signed_count_min_with_bigint, with_item, DS_COUNT_MIN_I64, BIGINTS)
+FUNCTION(bloom_filter_with_string, with_item, DS_BLOOM, STRINGS)
+FUNCTION(bloom_filter_with_bigint, with_item, DS_BLOOM, BIGINTS)
 
 /* --- Smaller weights. --- */
 
@@ -122,9 +82,9 @@ PG_FUNCTION_INFO_V1(count_min_halve);
 Datum count_min_halve(PG_FUNCTION_ARGS)
 {
     ds_sketch handle = DS_NONE;
-    Sketch *sketch = read_argument(fcinfo, 0, COUNT_MIN, &handle);
+    const Sketch *sketch = read_argument(fcinfo, 0, DS_COUNT_MIN_U64, &handle);
     check_result(ds_count_min_u64_halve(&handle));
-    return stored(COUNT_MIN, sketch->items, &handle);
+    return stored(sketch->items, &handle);
 }
 
 PG_FUNCTION_INFO_V1(count_min_decay);
@@ -134,12 +94,25 @@ Datum count_min_decay(PG_FUNCTION_ARGS)
 {
     int64 numerator = PG_GETARG_INT64(1), denominator = PG_GETARG_INT64(2);
     ds_sketch handle = DS_NONE;
-    Sketch *sketch = read_argument(fcinfo, 0, COUNT_MIN, &handle);
+    const Sketch *sketch = read_argument(fcinfo, 0, DS_COUNT_MIN_U64, &handle);
     check_result(numerator < 0 || denominator < 0 ? DS_BAD_FRACTION : ds_count_min_u64_decay(&handle, numerator, denominator));
-    return stored(COUNT_MIN, sketch->items, &handle);
+    return stored(sketch->items, &handle);
 }
 
-/* --- Parts of a filter. --- */
+/* --- Two sketches. --- */
+
+PG_FUNCTION_INFO_V1(sketch_union);
+
+/* Returns the union of two sketches of one kind. */
+Datum sketch_union(PG_FUNCTION_ARGS)
+{
+    ds_sketch handle = DS_NONE, other = DS_NONE;
+    const Sketch *sketch = read_argument(fcinfo, 0, ANY_KIND, &handle);
+    uint8 items = sketch->items | read_argument(fcinfo, 1, kind_of(sketch), &other)->items;
+    check_result(ds_merge(&handle, &other));
+    ds_free(&other);
+    return stored(items, &handle);
+}
 
 /* A call of the library that leaves a part of the first filter. */
 typedef int32_t (*Leave)(ds_sketch *handle, ds_sketch *other);
@@ -149,27 +122,14 @@ typedef int32_t (*Leave)(ds_sketch *handle, ds_sketch *other);
 static Datum part(FunctionCallInfo fcinfo, Leave leave, bool is_common)
 {
     ds_sketch handle = DS_NONE, other = DS_NONE;
-    uint8 items = read_argument(fcinfo, 0, BLOOM_FILTER, &handle)->items;
-    uint8 others = read_argument(fcinfo, 1, BLOOM_FILTER, &other)->items;
+    uint8 items = read_argument(fcinfo, 0, DS_BLOOM, &handle)->items;
+    uint8 others = read_argument(fcinfo, 1, DS_BLOOM, &other)->items;
     if ((items & others) == NO_ITEMS && items != NO_ITEMS && others != NO_ITEMS)
         raise_items("one filter has strings as items, the other one bigints");
     check_result(leave(&handle, &other));
     ds_free(&other);
-    return stored(BLOOM_FILTER, is_common ? items & others : items, &handle);
+    return stored(is_common ? items & others : items, &handle);
 }
 
-PG_FUNCTION_INFO_V1(bloom_filter_intersection);
-
-/* Returns the intersection of two filters. */
-Datum bloom_filter_intersection(PG_FUNCTION_ARGS)
-{
-    return part(fcinfo, ds_bloom_intersect, true);
-}
-
-PG_FUNCTION_INFO_V1(bloom_filter_difference);
-
-/* Returns the first filter without the positions of the second one. */
-Datum bloom_filter_difference(PG_FUNCTION_ARGS)
-{
-    return part(fcinfo, ds_bloom_difference, false);
-}
+FUNCTION(bloom_filter_intersection, part, ds_bloom_intersect, true)
+FUNCTION(bloom_filter_difference, part, ds_bloom_difference, false)

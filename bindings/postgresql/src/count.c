@@ -19,7 +19,7 @@ typedef int32_t (*SignedOfBigint)(ds_sketch *handle, int64_t item, int64_t *numb
 
 static Datum of_string(FunctionCallInfo fcinfo, OfString call)
 {
-    ds_sketch *handle = counts(fcinfo, COUNT_MIN, STRINGS);
+    ds_sketch *handle = counts(fcinfo, DS_COUNT_MIN_U64, STRINGS);
     ds_string item = string_argument(fcinfo, 1);
     uint64_t number = 0;
     check_result(call(handle, item.bytes, item.length, &number));
@@ -29,13 +29,13 @@ static Datum of_string(FunctionCallInfo fcinfo, OfString call)
 static Datum of_bigint(FunctionCallInfo fcinfo, OfBigint call)
 {
     uint64_t number = 0;
-    check_result(call(counts(fcinfo, COUNT_MIN, BIGINTS), PG_GETARG_INT64(1), &number));
+    check_result(call(counts(fcinfo, DS_COUNT_MIN_U64, BIGINTS), PG_GETARG_INT64(1), &number));
     PG_RETURN_INT64(as_bigint(number));
 }
 
 static Datum signed_of_string(FunctionCallInfo fcinfo, SignedOfString call)
 {
-    ds_sketch *handle = counts(fcinfo, SIGNED_COUNT_MIN, STRINGS);
+    ds_sketch *handle = counts(fcinfo, DS_COUNT_MIN_I64, STRINGS);
     ds_string item = string_argument(fcinfo, 1);
     int64_t number = 0;
     check_result(call(handle, item.bytes, item.length, &number));
@@ -45,35 +45,26 @@ static Datum signed_of_string(FunctionCallInfo fcinfo, SignedOfString call)
 static Datum signed_of_bigint(FunctionCallInfo fcinfo, SignedOfBigint call)
 {
     int64_t number = 0;
-    check_result(call(counts(fcinfo, SIGNED_COUNT_MIN, BIGINTS), PG_GETARG_INT64(1), &number));
+    check_result(call(counts(fcinfo, DS_COUNT_MIN_I64, BIGINTS), PG_GETARG_INT64(1), &number));
     PG_RETURN_INT64(number);
 }
 
-#define QUERY(name, query, call) \
-    PG_FUNCTION_INFO_V1(name); \
-    Datum name(PG_FUNCTION_ARGS) \
-    { \
-        return query(fcinfo, call); \
-    }
-
-QUERY(count_min_estimate_string, of_string, ds_count_min_u64_estimate_string)
-QUERY(count_min_estimate_bigint, of_bigint, ds_count_min_u64_estimate_i64)
-QUERY(count_min_upper_bound_string, of_string, ds_count_min_u64_upper_bound_string)
-QUERY(count_min_upper_bound_bigint, of_bigint, ds_count_min_u64_upper_bound_i64)
-QUERY(signed_count_min_estimate_string, signed_of_string, ds_count_min_i64_estimate_string)
-QUERY(signed_count_min_estimate_bigint, signed_of_bigint, ds_count_min_i64_estimate_i64)
-QUERY(signed_count_min_upper_bound_string, signed_of_string, ds_count_min_i64_upper_bound_string)
-QUERY(signed_count_min_upper_bound_bigint, signed_of_bigint, ds_count_min_i64_upper_bound_i64)
+FUNCTION(count_min_estimate_string, of_string, ds_count_min_u64_estimate_string)
+FUNCTION(count_min_estimate_bigint, of_bigint, ds_count_min_u64_estimate_i64)
+FUNCTION(count_min_upper_bound_string, of_string, ds_count_min_u64_upper_bound_string)
+FUNCTION(count_min_upper_bound_bigint, of_bigint, ds_count_min_u64_upper_bound_i64)
+FUNCTION(signed_count_min_estimate_string, signed_of_string, ds_count_min_i64_estimate_string)
+FUNCTION(signed_count_min_estimate_bigint, signed_of_bigint, ds_count_min_i64_estimate_i64)
+FUNCTION(signed_count_min_upper_bound_string, signed_of_string, ds_count_min_i64_upper_bound_string)
+FUNCTION(signed_count_min_upper_bound_bigint, signed_of_bigint, ds_count_min_i64_upper_bound_i64)
 
 /* Returns a sketch's numbers as a row. */
-static Datum status_of(FunctionCallInfo fcinfo, Kind kind)
+static Datum status_row(FunctionCallInfo fcinfo, Kind kind)
 {
     Kept *kept = kept_handle(fcinfo, kind);
-    ds_count_min_status status = {0};
+    ds_status status = status_of(&kept->handle);
     bool nulls[5] = {false, false, false, false, false};
     Datum values[5];
-    if (kind == COUNT_MIN) check_result(ds_count_min_u64_get_status(&kept->handle, &status));
-    else check_result(ds_count_min_i64_get_status(&kept->handle, &status));
     values[0] = Int64GetDatum(as_bigint(status.total_weight));
     values[1] = Int32GetDatum((int32)status.num_hashes);
     values[2] = Int64GetDatum((int64)status.num_buckets);
@@ -82,18 +73,5 @@ static Datum status_of(FunctionCallInfo fcinfo, Kind kind)
     return kept_row(fcinfo, values, nulls);
 }
 
-PG_FUNCTION_INFO_V1(count_min_status);
-
-/* Returns the numbers of a sketch with weights from 0 on. */
-Datum count_min_status(PG_FUNCTION_ARGS)
-{
-    return status_of(fcinfo, COUNT_MIN);
-}
-
-PG_FUNCTION_INFO_V1(signed_count_min_status);
-
-/* Returns the numbers of a sketch with weights that may be below 0. */
-Datum signed_count_min_status(PG_FUNCTION_ARGS)
-{
-    return status_of(fcinfo, SIGNED_COUNT_MIN);
-}
+FUNCTION(count_min_status, status_row, DS_COUNT_MIN_U64)
+FUNCTION(signed_count_min_status, status_row, DS_COUNT_MIN_I64)

@@ -17,8 +17,6 @@
 /* A bigint, a number with fraction and a pointer each fit a Datum: the library is built for 64 bits. */
 StaticAssertDecl(SIZEOF_DATUM == 8, "a Datum has 64 bits");
 
-/* The seed under which filters and counts hash unless an image has another: the library's default. */
-#define DEFAULT_SEED 9001
 #define DEFAULT_MAX_MAP_SIZE 1024
 
 /* What a slot of a table of strings takes, by the formula of `ds_memory_bytes`. */
@@ -78,18 +76,34 @@ int64 as_bigint(uint64 number);
 
 /* --- sketch.c --- */
 
-/* The kinds of sketches, a type each. The numbers are stored. */
-typedef enum Kind { FREQUENT_STRINGS = 1, FREQUENT_BIGINTS = 2, COUNT_MIN = 3, SIGNED_COUNT_MIN = 4, BLOOM_FILTER = 5 } Kind;
+/* A kind of sketches, by the library's number: DS_BLOOM, DS_COUNT_MIN_U64, DS_COUNT_MIN_I64, DS_FREQUENT_ITEMS_I64 or
+ * DS_FREQUENT_ITEMS_STRING. Each has a type. */
+typedef int32_t Kind;
+
+/* Passed in place of a kind, for a stored sketch of any kind. */
+#define ANY_KIND 0
+
+/* Returns whether a kind is one of frequent items. */
+static inline bool is_frequent(Kind kind)
+{
+    return kind == DS_FREQUENT_ITEMS_STRING || kind == DS_FREQUENT_ITEMS_I64;
+}
 
 /* The types of a sketch's items, as bits. Filters and counts may have both, and have none before their first item. The numbers are
  * stored. */
 enum { NO_ITEMS = 0, STRINGS = 1, BIGINTS = 2 };
 
+/* Returns the type of items that a kind of frequent items has, or `others` for another kind. */
+static inline uint8 items_of(Kind kind, uint8 others)
+{
+    return kind == DS_FREQUENT_ITEMS_STRING ? STRINGS : kind == DS_FREQUENT_ITEMS_I64 ? BIGINTS : others;
+}
+
 /* A stored sketch: a header and the image that all interfaces of the library read and write. */
 typedef struct Sketch {
     int32 length;    /* PostgreSQL's own: of the whole */
     uint8 format[4]; /* "SKR" and the version of this format */
-    uint8 kind;
+    uint8 kind;      /* a number of the stored form: see `kind_of` */
     uint8 items;
     uint8 zero[2];
     uint8 seed[8];     /* of Count-Min, whose image has only a hash of it, and 0 otherwise; lowest byte first */
@@ -125,8 +139,7 @@ static inline size_t limit_of_all(void)
 /* Returns the limit of a kind, for which strings count in part. */
 static inline size_t limit_of(Kind kind)
 {
-    bool is_frequent = kind == FREQUENT_STRINGS || kind == FREQUENT_BIGINTS;
-    return is_frequent ? Min(limit_of_all(), (size_t)max_frequent_bytes) : limit_of_all();
+    return is_frequent(kind) ? Min(limit_of_all(), (size_t)max_frequent_bytes) : limit_of_all();
 }
 
 /* Raises the error of a sketch that exceeds a limit. `bytes` is 0 if they are not known. */
@@ -145,29 +158,26 @@ void read_image(Kind kind, ds_sketch *handle, const void *image, size_t length, 
 /* Returns the bytes that a handle's sketch takes. */
 size_t bytes_of(ds_sketch *handle);
 
-/* Returns the seed of a handle's sketch if it is one of Count-Min, or 0. */
-uint64 handle_seed(Kind kind, ds_sketch *handle);
+/* Returns the numbers of a handle's sketch. */
+ds_status status_of(ds_sketch *handle);
 
 /* Writes the image of a handle's sketch after `header` bytes, which the caller fills. Returns the whole as a new varlena. */
-struct varlena *write_image(Kind kind, ds_sketch *handle, size_t header);
-
-/* Merges other sketches of the kind into the handle's. Allocates in the current context. Returns the library's result. */
-int32_t merge_all(Kind kind, ds_sketch *handle, ds_sketch *others, size_t count);
+struct varlena *write_image(ds_sketch *handle, size_t header);
 
 /* Raises an error if a handle's sketch exceeds the limits of its kind. */
-void check_limit(Kind kind, ds_sketch *handle);
+void check_limit(ds_sketch *handle);
 
 /* Returns a stored sketch from a handle. Raises an error if the sketch exceeds the limit. */
-Sketch *store(Kind kind, uint8 items, ds_sketch *handle);
+Sketch *store(uint8 items, ds_sketch *handle);
 
-/* Returns a stored sketch, detoasted. Raises an error if its header or its checksum is wrong. */
+/* Returns the kind of a stored sketch, or 0 if its header has none. */
+Kind kind_of(const Sketch *sketch);
+
+/* Returns a stored sketch of a kind, or of ANY_KIND, detoasted. Raises an error if its header or its checksum is wrong. */
 Sketch *detoast_sketch(Datum datum, Kind kind);
 
 /* Reads a stored sketch, whose checksum was verified, into a handle that has no sketch. */
-void load(Sketch *sketch, ds_sketch *handle);
-
-/* Reads the stored sketch of an argument into a handle that has no sketch. Returns the stored sketch, detoasted. */
-Sketch *read_argument(FunctionCallInfo fcinfo, int number, Kind kind, ds_sketch *handle);
+void load(const Sketch *sketch, ds_sketch *handle);
 
 /* The encoding of the database, or -1 if no string was read yet. */
 extern int database_encoding;
@@ -217,11 +227,6 @@ void count_by_error(FunctionCallInfo fcinfo, Kind kind, ds_sketch *handle, int n
 void filter_by_size(FunctionCallInfo fcinfo, Kind kind, ds_sketch *handle, int number);
 void filter_by_error(FunctionCallInfo fcinfo, Kind kind, ds_sketch *handle, int number);
 
-/* --- changes.c --- */
-
-/* Removes all items of a handle's sketch. It keeps its sizes and its seed. Allocates in the current context. */
-void clear(Kind kind, ds_sketch *handle);
-
 /* --- equality.c --- */
 
 /* Raises an error if the equality of an argument's collation or type is not that of the bytes of its text. */
@@ -254,5 +259,13 @@ Kept *kept_handle(FunctionCallInfo fcinfo, Kind kind);
 Datum kept_row(FunctionCallInfo fcinfo, Datum *values, bool *nulls);
 
 #pragma GCC visibility pop
+
+/* Defines a function of SQL that passes its call on, with more arguments. */
+#define FUNCTION(name, call, ...) \
+    PG_FUNCTION_INFO_V1(name); \
+    Datum name(PG_FUNCTION_ARGS) \
+    { \
+        return call(fcinfo, __VA_ARGS__); \
+    }
 
 #endif

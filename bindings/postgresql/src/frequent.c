@@ -15,7 +15,7 @@ static ds_frequent_items_bounds bounds_of(FunctionCallInfo fcinfo, Kind kind)
     Kept *kept = kept_handle(fcinfo, kind);
     ds_frequent_items_bounds bounds = {0, 0, 0};
     int32_t result;
-    if (kind == FREQUENT_STRINGS) {
+    if (kind == DS_FREQUENT_ITEMS_STRING) {
         ds_string item = string_argument(fcinfo, 1);
         result = ds_frequent_items_string_bounds(&kept->handle, item.bytes, item.length, &bounds);
     } else {
@@ -92,35 +92,32 @@ static void *room_for(size_t count, size_t bytes)
 /* Returns the rows of a sketch of bigints. */
 static Rows bigint_rows(ds_sketch *handle, bool negatives, uint64 threshold)
 {
-    ds_frequent_items_status status = {0};
+    size_t count = status_of(handle).num_active_items;
     Rows rows = {0};
-    check_result(ds_frequent_items_i64_get_status(handle, &status));
-    rows.bounds = room_for(status.num_active_items, sizeof *rows.bounds);
-    rows.bigints = room_for(status.num_active_items, sizeof *rows.bigints);
-    check_result(ds_frequent_items_i64_rows(handle, negatives, threshold, rows.bigints, status.num_active_items, rows.bounds,
-                                            status.num_active_items, &rows.count));
+    rows.bounds = room_for(count, sizeof *rows.bounds);
+    rows.bigints = room_for(count, sizeof *rows.bigints);
+    check_result(ds_frequent_items_i64_rows(handle, negatives, threshold, rows.bigints, count, rows.bounds, count, &rows.count));
     return rows;
 }
 
 /* Returns the rows of a sketch of strings, whose bytes take at most `num_bytes`. */
 static Rows string_rows(ds_sketch *handle, bool negatives, uint64 threshold, size_t num_bytes)
 {
-    ds_frequent_items_status status = {0};
+    size_t count = status_of(handle).num_active_items;
     Rows rows = {0};
-    check_result(ds_frequent_items_string_get_status(handle, &status));
-    rows.bounds = room_for(status.num_active_items, sizeof *rows.bounds);
-    rows.offsets = room_for(status.num_active_items + 1, sizeof *rows.offsets);
+    rows.bounds = room_for(count, sizeof *rows.bounds);
+    rows.offsets = room_for(count + 1, sizeof *rows.offsets);
     rows.bytes = room_for(num_bytes, 1);
-    check_result(ds_frequent_items_string_rows(handle, negatives, threshold, rows.bytes, num_bytes, rows.offsets,
-                                               status.num_active_items + 1, rows.bounds, status.num_active_items, &rows.count,
-                                               &num_bytes));
+    check_result(ds_frequent_items_string_rows(handle, negatives, threshold, rows.bytes, num_bytes, rows.offsets, count + 1,
+                                               rows.bounds, count, &rows.count, &num_bytes));
     return rows;
 }
 
 /* Puts the rows of a sketch into the call's result, in descending order of estimates. */
 static Datum rows_of(FunctionCallInfo fcinfo, Kind kind)
 {
-    bool negatives = no_false_negatives(fcinfo), nulls[4] = {false, false, false, false};
+    bool negatives = no_false_negatives(fcinfo), has_strings = kind == DS_FREQUENT_ITEMS_STRING;
+    bool nulls[4] = {false, false, false, false};
     int64 threshold = PG_GETARG_INT64(2);
     ds_sketch handle = DS_NONE;
     TupleDesc row;
@@ -131,19 +128,19 @@ static Datum rows_of(FunctionCallInfo fcinfo, Kind kind)
     store = begin_rows(fcinfo, &row);
     sketch = detoast_sketch(PG_GETARG_DATUM(0), kind);
     load(sketch, &handle);
-    rows = kind == FREQUENT_STRINGS ? string_rows(&handle, negatives, threshold, IMAGE_BYTES(sketch))
-                                    : bigint_rows(&handle, negatives, threshold);
+    rows =
+        has_strings ? string_rows(&handle, negatives, threshold, IMAGE_BYTES(sketch)) : bigint_rows(&handle, negatives, threshold);
     ds_free(&handle);
     for (size_t i = 0; i < rows.count; i++) {
         Datum values[4];
         CHECK_FOR_INTERRUPTS();
-        values[0] = kind == FREQUENT_STRINGS ? string_value(rows.bytes + rows.offsets[i], rows.offsets[i + 1] - rows.offsets[i])
-                                             : Int64GetDatum(rows.bigints[i]);
+        values[0] = has_strings ? string_value(rows.bytes + rows.offsets[i], rows.offsets[i + 1] - rows.offsets[i])
+                                : Int64GetDatum(rows.bigints[i]);
         values[1] = Int64GetDatum(as_bigint(rows.bounds[i].estimate));
         values[2] = Int64GetDatum(as_bigint(rows.bounds[i].lower_bound));
         values[3] = Int64GetDatum(as_bigint(rows.bounds[i].upper_bound));
         tuplestore_putvalues(store, row, values, nulls);
-        if (kind == FREQUENT_STRINGS) pfree(DatumGetPointer(values[0]));
+        if (has_strings) pfree(DatumGetPointer(values[0]));
     }
     return (Datum)0;
 }
@@ -151,14 +148,12 @@ static Datum rows_of(FunctionCallInfo fcinfo, Kind kind)
 /* --- Status. --- */
 
 /* Returns a sketch's numbers as a row. */
-static Datum status_of(FunctionCallInfo fcinfo, Kind kind)
+static Datum status_row(FunctionCallInfo fcinfo, Kind kind)
 {
     Kept *kept = kept_handle(fcinfo, kind);
-    ds_frequent_items_status status = {0};
+    ds_status status = status_of(&kept->handle);
     bool nulls[6] = {false, false, false, false, false, false};
     Datum values[6];
-    if (kind == FREQUENT_STRINGS) check_result(ds_frequent_items_string_get_status(&kept->handle, &status));
-    else check_result(ds_frequent_items_i64_get_status(&kept->handle, &status));
     values[0] = Int64GetDatum(as_bigint(status.total_weight));
     values[1] = Int64GetDatum(as_bigint(status.maximum_error));
     values[2] = Int64GetDatum(as_bigint(status.num_active_items));
@@ -168,37 +163,19 @@ static Datum status_of(FunctionCallInfo fcinfo, Kind kind)
     return kept_row(fcinfo, values, nulls);
 }
 
-#define QUERIES(type, kind) \
-    PG_FUNCTION_INFO_V1(type##_lower_bound); \
-    Datum type##_lower_bound(PG_FUNCTION_ARGS) \
+#define BOUND(name, kind, bound) \
+    PG_FUNCTION_INFO_V1(name); \
+    Datum name(PG_FUNCTION_ARGS) \
     { \
-        PG_RETURN_INT64(as_bigint(bounds_of(fcinfo, kind).lower_bound)); \
-    } \
-    PG_FUNCTION_INFO_V1(type##_estimate); \
-    Datum type##_estimate(PG_FUNCTION_ARGS) \
-    { \
-        PG_RETURN_INT64(as_bigint(bounds_of(fcinfo, kind).estimate)); \
-    } \
-    PG_FUNCTION_INFO_V1(type##_upper_bound); \
-    Datum type##_upper_bound(PG_FUNCTION_ARGS) \
-    { \
-        PG_RETURN_INT64(as_bigint(bounds_of(fcinfo, kind).upper_bound)); \
-    } \
-    PG_FUNCTION_INFO_V1(type##_bounds); \
-    Datum type##_bounds(PG_FUNCTION_ARGS) \
-    { \
-        return bounds_row(fcinfo, kind); \
-    } \
-    PG_FUNCTION_INFO_V1(type##_rows); \
-    Datum type##_rows(PG_FUNCTION_ARGS) \
-    { \
-        return rows_of(fcinfo, kind); \
-    } \
-    PG_FUNCTION_INFO_V1(type##_status); \
-    Datum type##_status(PG_FUNCTION_ARGS) \
-    { \
-        return status_of(fcinfo, kind); \
+        PG_RETURN_INT64(as_bigint(bounds_of(fcinfo, kind).bound)); \
     }
+#define QUERIES(type, kind) \
+    BOUND(type##_lower_bound, kind, lower_bound) \
+    BOUND(type##_estimate, kind, estimate) \
+    BOUND(type##_upper_bound, kind, upper_bound) \
+    FUNCTION(type##_bounds, bounds_row, kind) \
+    FUNCTION(type##_rows, rows_of, kind) \
+    FUNCTION(type##_status, status_row, kind)
 
-QUERIES(frequent_strings, FREQUENT_STRINGS)
-QUERIES(frequent_bigints, FREQUENT_BIGINTS)
+QUERIES(frequent_strings, DS_FREQUENT_ITEMS_STRING)
+QUERIES(frequent_bigints, DS_FREQUENT_ITEMS_I64)

@@ -34,20 +34,20 @@ static Node *without_cast(Node *item)
 }
 
 /* Returns the share of a column's values that a filter contains, by its number of items and its false-positive rate. */
-static double modelled(ds_bloom_status status, VariableStatData *column)
+static double modelled(ds_status status, VariableStatData *column)
 {
-    double fill = (double)status.bits_used / (double)status.capacity;
+    double fill = (double)status.bits_used / (double)status.num_bits;
     double false_positives = pow(fill, status.num_hashes), items, distinct, share = DEFAULT_SHARE;
     bool is_default = true;
-    if (status.bits_used == status.capacity) return 1;
-    items = -(double)status.capacity / status.num_hashes * log1p(-fill);
+    if (status.bits_used == status.num_bits) return 1;
+    items = -(double)status.num_bits / status.num_hashes * log1p(-fill);
     distinct = get_variable_numdistinct(column, &is_default);
     if (!is_default && distinct >= 1) share = Min(1, items / distinct);
     return share + (1 - share) * false_positives;
 }
 
 /* Returns the share of rows of a column that a filter contains. */
-static double estimated(ds_bloom_status status, VariableStatData *column, FmgrInfo *contains, Oid collation, Datum filter)
+static double estimated(ds_status status, VariableStatData *column, FmgrInfo *contains, Oid collation, Datum filter)
 {
     double common = 0, of_common, others, nulls = 0;
     int size = 0;
@@ -63,13 +63,14 @@ static double estimated(ds_bloom_status status, VariableStatData *column, FmgrIn
 }
 
 /* Reads the numbers of a filter. Returns whether it is within the limit. */
-static bool read_status(const Sketch *sketch, ds_bloom_status *status)
+static bool read_status(const Sketch *sketch, ds_status *status)
 {
     ds_sketch handle = DS_NONE;
-    int32_t result = ds_bloom_deserialize(&handle, sketch->image, IMAGE_BYTES(sketch), limit_of(BLOOM_FILTER));
+    ds_image_options options = {.max_bytes = limit_of(DS_BLOOM)};
+    int32_t result = ds_deserialize(&handle, DS_BLOOM, sketch->image, IMAGE_BYTES(sketch), &options);
     if (result == DS_TABLE_TOO_LARGE) return false;
     check_result(result);
-    check_result(ds_bloom_get_status(&handle, status));
+    *status = status_of(&handle);
     ds_free(&handle);
     return true;
 }
@@ -77,9 +78,9 @@ static bool read_status(const Sketch *sketch, ds_bloom_status *status)
 /* Returns the share of rows for a filter that is known. One that exceeds the limit is not read. */
 static double known_share(SupportRequestSelectivity *request, Const *filter)
 {
-    Sketch *sketch = detoast_sketch(filter->constvalue, BLOOM_FILTER);
+    Sketch *sketch = detoast_sketch(filter->constvalue, DS_BLOOM);
     Datum value = PointerGetDatum(sketch);
-    ds_bloom_status status = {0};
+    ds_status status = {0};
     VariableStatData column;
     FmgrInfo contains;
     double share;

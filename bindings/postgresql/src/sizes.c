@@ -25,9 +25,8 @@ static void make_frequent(Kind kind, ds_sketch *handle, int64 max_map_size)
 {
     size_t sample = ds_frequent_items_max_sample_size(max_map_size);
     if (max_map_size < 0) check_result(DS_MAP_SIZE_TOO_SMALL);
-    check_bytes(limit_of(kind), (uint64)max_map_size * (kind == FREQUENT_STRINGS ? BYTES_OF_SLOT : 28));
-    check_result(kind == FREQUENT_STRINGS ? ds_frequent_items_string_new(handle, max_map_size, sample)
-                                          : ds_frequent_items_i64_new(handle, max_map_size, sample));
+    check_bytes(limit_of(kind), (uint64)max_map_size * (kind == DS_FREQUENT_ITEMS_STRING ? BYTES_OF_SLOT : 28));
+    check_result(ds_frequent_items_new(handle, kind, max_map_size, sample, NULL));
 }
 
 /* Makes a Count-Min sketch. */
@@ -36,8 +35,7 @@ static void make_count(Kind kind, ds_sketch *handle, int64 num_hashes, int64 num
     if (num_hashes < 0 || num_hashes > UINT8_MAX) check_result(DS_BAD_NUM_HASHES);
     if (num_buckets < 0) check_result(DS_BAD_NUM_BUCKETS);
     check_bytes(limit_of(kind), (uint64)num_hashes * (num_buckets + 1) * 8);
-    check_result(kind == COUNT_MIN ? ds_count_min_u64_new(handle, (uint8_t)num_hashes, (uint32_t)num_buckets, DEFAULT_SEED)
-                                   : ds_count_min_i64_new(handle, (uint8_t)num_hashes, (uint32_t)num_buckets, DEFAULT_SEED));
+    check_result(ds_count_min_new(handle, kind, (uint8_t)num_hashes, (uint32_t)num_buckets, DS_DEFAULT_SEED));
 }
 
 /* Makes a filter. */
@@ -46,7 +44,7 @@ static void make_filter(Kind kind, ds_sketch *handle, int64 num_bits, int64 num_
     if (num_bits < 0) check_result(DS_BAD_NUM_BITS);
     if (num_hashes < 0 || num_hashes > UINT16_MAX) check_result(DS_BAD_NUM_HASHES);
     check_bytes(limit_of(kind), (uint64)num_bits / 8);
-    check_result(ds_bloom_new(handle, num_bits, (uint16_t)num_hashes, DEFAULT_SEED));
+    check_result(ds_bloom_new(handle, num_bits, (uint16_t)num_hashes, DS_DEFAULT_SEED));
 }
 
 void frequent_by_size(FunctionCallInfo fcinfo, Kind kind, ds_sketch *handle, int number)

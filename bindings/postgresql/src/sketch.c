@@ -1,4 +1,4 @@
-/* Stored sketches: the calls of each kind, the header with its checksum, and the text, binary and bytea forms. */
+/* Stored sketches: the image, the header with its checksum, and the text, binary and bytea forms. */
 #include "extension.h"
 
 #include <ctype.h>
@@ -12,77 +12,27 @@
 #include "utils/lsyscache.h"
 #include "utils/memutils.h"
 
-/* --- The calls of each kind. --- */
-
-/* Returns the library's result of reading an image. */
-static int32_t deserialize(Kind kind, ds_sketch *handle, const uint8_t *image, size_t length, uint64 seed, size_t max_bytes)
-{
-    switch (kind) {
-    case FREQUENT_STRINGS: return ds_frequent_items_string_deserialize(handle, image, length, max_bytes);
-    case FREQUENT_BIGINTS: return ds_frequent_items_i64_deserialize(handle, image, length, max_bytes);
-    case COUNT_MIN: return ds_count_min_u64_deserialize(handle, image, length, seed, max_bytes);
-    case SIGNED_COUNT_MIN: return ds_count_min_i64_deserialize(handle, image, length, seed, max_bytes);
-    case BLOOM_FILTER: return ds_bloom_deserialize(handle, image, length, max_bytes);
-    }
-    return DS_WRONG_KIND;
-}
-
-/* Returns the library's result of writing an image. */
-static int32_t serialize(Kind kind, ds_sketch *handle, uint8_t *out, size_t capacity, size_t *written)
-{
-    switch (kind) {
-    case FREQUENT_STRINGS: return ds_frequent_items_string_serialize(handle, out, capacity, written);
-    case FREQUENT_BIGINTS: return ds_frequent_items_i64_serialize(handle, out, capacity, written);
-    case COUNT_MIN: return ds_count_min_u64_serialize(handle, out, capacity, written);
-    case SIGNED_COUNT_MIN: return ds_count_min_i64_serialize(handle, out, capacity, written);
-    case BLOOM_FILTER: return ds_bloom_serialize(handle, out, capacity, written);
-    }
-    return DS_WRONG_KIND;
-}
-
-/* Writes the length of a sketch's image. */
-static int32_t serialized_bytes(Kind kind, ds_sketch *handle, size_t *bytes)
-{
-    switch (kind) {
-    case FREQUENT_STRINGS: return ds_frequent_items_string_serialized_bytes(handle, bytes);
-    case FREQUENT_BIGINTS: return ds_frequent_items_i64_serialized_bytes(handle, bytes);
-    case COUNT_MIN: return ds_count_min_u64_serialized_bytes(handle, bytes);
-    case SIGNED_COUNT_MIN: return ds_count_min_i64_serialized_bytes(handle, bytes);
-    case BLOOM_FILTER: return ds_bloom_serialized_bytes(handle, bytes);
-    }
-    return DS_WRONG_KIND;
-}
-
-int32_t merge_all(Kind kind, ds_sketch *handle, ds_sketch *others, size_t count)
-{
-    switch (kind) {
-    case FREQUENT_STRINGS: return ds_frequent_items_string_merge_all(handle, others, count);
-    case FREQUENT_BIGINTS: return ds_frequent_items_i64_merge_all(handle, others, count);
-    case COUNT_MIN: return ds_count_min_u64_merge_all(handle, others, count);
-    case SIGNED_COUNT_MIN: return ds_count_min_i64_merge_all(handle, others, count);
-    case BLOOM_FILTER: return ds_bloom_union_all(handle, others, count);
-    }
-    return DS_WRONG_KIND;
-}
+/* --- Images. --- */
 
 void read_image(Kind kind, ds_sketch *handle, const void *image, size_t length, uint64 seed, bool has_limits)
 {
-    size_t uncounted = kind == FREQUENT_STRINGS ? check_zero_bytes(image, length) : 0;
+    size_t uncounted = kind == DS_FREQUENT_ITEMS_STRING ? check_zero_bytes(image, length) : 0;
     size_t max_bytes = Min(limit_of_all(), limit_of(kind) + uncounted);
-    int32_t result = deserialize(kind, handle, image, length, seed, has_limits ? max_bytes : SIZE_MAX);
+    ds_image_options options = {.max_bytes = has_limits ? max_bytes : SIZE_MAX, .seed = seed};
+    int32_t result = ds_deserialize(handle, kind, image, length, &options);
     if (result == DS_TABLE_TOO_LARGE && has_limits) raise_limit(max_bytes == limit_of_all() ? max_bytes : limit_of(kind), 0);
     check_result(result);
     CHECK_FOR_INTERRUPTS();
 }
 
-struct varlena *write_image(Kind kind, ds_sketch *handle, size_t header)
+struct varlena *write_image(ds_sketch *handle, size_t header)
 {
     struct varlena *whole;
     size_t bytes = 0;
-    check_result(serialized_bytes(kind, handle, &bytes));
+    check_result(ds_serialized_bytes(handle, &bytes));
     if (bytes > MaxAllocSize - header) raise_stored(bytes);
     whole = palloc_extended(header + bytes, MCXT_ALLOC_HUGE);
-    check_result(serialize(kind, handle, (uint8_t *)whole + header, bytes, &bytes));
+    check_result(ds_serialize(handle, (uint8_t *)whole + header, bytes, &bytes));
     SET_VARSIZE(whole, header + bytes);
     CHECK_FOR_INTERRUPTS();
     return whole;
@@ -91,6 +41,22 @@ struct varlena *write_image(Kind kind, ds_sketch *handle, size_t header)
 /* --- The header. --- */
 
 static const uint8 format[4] = {'S', 'K', 'R', 1};
+
+/* The kinds by their numbers in stored sketches. */
+static const uint8 kinds[] = {0, DS_FREQUENT_ITEMS_STRING, DS_FREQUENT_ITEMS_I64, DS_COUNT_MIN_U64, DS_COUNT_MIN_I64, DS_BLOOM};
+
+Kind kind_of(const Sketch *sketch)
+{
+    return sketch->kind < lengthof(kinds) ? kinds[sketch->kind] : 0;
+}
+
+/* Returns the number of a kind in stored sketches. */
+static uint8 number_of(Kind kind)
+{
+    uint8 number = 1;
+    while (number < lengthof(kinds) && kinds[number] != kind) number++;
+    return number;
+}
 
 /* The checksum of a large sketch is computed in blocks, and interrupts are checked between them. */
 #define BLOCK (16 * 1024 * 1024)
@@ -110,36 +76,34 @@ static pg_crc32c checksum_of(const Sketch *sketch)
     return crc;
 }
 
-/* Writes the header of a sketch whose image is written. */
-static Sketch *finish(struct varlena *whole, Kind kind, uint8 items, uint64 seed)
+/* Writes the checksum of a sketch. */
+static void write_checksum(Sketch *sketch)
 {
-    Sketch *sketch = (Sketch *)whole;
-    pg_crc32c crc;
-    memcpy(sketch->format, format, sizeof format);
-    sketch->kind = kind;
-    sketch->items = items;
-    memset(sketch->zero, 0, sizeof sketch->zero);
-    for (int i = 0; i < 8; i++) sketch->seed[i] = seed >> 8 * i & 0xff;
-    crc = checksum_of(sketch);
+    pg_crc32c crc = checksum_of(sketch);
     for (int i = 0; i < 4; i++) sketch->checksum[i] = crc >> 8 * i & 0xff;
-    return sketch;
+}
+
+/* Returns whether sketches of a kind are stored with their seed. */
+static bool has_seed(Kind kind)
+{
+    return kind == DS_COUNT_MIN_U64 || kind == DS_COUNT_MIN_I64;
 }
 
 /* The bytes of the image of a filter without set bits, and of counts with the total weight 0. */
 #define EMPTY_FILTER 24
 #define EMPTY_COUNTS 16
 
-/* Returns whether a header is one that this version writes for the kind. */
+/* Returns whether a header is one that this version writes for the kind, or for one of the kinds if it is ANY_KIND. */
 static bool has_header(const Sketch *sketch, Kind kind)
 {
-    bool has_both = kind == COUNT_MIN || kind == SIGNED_COUNT_MIN || kind == BLOOM_FILTER;
+    Kind own;
     if (VARSIZE(sketch) < offsetof(Sketch, image)) return false;
-    if (memcmp(sketch->format, format, sizeof format) != 0 || sketch->kind != kind) return false;
+    own = kind_of(sketch);
+    if (memcmp(sketch->format, format, sizeof format) != 0 || own == 0 || (kind != ANY_KIND && kind != own)) return false;
     if (sketch->zero[0] != 0 || sketch->zero[1] != 0) return false;
-    if (kind != COUNT_MIN && kind != SIGNED_COUNT_MIN && seed_of(sketch) != 0) return false;
-    if (has_both && sketch->items == NO_ITEMS) return IMAGE_BYTES(sketch) == (kind == BLOOM_FILTER ? EMPTY_FILTER : EMPTY_COUNTS);
-    if (has_both) return sketch->items <= (STRINGS | BIGINTS);
-    return sketch->items == (kind == FREQUENT_STRINGS ? STRINGS : BIGINTS);
+    if (!has_seed(own) && seed_of(sketch) != 0) return false;
+    if (sketch->items != items_of(own, sketch->items & (STRINGS | BIGINTS))) return false;
+    return sketch->items != NO_ITEMS || IMAGE_BYTES(sketch) == (own == DS_BLOOM ? EMPTY_FILTER : EMPTY_COUNTS);
 }
 
 /* Returns whether a header begins as one of another version of the format. */
@@ -170,9 +134,9 @@ Sketch *detoast_sketch(Datum datum, Kind kind)
     return sketch;
 }
 
-void load(Sketch *sketch, ds_sketch *handle)
+void load(const Sketch *sketch, ds_sketch *handle)
 {
-    read_image(sketch->kind, handle, sketch->image, IMAGE_BYTES(sketch), seed_of(sketch), true);
+    read_image(kind_of(sketch), handle, sketch->image, IMAGE_BYTES(sketch), seed_of(sketch), true);
 }
 
 size_t bytes_of(ds_sketch *handle)
@@ -182,34 +146,41 @@ size_t bytes_of(ds_sketch *handle)
     return bytes;
 }
 
-uint64 handle_seed(Kind kind, ds_sketch *handle)
+ds_status status_of(ds_sketch *handle)
 {
-    ds_count_min_status status = {0};
-    if (kind == COUNT_MIN) check_result(ds_count_min_u64_get_status(handle, &status));
-    if (kind == SIGNED_COUNT_MIN) check_result(ds_count_min_i64_get_status(handle, &status));
-    return status.seed;
+    ds_status status = {0};
+    check_result(ds_get_status(handle, &status));
+    return status;
 }
 
-/* The bytes are those that `deserialize` counts, which adds 4 for the length of each string. */
-void check_limit(Kind kind, ds_sketch *handle)
+/* The bytes are those that `ds_deserialize` counts, which adds 4 for the length of each string. */
+void check_limit(ds_sketch *handle)
 {
-    ds_frequent_items_status status = {0};
+    ds_status status = status_of(handle);
     size_t bytes = bytes_of(handle);
-    if (kind == FREQUENT_STRINGS) {
-        size_t table;
-        check_result(ds_frequent_items_string_get_status(handle, &status));
-        table = status.current_map_capacity / 3 * 4 * BYTES_OF_SLOT;
+    if (status.kind == DS_FREQUENT_ITEMS_STRING) {
+        size_t table = status.current_map_capacity / 3 * 4 * BYTES_OF_SLOT;
         bytes += 4 * status.num_active_items;
         check_bytes(limit_of_all(), bytes);
         bytes = Min(bytes, table + COUNTED_BYTES * status.num_active_items);
     }
-    check_bytes(limit_of(kind), bytes);
+    check_bytes(limit_of(status.kind), bytes);
 }
 
-Sketch *store(Kind kind, uint8 items, ds_sketch *handle)
+Sketch *store(uint8 items, ds_sketch *handle)
 {
-    check_limit(kind, handle);
-    return finish(write_image(kind, handle, offsetof(Sketch, image)), kind, items, handle_seed(kind, handle));
+    ds_status status = status_of(handle);
+    uint64 seed = has_seed(status.kind) ? status.seed : 0;
+    Sketch *sketch;
+    check_limit(handle);
+    sketch = (Sketch *)write_image(handle, offsetof(Sketch, image));
+    memcpy(sketch->format, format, sizeof format);
+    sketch->kind = number_of(status.kind);
+    sketch->items = items;
+    memset(sketch->zero, 0, sizeof sketch->zero);
+    for (int i = 0; i < 8; i++) sketch->seed[i] = seed >> 8 * i & 0xff;
+    write_checksum(sketch);
+    return sketch;
 }
 
 /* --- Forms. --- */
@@ -221,14 +192,14 @@ static Sketch *import_image(Kind kind, uint8 items, const void *image, size_t le
 {
     ds_sketch handle = DS_NONE;
     Sketch *sketch;
-    if (kind == FREQUENT_BIGINTS) check_bigints(image, length);
+    if (kind == DS_FREQUENT_ITEMS_I64) check_bigints(image, length);
     read_image(kind, &handle, image, length, seed, true);
-    sketch = store(kind, items, &handle);
+    sketch = store(items, &handle);
     ds_free(&handle);
-    if (kind != FREQUENT_STRINGS && kind != FREQUENT_BIGINTS) return sketch;
-    if (IMAGE_BYTES(sketch) != length) return sketch;
+    if (!is_frequent(kind) || IMAGE_BYTES(sketch) != length) return sketch;
     memcpy(sketch->image, image, length);
-    return finish((struct varlena *)sketch, kind, items, 0);
+    write_checksum(sketch);
+    return sketch;
 }
 
 /* Returns a stored sketch from the bytes after a sketch's length, which may be untrusted. `damaged` is the SQLSTATE of an error. */
@@ -271,13 +242,10 @@ static Datum type_in(FunctionCallInfo fcinfo, Kind kind)
     PG_RETURN_POINTER(sketch);
 }
 
-/* Returns the sketch of an argument for its forms: its own kind, verified. */
+/* Returns the sketch of any kind that is the first argument, verified. */
 static Sketch *any_sketch(FunctionCallInfo fcinfo)
 {
-    struct varlena *sketch = PG_DETOAST_DATUM(PG_GETARG_DATUM(0));
-    if (VARSIZE(sketch) < offsetof(Sketch, image))
-        ereport(ERROR, (errcode(ERRCODE_DATA_CORRUPTED), errmsg("a stored sketch is damaged")));
-    return detoast_sketch(PointerGetDatum(sketch), ((Sketch *)sketch)->kind);
+    return detoast_sketch(PG_GETARG_DATUM(0), ANY_KIND);
 }
 
 PG_FUNCTION_INFO_V1(sketch_out);
@@ -371,28 +339,22 @@ Datum seed_value(uint64 seed)
 static Datum type_from_image(FunctionCallInfo fcinfo, Kind kind)
 {
     bytea *image = PG_GETARG_BYTEA_PP(0);
-    uint8 items = kind == FREQUENT_STRINGS ? STRINGS : kind == FREQUENT_BIGINTS ? BIGINTS : STRINGS | BIGINTS;
+    uint8 items = items_of(kind, STRINGS | BIGINTS);
     uint64 seed = PG_NARGS() > 1 ? seed_argument(fcinfo, 1) : 0;
     PG_RETURN_POINTER(import_image(kind, items, VARDATA_ANY(image), VARSIZE_ANY_EXHDR(image), seed));
 }
 
-#define FUNCTION(name, call, kind) \
-    PG_FUNCTION_INFO_V1(name); \
-    Datum name(PG_FUNCTION_ARGS) \
-    { \
-        return call(fcinfo, kind); \
-    }
 #define FORMS(type, kind) \
     FUNCTION(type##_in, type_in, kind) \
     FUNCTION(type##_recv, type_recv, kind) \
     FUNCTION(type##_from_bytea, type_from_bytea, kind) \
     FUNCTION(type##_from_image, type_from_image, kind)
 
-FORMS(frequent_strings, FREQUENT_STRINGS)
-FORMS(frequent_bigints, FREQUENT_BIGINTS)
-FORMS(count_min, COUNT_MIN)
-FORMS(signed_count_min, SIGNED_COUNT_MIN)
-FORMS(bloom_filter, BLOOM_FILTER)
+FORMS(frequent_strings, DS_FREQUENT_ITEMS_STRING)
+FORMS(frequent_bigints, DS_FREQUENT_ITEMS_I64)
+FORMS(count_min, DS_COUNT_MIN_U64)
+FORMS(signed_count_min, DS_COUNT_MIN_I64)
+FORMS(bloom_filter, DS_BLOOM)
 
 /* --- Arguments. --- */
 
@@ -419,39 +381,13 @@ Datum items_name(const Sketch *sketch)
     return CStringGetTextDatum(names[sketch->items & (STRINGS | BIGINTS)]);
 }
 
-/* --- Unions of two, equality and hashes. --- */
-
-Sketch *read_argument(FunctionCallInfo fcinfo, int number, Kind kind, ds_sketch *handle)
-{
-    Sketch *sketch = detoast_sketch(PG_GETARG_DATUM(number), kind);
-    load(sketch, handle);
-    return sketch;
-}
-
-/* Returns the union of two sketches. */
-static Datum union_of(FunctionCallInfo fcinfo, Kind kind)
-{
-    ds_sketch handle = DS_NONE, other = DS_NONE;
-    uint8 items = read_argument(fcinfo, 0, kind, &handle)->items | read_argument(fcinfo, 1, kind, &other)->items;
-    Sketch *sketch;
-    check_result(merge_all(kind, &handle, &other, 1));
-    ds_free(&other);
-    sketch = store(kind, items, &handle);
-    ds_free(&handle);
-    PG_RETURN_POINTER(sketch);
-}
-
-FUNCTION(frequent_strings_union, union_of, FREQUENT_STRINGS)
-FUNCTION(frequent_bigints_union, union_of, FREQUENT_BIGINTS)
-FUNCTION(count_min_union, union_of, COUNT_MIN)
-FUNCTION(signed_count_min_union, union_of, SIGNED_COUNT_MIN)
-FUNCTION(bloom_filter_union, union_of, BLOOM_FILTER)
+/* --- Equality and hashes. --- */
 
 /* Compares the images of two sketches, and then the seeds of Count-Min: below 0, 0 or above 0. Filters and counts have images as
  * the library writes them, so equal images and seeds mean equal states. Equal frequent items may have unequal images. */
 static int compared(FunctionCallInfo fcinfo)
 {
-    Sketch *left = any_sketch(fcinfo), *right = detoast_sketch(PG_GETARG_DATUM(1), left->kind);
+    Sketch *left = any_sketch(fcinfo), *right = detoast_sketch(PG_GETARG_DATUM(1), kind_of(left));
     size_t first = IMAGE_BYTES(left), second = IMAGE_BYTES(right);
     int order = memcmp(left->image, right->image, Min(first, second));
     if (order == 0) order = (first > second) - (first < second);

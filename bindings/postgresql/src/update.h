@@ -9,11 +9,10 @@
 static inline int32_t add_string(Kind kind, ds_sketch *handle, ds_string item, int64 weight)
 {
     switch (kind) {
-    case FREQUENT_STRINGS: return ds_frequent_items_string_update(handle, item.bytes, item.length, weight);
-    case FREQUENT_BIGINTS: return DS_WRONG_KIND;
-    case COUNT_MIN: return ds_count_min_u64_update_string(handle, item.bytes, item.length, weight);
-    case SIGNED_COUNT_MIN: return ds_count_min_i64_update_string(handle, item.bytes, item.length, weight);
-    case BLOOM_FILTER: return ds_bloom_insert_string(handle, item.bytes, item.length);
+    case DS_FREQUENT_ITEMS_STRING: return ds_frequent_items_string_update(handle, item.bytes, item.length, weight);
+    case DS_COUNT_MIN_U64: return ds_count_min_u64_update_string(handle, item.bytes, item.length, weight);
+    case DS_COUNT_MIN_I64: return ds_count_min_i64_update_string(handle, item.bytes, item.length, weight);
+    case DS_BLOOM: return ds_bloom_insert_string(handle, item.bytes, item.length);
     }
     return DS_WRONG_KIND;
 }
@@ -22,11 +21,10 @@ static inline int32_t add_string(Kind kind, ds_sketch *handle, ds_string item, i
 static inline int32_t add_bigint(Kind kind, ds_sketch *handle, int64 item, int64 weight)
 {
     switch (kind) {
-    case FREQUENT_STRINGS: return DS_WRONG_KIND;
-    case FREQUENT_BIGINTS: return ds_frequent_items_i64_update(handle, item, weight);
-    case COUNT_MIN: return ds_count_min_u64_update_i64(handle, item, weight);
-    case SIGNED_COUNT_MIN: return ds_count_min_i64_update_i64(handle, item, weight);
-    case BLOOM_FILTER: return ds_bloom_insert_i64(handle, item);
+    case DS_FREQUENT_ITEMS_I64: return ds_frequent_items_i64_update(handle, item, weight);
+    case DS_COUNT_MIN_U64: return ds_count_min_u64_update_i64(handle, item, weight);
+    case DS_COUNT_MIN_I64: return ds_count_min_i64_update_i64(handle, item, weight);
+    case DS_BLOOM: return ds_bloom_insert_i64(handle, item);
     }
     return DS_WRONG_KIND;
 }
@@ -34,7 +32,7 @@ static inline int32_t add_bigint(Kind kind, ds_sketch *handle, int64 item, int64
 /* Raises an error if a weight is one that the kind does not take. */
 static inline void check_weight(Kind kind, int64 weight)
 {
-    if (kind != SIGNED_COUNT_MIN && unlikely(weight < 0))
+    if (kind != DS_COUNT_MIN_I64 && unlikely(weight < 0))
         ereport(ERROR, (errcode(ERRCODE_NUMERIC_VALUE_OUT_OF_RANGE), errmsg("the weight must not be below 0")));
 }
 

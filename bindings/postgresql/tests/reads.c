@@ -46,22 +46,29 @@ static void write_bytes(const char *folder, const char *name, size_t length)
     if (fwrite(bytes, 1, length, opened) != length || fclose(opened) != 0) exit(1);
 }
 
+static void read_sketch(ds_sketch *handle, int32_t kind, const char *folder, const char *name)
+{
+    ds_image_options options = {.max_bytes = 1 << 26, .seed = DS_DEFAULT_SEED};
+    checked(ds_deserialize(handle, kind, bytes, read_bytes(folder, name), &options), name);
+}
+
+static void write_sketch(ds_sketch *handle, const char *folder, const char *name)
+{
+    size_t length;
+    checked(ds_serialize(handle, bytes, sizeof bytes, &length), name);
+    write_bytes(folder, name, length);
+}
+
 int main(int argc, char **argv)
 {
     ds_sketch strings = DS_NONE, bigints = DS_NONE, counts = DS_NONE, signed_counts = DS_NONE, filter = DS_NONE;
     ds_frequent_items_bounds of_string, of_bigint;
-    size_t length, limit = 1 << 26;
     if (argc != 2) return 2;
-    length = read_bytes(argv[1], "strings");
-    checked(ds_frequent_items_string_deserialize(&strings, bytes, length, limit), "strings");
-    length = read_bytes(argv[1], "bigints");
-    checked(ds_frequent_items_i64_deserialize(&bigints, bytes, length, limit), "bigints");
-    length = read_bytes(argv[1], "counts");
-    checked(ds_count_min_u64_deserialize(&counts, bytes, length, 9001, limit), "counts");
-    length = read_bytes(argv[1], "signed_counts");
-    checked(ds_count_min_i64_deserialize(&signed_counts, bytes, length, 9001, limit), "signed_counts");
-    length = read_bytes(argv[1], "filter");
-    checked(ds_bloom_deserialize(&filter, bytes, length, limit), "filter");
+    read_sketch(&strings, DS_FREQUENT_ITEMS_STRING, argv[1], "strings");
+    read_sketch(&bigints, DS_FREQUENT_ITEMS_I64, argv[1], "bigints");
+    read_sketch(&counts, DS_COUNT_MIN_U64, argv[1], "counts");
+    read_sketch(&signed_counts, DS_COUNT_MIN_I64, argv[1], "signed_counts");
+    read_sketch(&filter, DS_BLOOM, argv[1], "filter");
     for (int i = 0; i < 200; i++) {
         char item[32];
         size_t size = (size_t)snprintf(item, sizeof item, "item-%d", i);
@@ -76,11 +83,11 @@ int main(int argc, char **argv)
                (unsigned long long)of_bigint.upper_bound, (unsigned long long)estimate, (long long)with_sign,
                (int)checked(ds_bloom_contains_i64(&filter, i), "contains"));
     }
-    checked(ds_frequent_items_string_new(&strings, 64, ds_frequent_items_max_sample_size(64)), "new");
-    checked(ds_frequent_items_i64_new(&bigints, 64, ds_frequent_items_max_sample_size(64)), "new");
-    checked(ds_count_min_u64_new(&counts, 4, 500, 9001), "new");
-    checked(ds_count_min_i64_new(&signed_counts, 4, 500, 9001), "new");
-    checked(ds_bloom_new(&filter, 4096, 5, 9001), "new");
+    checked(ds_frequent_items_new(&strings, DS_FREQUENT_ITEMS_STRING, 64, ds_frequent_items_max_sample_size(64), NULL), "new");
+    checked(ds_frequent_items_new(&bigints, DS_FREQUENT_ITEMS_I64, 64, ds_frequent_items_max_sample_size(64), NULL), "new");
+    checked(ds_count_min_new(&counts, DS_COUNT_MIN_U64, 4, 500, DS_DEFAULT_SEED), "new");
+    checked(ds_count_min_new(&signed_counts, DS_COUNT_MIN_I64, 4, 500, DS_DEFAULT_SEED), "new");
+    checked(ds_bloom_new(&filter, 4096, 5, DS_DEFAULT_SEED), "new");
     for (int i = 0; i < 100; i++) {
         char item[32];
         size_t size = (size_t)snprintf(item, sizeof item, "item-%d", i);
@@ -90,16 +97,11 @@ int main(int argc, char **argv)
         checked(ds_count_min_i64_update_i64(&signed_counts, i, i + 1), "update");
         checked(ds_bloom_insert_i64(&filter, i), "insert");
     }
-    checked(ds_frequent_items_string_serialize(&strings, bytes, sizeof bytes, &length), "serialize");
-    write_bytes(argv[1], "c_strings", length);
-    checked(ds_frequent_items_i64_serialize(&bigints, bytes, sizeof bytes, &length), "serialize");
-    write_bytes(argv[1], "c_bigints", length);
-    checked(ds_count_min_u64_serialize(&counts, bytes, sizeof bytes, &length), "serialize");
-    write_bytes(argv[1], "c_counts", length);
-    checked(ds_count_min_i64_serialize(&signed_counts, bytes, sizeof bytes, &length), "serialize");
-    write_bytes(argv[1], "c_signed_counts", length);
-    checked(ds_bloom_serialize(&filter, bytes, sizeof bytes, &length), "serialize");
-    write_bytes(argv[1], "c_filter", length);
+    write_sketch(&strings, argv[1], "c_strings");
+    write_sketch(&bigints, argv[1], "c_bigints");
+    write_sketch(&counts, argv[1], "c_counts");
+    write_sketch(&signed_counts, argv[1], "c_signed_counts");
+    write_sketch(&filter, argv[1], "c_filter");
     ds_free(&strings);
     ds_free(&bigints);
     ds_free(&counts);
