@@ -20,8 +20,9 @@
  *     DS_INVALID_UTF8, DS_BAD_FRACTION.
  *  3. Errors of handles: DS_NO_SKETCH if the handle has no sketch, DS_WRONG_KIND if its sketch is of a kind without this call,
  *     or is shared and the call changes it; of several handles, the first one's that has such an error, in the order of arguments
- *     and of an array. All calls return these but `ds_free`, those whose names end in `_new`, `ds_deserialize`,
- *     `ds_deserialize_prefix`, those on images in place, and the calls for sizes at the end.
+ *     and of an array. All calls return these but `ds_free`, those whose names end in `_new`, `ds_deserialize` and
+ *     `ds_deserialize_prefix`, those on images in place, and the calls for sizes at the end. Calls with a `kind` return
+ *     DS_WRONG_KIND for one that they do not take.
  *  4. The errors in the call's comment, in their order there. DS_NO_MEMORY comes when an allocation fails, which may be earlier.
  *     DS_NO_ROOM of `serialize` and `rows` comes last.
  *
@@ -173,9 +174,9 @@ int32_t ds_reset(ds_sketch *handle);
 
 /* Merges the other handle's sketch, of the same kind, into this one, which then stands for both histories. The other sketch stays
  * as it was. A filter gets the other's positions, as a union. A Count-Min sketch gets the other's cells and total. A sketch of
- * frequent items keeps its own sizes. Returns DS_MISMATCH if two filters differ in bits, hashes or seed, or two Count-Min sketches
- * in hashes, buckets or seed. Returns DS_WEIGHT_OVERFLOW if the totals together exceed 2^64 - 1, or 2^63 - 1 for weights in
- * int64_t. Returns DS_NO_MEMORY. */
+ * frequent items keeps its own sizes. Returns DS_WRONG_KIND if the kinds differ. Returns DS_MISMATCH if two filters differ in bits,
+ * hashes or seed, or two Count-Min sketches in hashes, buckets or seed. Returns DS_WEIGHT_OVERFLOW if the totals together exceed
+ * 2^64 - 1, or 2^63 - 1 for weights in int64_t. Only frequent items allocate, and return DS_NO_MEMORY. */
 int32_t ds_merge(ds_sketch *handle, ds_sketch *other);
 
 /* Merges the sketches of all other handles, of an array, into this one, in order and in one call. All are of the same kind. A
@@ -211,7 +212,7 @@ typedef struct ds_status {
     uint16_t kind;                 /* of the sketch: DS_BLOOM .. */
 } ds_status;
 
-/* Writes the sketch's numbers. */
+/* Writes the sketch's numbers, in constant time. Does not allocate. */
 int32_t ds_get_status(ds_sketch *handle, ds_status *status);
 
 /* Writes the length in bytes of the sketch's image. A filter's is 24 if no bit is set, and otherwise 32 and 8 for each word of 64
@@ -238,11 +239,15 @@ typedef struct ds_key {
 /* What an image does not say. */
 typedef struct ds_image_options {
     size_t max_bytes;  /* how many bytes the sketch may take, by the formula of `ds_memory_bytes` */
-    uint64_t seed;     /* of a Count-Min sketch. Other kinds do without */
-    const ds_key *key; /* of a sketch of frequent items, or null: then one is drawn. Other kinds do without */
+    uint64_t seed;     /* of a Count-Min sketch, ignored for other kinds */
+    const ds_key *key; /* of a sketch of frequent items, or null: then one is drawn. Ignored for other kinds */
 } ds_image_options;
 
-/* Reads a sketch of a kind from its image and puts it into the handle. A sketch of frequent items gets the largest sample size.
+/* The options with a limit, the default seed and no key: `ds_image_options options = DS_IMAGE_OPTIONS(1 << 20);` */
+#define DS_IMAGE_OPTIONS(max_bytes) {(max_bytes), DS_DEFAULT_SEED, NULL}
+
+/* Reads a sketch of a kind from its image and puts it into the handle. The bytes after the image are ignored. A sketch of frequent
+ * items gets the largest sample size.
  *
  * Returns DS_WRONG_KIND if `kind` is no kind. Returns DS_NO_RANDOM if a key is drawn and the system has no random bytes. Returns
  * the error of the image's first failed check. Returns DS_TABLE_TOO_LARGE if the sketch takes more than `max_bytes`, where a string
