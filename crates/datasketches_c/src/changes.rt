@@ -19,7 +19,7 @@ use crate::handle::SketchHandle;
 use crate::kind::Kind;
 use crate::making::put_made;
 use crate::sketch_kind::{SketchKind, kind_numbered};
-use crate::status_code::{NO_SKETCH, OK, WRONG_KIND, refusal_number};
+use crate::status_code::{NO_SKETCH, OK, WRONG_KIND, on_done};
 use sketch_bloom::BloomFilter;
 use sketch_countmin::{CountMinSizes, CountMinSketch, CountMinValue};
 use sketch_frequencies::{FrequentItemsSizes, FrequentItemsSketch, HashKey, TableKey};
@@ -164,13 +164,10 @@ fn restart_count<V: CountMinValue>(alloc: Global, sketch: &mut CountMinSketch<V>
         num_buckets: sketch.num_buckets(),
         seed: sketch.seed(),
     };
-    match CountMinSketch::<V>::with_sizes(alloc, sizes) {
-        Ok(empty) => {
+    on_done!(CountMinSketch::<V>::with_sizes(alloc, sizes), empty => {
             *sketch = empty;
             OK
-        }
-        Err(error) => refusal_number(error.fault()),
-    }
+        })
 }
 
 /// Removes all items and weights of a sketch of frequent items. Returns the result's number.

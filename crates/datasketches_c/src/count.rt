@@ -15,7 +15,7 @@ use crate::count_weighted::{count_weighted, count_weighted_strings};
 use crate::handle::SketchHandle;
 use crate::join::Joins;
 use crate::kind::{Kind, on_kind, reading_kind};
-use crate::status_code::{NO_ROOM, OK, refusal_number};
+use crate::status_code::{NO_ROOM, OK, on_done};
 use sketch_base::{Fault, Strings};
 use sketch_countmin::laws::min_cell_bounds;
 use sketch_countmin::{CountMinSketch, CountMinValue};
@@ -46,10 +46,7 @@ fn count_all<V: CountMinValue, I: Hash>(sketch: &mut CountMinSketch<V>, items: &
     ensures done { sketch.old.total + length items.now ≤ V.greatest → result ≡ ok }
     ensures overflow { V.greatest < sketch.old.total + length items.now → result ≡ refusal_number Fault.WeightOverflow }
 {
-    match sketch.update_all(items) {
-        Ok(()) => OK,
-        Err(error) => refusal_number(error.fault()),
-    }
+    on_done!(sketch.update_all(items))
 }
 
 /// Adds 1 to the weight of each item, in order, until the total is full.
@@ -173,10 +170,7 @@ fn count_strings<V: CountMinValue, S: Strings>(sketch: &mut CountMinSketch<V>, s
     ensures overflow { V.greatest < sketch.old.total + length (S.list strings.now)
         → result ≡ refusal_number Fault.WeightOverflow }
 {
-    match sketch.update_strings(strings) {
-        Ok(()) => OK,
-        Err(error) => refusal_number(error.fault()),
-    }
+    on_done!(sketch.update_strings(strings))
 }
 
 /// Writes a sketch's estimate of each string's weight.
@@ -252,9 +246,6 @@ where
     ghost joins = { λ _. IsJoined V.greatest };
 
     fn join_with(&mut self, other: &CountMinSketch<V>, _way: ()) -> i32 {
-        match self.merge(other) {
-            Ok(()) => OK,
-            Err(error) => refusal_number(error.fault()),
-        }
+        on_done!(self.merge(other))
     }
 }

@@ -6,7 +6,7 @@ ghost use Rattle.datasketches_c.specs.CountSteps.{Weighs};
 ghost use Rattle.datasketches_c.specs.Estimates.{IsEstimate};
 ghost use Rattle.datasketches_c.specs.Numbers.{OnRefused, ok, refusal_number};
 
-use crate::status_code::{OK, refusal_number};
+use crate::status_code::on_done;
 use sketch_base::Fault;
 use sketch_countmin::{CountMinSketch, CountMinValue};
 use std::hash::Hash;
@@ -63,10 +63,7 @@ impl<'a> CountItem for &'a str {
 
     #[inline(always)]
     fn add_to<V: CountMinValue>(self, sketch: &mut CountMinSketch<V>, weight: V) -> i32 {
-        match sketch.update_str_with_weight(self, weight) {
-            Ok(()) => OK,
-            Err(error) => refusal_number(error.fault()),
-        }
+        on_done!(sketch.update_str_with_weight(self, weight))
     }
 
     #[inline(always)]
@@ -88,8 +85,5 @@ fn count<V: CountMinValue, I: Hash + Drop>(
         → result ≡ refusal_number Fault.WeightOverflow }
     ensures refused { OnRefused result (sketch.new ≡ sketch.old) }
 {
-    match sketch.update_with_weight(item, weight) {
-        Ok(()) => OK,
-        Err(error) => refusal_number(error.fault()),
-    }
+    on_done!(sketch.update_with_weight(item, weight))
 }

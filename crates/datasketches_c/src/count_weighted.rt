@@ -5,7 +5,7 @@ ghost use Rattle.sketch_base.specs.Hashes.{fed_bytes};
 ghost use Rattle.datasketches_c.specs.CountSteps.{WeighsEach};
 ghost use Rattle.datasketches_c.specs.Numbers.{OnRefused, ok, refusal_number};
 
-use crate::status_code::{OK, refusal_number};
+use crate::status_code::on_done;
 use sketch_base::{Fault, Strings};
 use sketch_countmin::{CountMinSketch, CountMinValue};
 use std::hash::Hash;
@@ -23,10 +23,7 @@ pub(crate) fn count_weighted<T: CountMinValue, I: Hash>(
         → result ≡ refusal_number Fault.WeightOverflow }
     ensures refused { OnRefused result (sketch.new ≡ sketch.old) }
 {
-    match sketch.update_all_weighted(items, weights) {
-        Ok(()) => OK,
-        Err(error) => refusal_number(error.fault()),
-    }
+    on_done!(sketch.update_all_weighted(items, weights))
 }
 
 /// Adds a weight to each string's, in order. Returns the result's number.
@@ -43,8 +40,5 @@ pub(crate) fn count_weighted_strings<T: CountMinValue, S: Strings>(
         → result ≡ refusal_number Fault.WeightOverflow }
     ensures refused { OnRefused result (sketch.new ≡ sketch.old) }
 {
-    match sketch.update_strings_weighted(strings, weights) {
-        Ok(()) => OK,
-        Err(error) => refusal_number(error.fault()),
-    }
+    on_done!(sketch.update_strings_weighted(strings, weights))
 }

@@ -21,7 +21,7 @@ use crate::images::HasImage;
 use crate::join::{Joins, join};
 use crate::kind::{on_kind, reading_kind};
 use crate::making::put_made;
-use crate::status_code::{NO, NO_ROOM, OK, YES, refusal_number};
+use crate::status_code::{NO, NO_ROOM, NO_SKETCH, OK, WRONG_KIND, YES, on_done};
 use crate::strings::on_string;
 use sketch_base::Fault;
 use sketch_bloom::{BloomFilter, BloomFilterBuilder};
@@ -334,10 +334,7 @@ impl Joins<SetOperation> for BloomFilter {
             SetOperation::Intersection => self.intersect(other),
             SetOperation::Difference => self.difference(other),
         };
-        match done {
-            Ok(()) => OK,
-            Err(error) => refusal_number(error.fault()),
-        }
+        on_done!(done)
     }
 }
 

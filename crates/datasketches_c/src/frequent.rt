@@ -13,7 +13,7 @@ use crate::frequent_rows::write_rows;
 use crate::handle::SketchHandle;
 use crate::join::Joins;
 use crate::kind::{Kind, on_kind, reading_kind};
-use crate::status_code::{NO_ROOM, OK, refusal_number};
+use crate::status_code::{NO_ROOM, OK, on_done};
 use sketch_frequencies::{FrequentItemsSketch, ItemBounds};
 use std::alloc::Global;
 use std::hash::Hash;
@@ -23,10 +23,7 @@ fn add<T: Eq + Hash + Drop>(sketch: &mut FrequentItemsSketch<T>, item: T, weight
     ensures updates { Updates T.eq sketch.old item weight sketch.new result }
     ensures refused { OnRefused result (sketch.new ≡ sketch.old) }
 {
-    match sketch.update_with_count(item, weight) {
-        Ok(()) => OK,
-        Err(error) => refusal_number(error.fault()),
-    }
+    on_done!(sketch.update_with_count(item, weight))
 }
 
 /// Adds a weight to an item's.
@@ -50,10 +47,7 @@ fn add_all<T: Eq + Hash + Clone + Drop>(sketch: &mut FrequentItemsSketch<T>, ite
     requires clones { (x y : T) → T.is_clone x y → IsTrue (T.eq x y) }
     ensures { UpdatesMany T.eq sketch.old items.now sketch.new result }
 {
-    match sketch.update_all(items) {
-        Ok(()) => OK,
-        Err(error) => refusal_number(error.fault()),
-    }
+    on_done!(sketch.update_all(items))
 }
 
 /// Adds 1 to the weight of each item, in order.
@@ -80,10 +74,7 @@ fn add_all_weighted<T: Eq + Hash + Copy + Drop>(
     requires { length weights.now ≡ length items.now }
     ensures { WeighsMany T.eq sketch.old items.now weights.now sketch.new result }
 {
-    match sketch.update_all_weighted_copied(items, weights) {
-        Ok(()) => OK,
-        Err(error) => refusal_number(error.fault()),
-    }
+    on_done!(sketch.update_all_weighted_copied(items, weights))
 }
 
 /// Adds a weight to each item's, in order. Returns `NO_ROOM` if `items` and `weights` differ in length.
@@ -179,10 +170,7 @@ fn merge<T: Eq + Hash + Clone + Drop>(
     ensures merges { MergesInto T.eq sketch.old other.now sketch.new result }
     ensures refused { OnRefused result (sketch.new ≡ sketch.old) }
 {
-    match sketch.merge(other) {
-        Ok(()) => OK,
-        Err(error) => refusal_number(error.fault()),
-    }
+    on_done!(sketch.merge(other))
 }
 
 impl Joins<()> for FrequentItemsSketch<i64> {
@@ -242,8 +230,5 @@ pub(crate) fn resample<T: Eq + Hash + Drop>(
     ensures resamples { Resamples T.eq sketch.old sample_size sketch.new result }
     ensures refused { OnRefused result (sketch.new ≡ sketch.old) }
 {
-    match sketch.set_sample_size(sample_size) {
-        Ok(()) => OK,
-        Err(error) => refusal_number(error.fault()),
-    }
+    on_done!(sketch.set_sample_size(sample_size))
 }

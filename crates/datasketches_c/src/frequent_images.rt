@@ -8,7 +8,7 @@ ghost use Rattle.datasketches_c.specs.Images.{WritesImage};
 ghost use Rattle.datasketches_c.specs.Numbers.{OnRefused, ok, no_room};
 
 use crate::images::HasImage;
-use crate::status_code::{NO_ROOM, OK, refusal_number};
+use crate::status_code::{NO_ROOM, OK, on_done};
 use sketch_base::Error;
 use sketch_frequencies::{FrequentItemValue, FrequentItemsSketch};
 
@@ -49,10 +49,7 @@ fn write_numbers<T: FrequentItemValue + Drop>(
     ensures untouched { OnRefused result (out.new ≡ out.old) }
     ensures uncounted { result ≢ ok → result ≢ no_room → written.new ≡ written.old }
 {
-    match write_image(sketch, out, written) {
-        Ok(result) => result,
-        Err(error) => refusal_number(error.fault()),
-    }
+    on_done!(write_image(sketch, out, written), result => result)
 }
 
 /// Writes the length of the image of a sketch of numbers. The library rejects no number of the item type.
@@ -63,13 +60,10 @@ fn tell_length<T: FrequentItemValue + Drop>(
     ensures length { IsOfNumbers T.codec → TellsNumbersLength T.codec T.content sketch.now bytes.new result }
     ensures untouched { OnRefused result (bytes.new ≡ bytes.old) }
 {
-    match sketch.serialized_size() {
-        Ok(length) => {
+    on_done!(sketch.serialized_size(), length => {
             *bytes = length;
             OK
-        }
-        Err(error) => refusal_number(error.fault()),
-    }
+        })
 }
 
 impl HasImage for FrequentItemsSketch<i64> {
@@ -106,19 +100,13 @@ impl HasImage for FrequentItemsSketch<String> {
     ghost tells = { TellsStringsLength };
 
     fn write_to(&self, out: &mut [u8], written: &mut usize) -> i32 {
-        match write_image(self, out, written) {
-            Ok(result) => result,
-            Err(error) => refusal_number(error.fault()),
-        }
+        on_done!(write_image(self, out, written), result => result)
     }
 
     fn length_to(&self, bytes: &mut usize) -> i32 {
-        match self.serialized_size() {
-            Ok(length) => {
+        on_done!(self.serialized_size(), length => {
                 *bytes = length;
                 OK
-            }
-            Err(error) => refusal_number(error.fault()),
-        }
+            })
     }
 }

@@ -3,7 +3,7 @@ ghost use Rattle.std.specs.Prelude.{◌≡◌, ◌<◌, ◌≤◌, IsTrue, lengt
 ghost use Rattle.datasketches_c.specs.FrequentRows.{LeavesRows, StandAtFront, WritesRows, bounds_in, error_type};
 ghost use Rattle.datasketches_c.specs.Numbers.{ok, no_room};
 
-use crate::status_code::{NO_ROOM, OK, refusal_number};
+use crate::status_code::{NO_ROOM, OK, on_done};
 use sketch_frequencies::{ErrorType, FrequentItemsSketch, ItemBounds, Row};
 use std::hash::Hash;
 
@@ -22,10 +22,7 @@ pub(crate) fn write_rows<T: Eq + Hash + Clone + Copy + Drop>(
         bounds.old bounds.new count.new result }
     ensures left { LeavesRows items.old items.new bounds.old bounds.new count.old count.new result }
 {
-    match sketch.frequent_items_with_threshold(error_type_of(no_false_negatives), threshold) {
-        Ok(rows) => copy_rows(&rows, items, bounds, count),
-        Err(error) => refusal_number(error.fault()),
-    }
+    on_done!(sketch.frequent_items_with_threshold(error_type_of(no_false_negatives), threshold), rows => copy_rows(&rows, items, bounds, count))
 }
 
 /// Returns the error type of a report.

@@ -12,7 +12,7 @@ ghost use Rattle.datasketches_c.specs.Strings.{offsets_from};
 use crate::frequent_rows::{copy_bounds, error_type_of};
 use crate::handle::SketchHandle;
 use crate::kind::{on_kind, reading_kind};
-use crate::status_code::{NO_ROOM, OK, refusal_number};
+use crate::status_code::{NO_ROOM, OK, on_done, refusal_number};
 use sketch_base::{Fault, Strings};
 use sketch_frequencies::{FrequentItemsSketch, ItemBounds, Row};
 use std::alloc::Global;
@@ -28,10 +28,7 @@ pub(crate) fn update_string(
     ensures done { OnDone result (result ≡ ok) }
     ensures refused { OnRefused result (sketch.new ≡ sketch.old) }
 {
-    match sketch.update_with_count_by_key(item, weight) {
-        Ok(()) => OK,
-        Err(error) => refusal_number(error.fault()),
-    }
+    on_done!(sketch.update_with_count_by_key(item, weight))
 }
 
 /// Writes the bounds and the estimate of a string's weight. Does not allocate.
@@ -50,10 +47,7 @@ pub(crate) fn bounds_of_string(
 fn update_strings<S: Strings>(sketch: &mut FrequentItemsSketch<String>, strings: &S) -> i32
     ensures { AddsStrings sketch.old (S.list strings.now) sketch.new result }
 {
-    match sketch.update_strings(strings) {
-        Ok(()) => OK,
-        Err(error) => refusal_number(error.fault()),
-    }
+    on_done!(sketch.update_strings(strings))
 }
 
 /// Adds a weight to each string's, in order. Returns the result's number.
@@ -65,10 +59,7 @@ fn update_strings_weighted<S: Strings>(
     requires { length weights.now ≡ length (S.list strings.now) }
     ensures { WeighsStrings sketch.old (S.list strings.now) weights.now sketch.new result }
 {
-    match sketch.update_strings_weighted(strings, weights) {
-        Ok(()) => OK,
-        Err(error) => refusal_number(error.fault()),
-    }
+    on_done!(sketch.update_strings_weighted(strings, weights))
 }
 
 /// Writes the bounds and the estimate of each string's weight. Does not allocate.
@@ -206,15 +197,12 @@ pub(crate) fn write_rows(
     ensures left { LeavesStringRows (record { bytes = bytes.old; offsets = offsets.old; bounds = bounds.old })
         (record { bytes = bytes.new; offsets = offsets.new; bounds = bounds.new }) count.old count.new num_bytes.old num_bytes.new result }
 {
-    match sketch.frequent_items_with_threshold(error_type_of(no_false_negatives), threshold) {
-        Ok(rows) => {
+    on_done!(sketch.frequent_items_with_threshold(error_type_of(no_false_negatives), threshold), rows => {
             let Some(length) = num_bytes_of(&rows) else {
                 return refusal_number(Fault::NoMemory);
             };
             *count = rows.len();
             *num_bytes = length;
             copy_rows(&rows, length, bytes, offsets, bounds)
-        }
-        Err(error) => refusal_number(error.fault()),
-    }
+        })
 }

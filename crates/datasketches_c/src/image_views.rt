@@ -8,7 +8,7 @@ ghost use Rattle.datasketches_c.specs.Estimates.{IsEstimate};
 ghost use Rattle.datasketches_c.specs.ImageViews.{AsksCount, AsksFilter};
 ghost use Rattle.datasketches_c.specs.Numbers.{OnRefused, max_i64, max_u64, min_i64, no, no_room, ok, refusal_number, yes};
 
-use crate::status_code::{NO, NO_ROOM, OK, YES, refusal_number};
+use crate::status_code::{NO, NO_ROOM, OK, YES, on_done};
 use crate::strings::on_string;
 use sketch_base::Fault;
 use sketch_bloom::BloomFilterView;
@@ -21,10 +21,7 @@ fn contains<I: Hash>(image: &[u8], item: &I) -> i32
     ensures { AsksFilter image.now (λ s.
         result ≡ (if contains_item s (fed_bytes I.hash_input item.now) then yes else no)) result }
 {
-    match BloomFilterView::new(image) {
-        Ok(filter) => { if filter.contains(item) { YES } else { NO } }
-        Err(error) => refusal_number(error.fault()),
-    }
+    on_done!(BloomFilterView::new(image), filter => { if filter.contains(item) { YES } else { NO } })
 }
 
 /// Returns whether the filter in an image contains a string.
@@ -33,10 +30,7 @@ fn contains_str(image: &[u8], item: &str) -> i32
     ensures { AsksFilter image.now (λ s.
         result ≡ (if contains_item s (fed_bytes fed.str item.now) then yes else no)) result }
 {
-    match BloomFilterView::new(image) {
-        Ok(filter) => { if filter.contains_str(item) { YES } else { NO } }
-        Err(error) => refusal_number(error.fault()),
-    }
+    on_done!(BloomFilterView::new(image), filter => { if filter.contains_str(item) { YES } else { NO } })
 }
 
 /// Returns `YES` if the filter in an image contains a number, and `NO` otherwise. Checks the image in constant time: what
@@ -81,13 +75,10 @@ fn contains_all<I: Hash>(image: &[u8], items: &[I], answers: &mut [bool]) -> i32
     if answers.len() != items.len() {
         return NO_ROOM;
     }
-    match BloomFilterView::new(image) {
-        Ok(filter) => {
+    on_done!(BloomFilterView::new(image), filter => {
             filter.contains_all(items, answers);
             OK
-        }
-        Err(error) => refusal_number(error.fault()),
-    }
+        })
 }
 
 /// Writes for each number whether the filter in an image contains it. See `ds_bloom_image_contains_u64`.
@@ -130,13 +121,10 @@ fn estimate<V: CountMinValue, I: Hash>(image: &[u8], seed: u64, item: &I, estima
         × IsEstimate s (fed_bytes I.hash_input item.now) (V.number estimate.new)) result }
     ensures untouched { OnRefused result (estimate.new ≡ estimate.old) }
 {
-    match CountMinView::<V>::with_seed(image, seed) {
-        Ok(counts) => {
+    on_done!(CountMinView::<V>::with_seed(image, seed), counts => {
             *estimate = counts.estimate(item);
             OK
-        }
-        Err(error) => refusal_number(error.fault()),
-    }
+        })
 }
 
 /// Writes the estimate of a string by the Count-Min sketch in an image.
@@ -146,13 +134,10 @@ fn estimate_str<V: CountMinValue>(image: &[u8], seed: u64, item: &str, estimate:
         × IsEstimate s (fed_bytes fed.str item.now) (V.number estimate.new)) result }
     ensures untouched { OnRefused result (estimate.new ≡ estimate.old) }
 {
-    match CountMinView::<V>::with_seed(image, seed) {
-        Ok(counts) => {
+    on_done!(CountMinView::<V>::with_seed(image, seed), counts => {
             *estimate = counts.estimate_str(item);
             OK
-        }
-        Err(error) => refusal_number(error.fault()),
-    }
+        })
 }
 
 /// Writes the estimate of a number by the Count-Min sketch in an image, whose seed is `seed`. Hashes a number for each

@@ -4,7 +4,7 @@ ghost use Rattle.datasketches_c.specs.Numbers.{OnDone, OnRefused, ok, refusal_nu
 
 use crate::handle::SketchHandle;
 use crate::kind::Kind;
-use crate::status_code::{OK, refusal_number};
+use crate::status_code::{OK, on_done};
 use sketch_base::{Error, Fault};
 use std::alloc::Global;
 
@@ -21,10 +21,7 @@ pub(crate) fn put_made<K: Kind>(
     ensures refused { OnRefused result ((handle.new.value ≡ handle.old.value)
         × MatchResult made (λ s. result ≡ refusal_number Fault.NoMemory) (λ e. result ≡ refusal_number e.fault)) }
 {
-    match made {
-        Ok(sketch) => handle.put(alloc, sketch.into_any()),
-        Err(error) => refusal_number(error.fault()),
-    }
+    on_done!(made, sketch => handle.put(alloc, sketch.into_any()))
 }
 
 /// Puts a sketch that was read into the handle, frees what the handle had, writes the number of bytes that were read, and
@@ -43,14 +40,11 @@ pub(crate) fn put_read<K: Kind>(
         × MatchResult read (λ r. result ≡ refusal_number Fault.NoMemory) (λ e. result ≡ refusal_number e.fault)) }
     ensures untouched { OnRefused result (used.new ≡ used.old) }
 {
-    match read {
-        Ok((sketch, length)) => {
+    on_done!(read, (sketch, length) => {
             let result = handle.put(alloc, sketch.into_any());
             if result == OK {
                 *used = length;
             }
             result
-        }
-        Err(error) => refusal_number(error.fault()),
-    }
+        })
 }

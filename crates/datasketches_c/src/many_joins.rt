@@ -12,7 +12,7 @@ use crate::any_sketch::AnySketch;
 use crate::handle::SketchHandle;
 use crate::kind::Kind;
 use crate::many_handles::{give_all, refusal_of_handles, take_all, taken_parts};
-use crate::status_code::{OK, refusal_number};
+use crate::status_code::{OK, on_done, refusal_number};
 use sketch_base::Fault;
 use sketch_bloom::BloomFilter;
 use sketch_countmin::{CountMinSketch, CountMinValue};
@@ -70,10 +70,7 @@ impl JoinsMany for BloomFilter {
     ghost joins_many = { IsUnited };
 
     fn join_with_many(&mut self, others: &[&BloomFilter]) -> i32 {
-        match self.union_all(others) {
-            Ok(()) => OK,
-            Err(error) => refusal_number(error.fault()),
-        }
+        on_done!(self.union_all(others))
     }
 }
 
@@ -84,10 +81,7 @@ where
     ghost joins_many = { IsMerged V.greatest };
 
     fn join_with_many(&mut self, others: &[&CountMinSketch<V>]) -> i32 {
-        match self.merge_all(others) {
-            Ok(()) => OK,
-            Err(error) => refusal_number(error.fault()),
-        }
+        on_done!(self.merge_all(others))
     }
 }
 
@@ -100,10 +94,7 @@ fn merge_frequent<T: Eq + Hash + Clone + Drop>(
     ensures merges { MergesAllInto T.eq sketch.old (map (λ other. other.now) others.now) sketch.new result }
     ensures refused { OnRefused result (sketch.new ≡ sketch.old) }
 {
-    match sketch.merge_all(others) {
-        Ok(()) => OK,
-        Err(error) => refusal_number(error.fault()),
-    }
+    on_done!(sketch.merge_all(others))
 }
 
 impl JoinsMany for FrequentItemsSketch<i64> {

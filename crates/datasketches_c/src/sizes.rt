@@ -6,20 +6,17 @@ ghost use Rattle.sketch_frequencies.specs.Sizes.{size_fault};
 ghost use Rattle.sketch_frequencies.specs.SuggestedSizes.{usual_budget};
 ghost use Rattle.datasketches_c.specs.Numbers.{OnDone, OnRefused, ok, refusal_number};
 
-use crate::status_code::{OK, refusal_number};
+use crate::status_code::{OK, on_done};
 use sketch_base::Fault;
 use sketch_frequencies::suggest_max_map_size;
 
 /// Writes what was found, and gives `OK`. If there is an error, gives its number and leaves the place unchanged.
 macro_rules! write_down {
     ($found:expr => $place:ident) => {
-        match $found {
-            Ok(found) => {
+        on_done!($found, found => {
                 *$place = found;
                 OK
-            }
-            Err(error) => refusal_number(error.fault()),
-        }
+            })
     };
 }
 

@@ -67,3 +67,18 @@ pub(crate) fn refusal_number(fault: Fault) -> i32
         Fault::BadOffsets => -6,
     }
 }
+
+/// Gives `$work` on what a call of the library returned, or `OK` without `$work`. If the call returned an error, gives its number.
+macro_rules! on_done {
+    ($done:expr) => {
+        $crate::status_code::on_done!($done, () => $crate::status_code::OK)
+    };
+    ($done:expr, $value:pat => $work:expr) => {
+        match $done {
+            Ok($value) => $work,
+            Err(error) => $crate::status_code::refusal_number(error.fault()),
+        }
+    };
+}
+
+pub(crate) use on_done;

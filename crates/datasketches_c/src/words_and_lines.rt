@@ -17,7 +17,7 @@ ghost use Rattle.datasketches_c.specs.Numbers.{OnRefused, max_i64, max_u64, ok, 
 
 use crate::handle::SketchHandle;
 use crate::kind::{Kind, on_kind};
-use crate::status_code::{OK, refusal_number};
+use crate::status_code::{NO_SKETCH, OK, WRONG_KIND, on_done};
 use crate::strings::on_string;
 use sketch_base::{Fault, Separator, finished_lines, finished_words};
 use sketch_bloom::BloomFilter;
@@ -53,10 +53,7 @@ fn count_words<V: CountMinValue>(sketch: &mut CountMinSketch<V>, text: &str) -> 
     ensures overflow { V.greatest < sketch.old.total + length (words_of text.now)
         → result ≡ refusal_number Fault.WeightOverflow }
 {
-    match sketch.update_words(text) {
-        Ok(()) => OK,
-        Err(error) => refusal_number(error.fault()),
-    }
+    on_done!(sketch.update_words(text))
 }
 
 /// Adds 1 to the weight of each word of a string, in the sketch of a handle.
@@ -72,10 +69,7 @@ where
 fn add_words(sketch: &mut FrequentItemsSketch<String>, text: &str) -> i32
     ensures { AddsStrings sketch.old (words_of text.now) sketch.new result }
 {
-    match sketch.update_words(text) {
-        Ok(()) => OK,
-        Err(error) => refusal_number(error.fault()),
-    }
+    on_done!(sketch.update_words(text))
 }
 
 /// Counts each line of a string with weight 1, in order, until the total is full. Returns the result's number.
@@ -86,10 +80,7 @@ fn count_lines<V: CountMinValue>(sketch: &mut CountMinSketch<V>, text: &str) -> 
     ensures overflow { V.greatest < sketch.old.total + length (lines text.now)
         → result ≡ refusal_number Fault.WeightOverflow }
 {
-    match sketch.update_lines(text) {
-        Ok(()) => OK,
-        Err(error) => refusal_number(error.fault()),
-    }
+    on_done!(sketch.update_lines(text))
 }
 
 /// Adds 1 to the weight of each line of a string, in the sketch of a handle.
@@ -105,10 +96,7 @@ where
 fn add_lines(sketch: &mut FrequentItemsSketch<String>, text: &str) -> i32
     ensures { AddsStrings sketch.old (lines text.now) sketch.new result }
 {
-    match sketch.update_lines(text) {
-        Ok(()) => OK,
-        Err(error) => refusal_number(error.fault()),
-    }
+    on_done!(sketch.update_lines(text))
 }
 
 /// Inserts each word of a string. A word is a longest run of bytes that are not ASCII white space: space, tab, line feed, form
