@@ -17,21 +17,22 @@ use Rattle.datasketches_c.specs.Kinds.{HoldsKind, filter_of, count_i64_of, count
 use Rattle.datasketches_c.specs.Numbers.{max_i64, max_u64, min_i64, no_sketch, ok, wrong_kind}
 use Rattle.datasketches_c.specs.Sharing.{unshared}
 use Rattle.datasketches_c.specs.declared.any_sketch.AnySketch.{AnySketch}
+use Rattle.datasketches_c.specs.declared.any_sketch.Held.TheVariants.{Own}
 use Rattle.datasketches_c.specs.declared.any_sketch.AnySketch.TheVariants as held
 use Rattle.datasketches_c.specs.declared.sketch_kind.SketchKind.{SketchKind}
 use Rattle.datasketches_c.specs.declared.sketch_kind.SketchKind.TheVariants.{Filter, CountU64, CountI64, FrequentU64, FrequentI64, FrequentStrings}
 
 -- the image of a sketch that is not shared was written to the front of the buffer, or was refused
 abbrev pub WritesImageOf : AnySketch → (old new : List ℕ) → ℕ → ℤ → Type 0
-WritesImageOf (held.Filter s) old new written result =
+WritesImageOf (held.Filter (Own s)) old new written result =
     WritesSizedImage (λ image. filters.IsSpelled image s) (filters.image_bytes s) old new written result
-WritesImageOf (held.CountI64 s) old new written result =
+WritesImageOf (held.CountI64 (Own s)) old new written result =
     WritesSizedImage (λ image. counts.IsSpelled min_i64 max_i64 image s) (counts.image_bytes s) old new written result
-WritesImageOf (held.CountU64 s) old new written result =
+WritesImageOf (held.CountU64 (Own s)) old new written result =
     WritesSizedImage (λ image. counts.IsSpelled (pos 0) max_u64 image s) (counts.image_bytes s) old new written result
-WritesImageOf (held.FrequentI64 s) old new written result = WritesNumbers i64_codec (λ n. n) s old new written result
-WritesImageOf (held.FrequentU64 s) old new written result = WritesNumbers u64_codec (λ n. n) s old new written result
-WritesImageOf (held.FrequentStrings s) old new written result = WritesFrequentStrings s old new written result
+WritesImageOf (held.FrequentI64 (Own s)) old new written result = WritesNumbers i64_codec (λ n. n) s old new written result
+WritesImageOf (held.FrequentU64 (Own s)) old new written result = WritesNumbers u64_codec (λ n. n) s old new written result
+WritesImageOf (held.FrequentStrings (Own s)) old new written result = WritesFrequentStrings s old new written result
 WritesImageOf _ old new written result = result ≡ wrong_kind
 
 -- the same of a handle's sketch, which may be shared
@@ -41,12 +42,12 @@ WritesImageIn (Some sketch) old new written result = WritesImageOf (unshared ske
 
 -- the length of the image of a sketch that is not shared was written
 abbrev pub TellsLengthOf : AnySketch → ℕ → ℤ → Type 0
-TellsLengthOf (held.Filter s) bytes result = (result ≡ ok) × (bytes ≡ filters.image_bytes s)
-TellsLengthOf (held.CountI64 s) bytes result = (result ≡ ok) × (bytes ≡ counts.image_bytes s)
-TellsLengthOf (held.CountU64 s) bytes result = (result ≡ ok) × (bytes ≡ counts.image_bytes s)
-TellsLengthOf (held.FrequentI64 s) bytes result = TellsNumbersLength i64_codec (λ n. n) s bytes result
-TellsLengthOf (held.FrequentU64 s) bytes result = TellsNumbersLength u64_codec (λ n. n) s bytes result
-TellsLengthOf (held.FrequentStrings s) bytes result = TellsStringsLength s bytes result
+TellsLengthOf (held.Filter (Own s)) bytes result = (result ≡ ok) × (bytes ≡ filters.image_bytes s)
+TellsLengthOf (held.CountI64 (Own s)) bytes result = (result ≡ ok) × (bytes ≡ counts.image_bytes s)
+TellsLengthOf (held.CountU64 (Own s)) bytes result = (result ≡ ok) × (bytes ≡ counts.image_bytes s)
+TellsLengthOf (held.FrequentI64 (Own s)) bytes result = TellsNumbersLength i64_codec (λ n. n) s bytes result
+TellsLengthOf (held.FrequentU64 (Own s)) bytes result = TellsNumbersLength u64_codec (λ n. n) s bytes result
+TellsLengthOf (held.FrequentStrings (Own s)) bytes result = TellsStringsLength s bytes result
 TellsLengthOf _ bytes result = result ≡ wrong_kind
 
 abbrev pub TellsLengthIn : Option AnySketch → ℕ → ℤ → Type 0

@@ -17,6 +17,7 @@ use Rattle.datasketches_c.specs.FrequentStrings.{strings_eq}
 use Rattle.datasketches_c.specs.Kinds.{HoldsKind, filter_of, count_i64_of, count_u64_of, frequent_i64_of, frequent_u64_of, frequent_strings_of}
 use Rattle.datasketches_c.specs.Numbers.{OnDone, OnRefused, no_sketch, ok, refusal_number, wrong_kind}
 use Rattle.datasketches_c.specs.declared.any_sketch.AnySketch.{AnySketch}
+use Rattle.datasketches_c.specs.declared.any_sketch.Held.TheVariants.{Own}
 use Rattle.datasketches_c.specs.declared.any_sketch.AnySketch.TheVariants as held
 use Rattle.datasketches_c.specs.declared.sketch_kind.SketchKind.{SketchKind}
 use Rattle.datasketches_c.specs.declared.sketch_kind.SketchKind.TheVariants.{FrequentU64, FrequentI64, FrequentStrings}
@@ -50,12 +51,12 @@ pub record Restarts (old new : counts_state.CountState) (result : ℤ) : Type 0 
 
 -- the sketch was emptied, or it was refused and is unchanged. A shared one is not changed
 abbrev pub Resets : (old new : AnySketch) → ℤ → Type 0
-Resets (held.Filter s) new result = HoldsKind filter_of (Some new) (λ t. Clears s t result)
-Resets (held.CountI64 s) new result = HoldsKind count_i64_of (Some new) (λ t. Restarts s t result)
-Resets (held.CountU64 s) new result = HoldsKind count_u64_of (Some new) (λ t. Restarts s t result)
-Resets (held.FrequentI64 s) new result = (result ≡ ok) × HoldsKind frequent_i64_of (Some new) (Empties int_eq s)
-Resets (held.FrequentU64 s) new result = (result ≡ ok) × HoldsKind frequent_u64_of (Some new) (Empties nat_eq s)
-Resets (held.FrequentStrings s) new result = (result ≡ ok) × HoldsKind frequent_strings_of (Some new) (Empties strings_eq s)
+Resets (held.Filter (Own s)) new result = HoldsKind filter_of (Some new) (λ t. Clears s t result)
+Resets (held.CountI64 (Own s)) new result = HoldsKind count_i64_of (Some new) (λ t. Restarts s t result)
+Resets (held.CountU64 (Own s)) new result = HoldsKind count_u64_of (Some new) (λ t. Restarts s t result)
+Resets (held.FrequentI64 (Own s)) new result = (result ≡ ok) × HoldsKind frequent_i64_of (Some new) (Empties int_eq s)
+Resets (held.FrequentU64 (Own s)) new result = (result ≡ ok) × HoldsKind frequent_u64_of (Some new) (Empties nat_eq s)
+Resets (held.FrequentStrings (Own s)) new result = (result ≡ ok) × HoldsKind frequent_strings_of (Some new) (Empties strings_eq s)
 Resets old new result = (result ≡ wrong_kind) × (new ≡ old)
 
 -- the same of a handle's sketch
@@ -66,9 +67,9 @@ ResetsAny (Some old) None result = ⊥
 
 -- the number of counters that purges of the sketch sample was changed, or it was refused. A shared sketch is not changed
 abbrev pub Resampled : (old : AnySketch) → ℕ → (new : AnySketch) → ℤ → Type 0
-Resampled (held.FrequentI64 s) n new result = HoldsKind frequent_i64_of (Some new) (λ t. Resamples int_eq s n t result)
-Resampled (held.FrequentU64 s) n new result = HoldsKind frequent_u64_of (Some new) (λ t. Resamples nat_eq s n t result)
-Resampled (held.FrequentStrings s) n new result = HoldsKind frequent_strings_of (Some new) (λ t. Resamples strings_eq s n t result)
+Resampled (held.FrequentI64 (Own s)) n new result = HoldsKind frequent_i64_of (Some new) (λ t. Resamples int_eq s n t result)
+Resampled (held.FrequentU64 (Own s)) n new result = HoldsKind frequent_u64_of (Some new) (λ t. Resamples nat_eq s n t result)
+Resampled (held.FrequentStrings (Own s)) n new result = HoldsKind frequent_strings_of (Some new) (λ t. Resamples strings_eq s n t result)
 Resampled old n new result = (result ≡ wrong_kind) × (new ≡ old)
 
 abbrev pub ResamplesAny : (old : Option AnySketch) → ℕ → (new : Option AnySketch) → ℤ → Type 0

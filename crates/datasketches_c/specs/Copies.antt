@@ -10,6 +10,7 @@ use Rattle.sketch_frequencies.specs.Steps.{IsSameState}
 use Rattle.datasketches_c.specs.Numbers.{OnDone, OnRefused, ok, no_sketch, refusal_number}
 use Rattle.datasketches_c.specs.Sharing.{unshared}
 use Rattle.datasketches_c.specs.declared.any_sketch.AnySketch.{AnySketch}
+use Rattle.datasketches_c.specs.declared.any_sketch.Held.TheVariants.{Own}
 use Rattle.datasketches_c.specs.declared.any_sketch.AnySketch.TheVariants.{FrequentStrings, FrequentI64, FrequentU64}
 
 -- new is a copy of old, up to the order of its counters and which of equal items it holds. It stands for the same histories, and
@@ -21,9 +22,9 @@ pub record IsCopy {T : Type 0} (eq : T → T → Bool) (old new : FrequentState 
 
 -- the handle holds a copy of the sketch. A copied filter or Count-Min sketch is equal to it, so it stands for the same histories
 abbrev pub HoldsCopy : AnySketch → Option AnySketch → Type 0
-HoldsCopy (FrequentStrings s) (Some (FrequentStrings t)) = IsCopy string_eq s t
-HoldsCopy (FrequentI64 s) (Some (FrequentI64 t)) = IsCopy int_eq s t
-HoldsCopy (FrequentU64 s) (Some (FrequentU64 t)) = IsCopy nat_eq s t
+HoldsCopy (FrequentStrings (Own s)) (Some (FrequentStrings (Own t))) = IsCopy string_eq s t
+HoldsCopy (FrequentI64 (Own s)) (Some (FrequentI64 (Own t))) = IsCopy int_eq s t
+HoldsCopy (FrequentU64 (Own s)) (Some (FrequentU64 (Own t))) = IsCopy nat_eq s t
 HoldsCopy sketch held = held ≡ Some sketch
 
 -- the handle holds a copy of the other handle's sketch, which is not shared, or the call returned an error and the handle is unchanged

@@ -9,25 +9,26 @@ use Rattle.sketch_bloom.specs.State.{all_inserted, answers_in_turn, contains_ite
 use Rattle.datasketches_c.specs.Kinds.{OnFilter}
 use Rattle.datasketches_c.specs.Numbers.{no, ok, yes}
 use Rattle.datasketches_c.specs.declared.any_sketch.AnySketch.{AnySketch}
+use Rattle.datasketches_c.specs.declared.any_sketch.Held.TheVariants.{Own}
 use Rattle.datasketches_c.specs.declared.any_sketch.AnySketch.TheVariants.{Filter}
 
 -- the strings were inserted into the handle's filter, one after another
 abbrev pub InsertsStrings : (old new : Option AnySketch) → ℤ → List (List ℕ) → Type 0
 InsertsStrings old new result strings =
     OnFilter old new result (λ s.
-    (result ≡ ok) × (new ≡ Some (Filter (all_inserted s (map (fed_bytes fed.str) strings))))
+    (result ≡ ok) × (new ≡ Some (Filter (Own (all_inserted s (map (fed_bytes fed.str) strings)))))
     × Extends s (all_inserted s (map (fed_bytes fed.str) strings)) (λ h. all_inserted_after h (map (fed_bytes fed.str) strings)))
 
 -- the item was inserted into the handle's filter, and the result tells whether it was there
 abbrev pub TellsAndInserts : (old new : Option AnySketch) → ℤ → List ℕ → Type 0
 TellsAndInserts old new result bytes =
     OnFilter old new result (λ s.
-    (result ≡ (if contains_item s bytes then yes else no)) × (new ≡ Some (Filter (inserted s bytes)))
+    (result ≡ (if contains_item s bytes then yes else no)) × (new ≡ Some (Filter (Own (inserted s bytes))))
     × Extends s (inserted s bytes) (λ h. Insert h bytes))
 
 -- the items were inserted into the handle's filter in turn, and the answers tell for each whether it was there in its turn
 abbrev pub TellsAndInsertsAll : (old new : Option AnySketch) → ℤ → List (List ℕ) → List Bool → Type 0
 TellsAndInsertsAll old new result items answers =
     OnFilter old new result (λ s.
-    (result ≡ ok) × (answers ≡ answers_in_turn s items) × (new ≡ Some (Filter (all_inserted s items)))
+    (result ≡ ok) × (answers ≡ answers_in_turn s items) × (new ≡ Some (Filter (Own (all_inserted s items))))
     × Extends s (all_inserted s items) (λ h. all_inserted_after h items))

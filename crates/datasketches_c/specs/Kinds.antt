@@ -8,6 +8,7 @@ use Rattle.sketch_frequencies.specs.State.{FrequentState}
 use Rattle.datasketches_c.specs.Numbers.{OnRefused, ok, no_room, no_sketch, wrong_kind}
 use Rattle.datasketches_c.specs.Sharing.{reads}
 use Rattle.datasketches_c.specs.declared.any_sketch.AnySketch.{AnySketch}
+use Rattle.datasketches_c.specs.declared.any_sketch.Held.TheVariants.{Own}
 use Rattle.datasketches_c.specs.declared.any_sketch.AnySketch.TheVariants.{Filter, CountI64, CountU64, FrequentI64, FrequentStrings, FrequentU64}
 
 module _ {S : Type 0} (part : AnySketch → Option S) where
@@ -50,32 +51,32 @@ pub record WritesDownEach
 
 -- the filter, if the sketch is one
 abbrev pub filter_of : AnySketch → Option FilterState
-filter_of (Filter s) = Some s
+filter_of (Filter (Own s)) = Some s
 filter_of held = None
 
 -- the Count-Min sketch with weights in `i64`, if the sketch is one
 abbrev pub count_i64_of : AnySketch → Option CountState
-count_i64_of (CountI64 s) = Some s
+count_i64_of (CountI64 (Own s)) = Some s
 count_i64_of held = None
 
 -- the Count-Min sketch with weights in `u64`, if the sketch is one
 abbrev pub count_u64_of : AnySketch → Option CountState
-count_u64_of (CountU64 s) = Some s
+count_u64_of (CountU64 (Own s)) = Some s
 count_u64_of held = None
 
 -- the frequent items sketch of `i64` items, if the sketch is one
 abbrev pub frequent_i64_of : AnySketch → Option (FrequentState ℤ)
-frequent_i64_of (FrequentI64 s) = Some s
+frequent_i64_of (FrequentI64 (Own s)) = Some s
 frequent_i64_of held = None
 
 -- the frequent items sketch of `u64` items, if the sketch is one
 abbrev pub frequent_u64_of : AnySketch → Option (FrequentState ℕ)
-frequent_u64_of (FrequentU64 s) = Some s
+frequent_u64_of (FrequentU64 (Own s)) = Some s
 frequent_u64_of held = None
 
 -- the frequent items sketch of strings, if the sketch is one
 abbrev pub frequent_strings_of : AnySketch → Option (FrequentState (String Global))
-frequent_strings_of (FrequentStrings s) = Some s
+frequent_strings_of (FrequentStrings (Own s)) = Some s
 frequent_strings_of held = None
 
 -- `OnKind` for filters; below, for the other kinds

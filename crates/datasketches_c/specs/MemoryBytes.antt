@@ -10,17 +10,18 @@ use Rattle.datasketches_c.specs.FrequentStringImages.{string_row}
 use Rattle.datasketches_c.specs.Numbers.{no_sketch, ok}
 use Rattle.datasketches_c.specs.Sharing.{unshared}
 use Rattle.datasketches_c.specs.declared.any_sketch.AnySketch.{AnySketch}
+use Rattle.datasketches_c.specs.declared.any_sketch.Held.TheVariants.{Own}
 use Rattle.datasketches_c.specs.declared.any_sketch.AnySketch.TheVariants.{Filter, CountI64, CountU64, FrequentI64, FrequentStrings, FrequentU64}
 
 -- 8 for each word of a filter, and for each cell and each row of a Count-Min sketch. For frequent items, the bytes of the table
 -- and those that the items own
 abbrev pub bytes_of : AnySketch → ℕ
-bytes_of (Filter s) = 8 * s.num_words
-bytes_of (CountI64 s) = grid_bytes 8 s.hashes s.buckets
-bytes_of (CountU64 s) = grid_bytes 8 s.hashes s.buckets
-bytes_of (FrequentI64 s) = memory_bytes (table_bytes i64_row s.size) (owned_by i64_codec (λ n. n) s.counters)
-bytes_of (FrequentU64 s) = memory_bytes (table_bytes u64_row s.size) (owned_by u64_codec (λ n. n) s.counters)
-bytes_of (FrequentStrings s) =
+bytes_of (Filter (Own s)) = 8 * s.num_words
+bytes_of (CountI64 (Own s)) = grid_bytes 8 s.hashes s.buckets
+bytes_of (CountU64 (Own s)) = grid_bytes 8 s.hashes s.buckets
+bytes_of (FrequentI64 (Own s)) = memory_bytes (table_bytes i64_row s.size) (owned_by i64_codec (λ n. n) s.counters)
+bytes_of (FrequentU64 (Own s)) = memory_bytes (table_bytes u64_row s.size) (owned_by u64_codec (λ n. n) s.counters)
+bytes_of (FrequentStrings (Own s)) =
     memory_bytes (table_bytes string_row s.size) (owned_by text_codec (λ item. string_bytes item) s.counters)
 bytes_of held = 0
 

@@ -4,26 +4,37 @@ use Rattle.std.specs.Arc.{arc_value}
 use Rattle.sketch_base.specs.declared.fault.Fault.TheVariants.{NoMemory}
 use Rattle.datasketches_c.specs.Numbers.{no_sketch, refusal_number, wrong_kind}
 use Rattle.datasketches_c.specs.declared.any_sketch.AnySketch.{AnySketch}
-use Rattle.datasketches_c.specs.declared.any_sketch.AnySketch.TheVariants.{Filter, CountI64, CountU64, FrequentI64, FrequentU64, FrequentStrings, SharedFilter, SharedCountI64, SharedCountU64, SharedFrequentI64, SharedFrequentU64, SharedFrequentStrings, Moved}
+use Rattle.datasketches_c.specs.declared.any_sketch.AnySketch.TheVariants.{Filter, CountI64, CountU64, FrequentI64, FrequentU64, FrequentStrings, Moved}
+use Rattle.datasketches_c.specs.declared.any_sketch.Held.{Held}
+use Rattle.datasketches_c.specs.declared.any_sketch.Held.TheVariants.{Own, Shared}
+
+-- the sketch that is held
+abbrev pub value_in : {K : Type 0} → Held K → K
+value_in (Own sketch) = sketch
+value_in (Shared shared) = arc_value shared
+
+abbrev pub is_share : {K : Type 0} → Held K → Bool
+is_share (Own sketch) = false
+is_share (Shared shared) = true
 
 -- the sketch as one that is not shared
 abbrev pub unshared : AnySketch → AnySketch
-unshared (SharedFilter s) = Filter (arc_value s)
-unshared (SharedCountI64 s) = CountI64 (arc_value s)
-unshared (SharedCountU64 s) = CountU64 (arc_value s)
-unshared (SharedFrequentI64 s) = FrequentI64 (arc_value s)
-unshared (SharedFrequentU64 s) = FrequentU64 (arc_value s)
-unshared (SharedFrequentStrings s) = FrequentStrings (arc_value s)
-unshared held = held
+unshared (Filter h) = Filter (Own (value_in h))
+unshared (CountI64 h) = CountI64 (Own (value_in h))
+unshared (CountU64 h) = CountU64 (Own (value_in h))
+unshared (FrequentI64 h) = FrequentI64 (Own (value_in h))
+unshared (FrequentU64 h) = FrequentU64 (Own (value_in h))
+unshared (FrequentStrings h) = FrequentStrings (Own (value_in h))
+unshared Moved = Moved
 
 abbrev pub is_shared : AnySketch → Bool
-is_shared (SharedFilter s) = true
-is_shared (SharedCountI64 s) = true
-is_shared (SharedCountU64 s) = true
-is_shared (SharedFrequentI64 s) = true
-is_shared (SharedFrequentU64 s) = true
-is_shared (SharedFrequentStrings s) = true
-is_shared held = false
+is_shared (Filter h) = is_share h
+is_shared (CountI64 h) = is_share h
+is_shared (CountU64 h) = is_share h
+is_shared (FrequentI64 h) = is_share h
+is_shared (FrequentU64 h) = is_share h
+is_shared (FrequentStrings h) = is_share h
+is_shared Moved = false
 
 -- the sketch of a kind, shared or not, where `part` gives one that is not shared
 abbrev pub reads : {S : Type 0} → (AnySketch → Option S) → AnySketch → Option S

@@ -7,6 +7,7 @@ use Rattle.sketch_countmin.specs.State.{CountState}
 use Rattle.datasketches_c.specs.Numbers.{no_sketch, ok}
 use Rattle.datasketches_c.specs.Sharing.{unshared}
 use Rattle.datasketches_c.specs.declared.any_sketch.AnySketch.{AnySketch}
+use Rattle.datasketches_c.specs.declared.any_sketch.Held.TheVariants.{Own}
 use Rattle.datasketches_c.specs.declared.any_sketch.AnySketch.TheVariants.{Filter, CountI64, CountU64, FrequentI64, FrequentU64, FrequentStrings}
 use Rattle.datasketches_c.specs.declared.status.Status.{Status}
 
@@ -47,13 +48,13 @@ frequent_numbers kind s = record (no_numbers kind) {
 
 -- the numbers of a sketch that is not shared
 abbrev pub numbers_of : AnySketch → Status
-numbers_of (Filter s) =
+numbers_of (Filter (Own s)) =
     record (no_numbers 1) { seed = s.seed; num_bits = capacity_of s; bits_used = set.len s.set; num_hashes = s.num_hashes }
-numbers_of (CountU64 s) = count_numbers 2 s
-numbers_of (CountI64 s) = count_numbers 3 s
-numbers_of (FrequentU64 s) = frequent_numbers 4 s
-numbers_of (FrequentI64 s) = frequent_numbers 5 s
-numbers_of (FrequentStrings s) = frequent_numbers 6 s
+numbers_of (CountU64 (Own s)) = count_numbers 2 s
+numbers_of (CountI64 (Own s)) = count_numbers 3 s
+numbers_of (FrequentU64 (Own s)) = frequent_numbers 4 s
+numbers_of (FrequentI64 (Own s)) = frequent_numbers 5 s
+numbers_of (FrequentStrings (Own s)) = frequent_numbers 6 s
 numbers_of _ = no_numbers 0
 
 -- the numbers of the handle's sketch were written, or there is none and nothing was written

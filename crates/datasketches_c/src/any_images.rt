@@ -38,18 +38,12 @@ fn write_image(sketch: &AnySketch, out: &mut [u8], written: &mut usize) -> i32
     ensures uncounted { result ≢ ok → result ≢ no_room → written.new ≡ written.old }
 {
     match sketch {
-        AnySketch::FrequentStrings(sketch) => sketch.write_to(out, written),
-        AnySketch::SharedFrequentStrings(shared) => (**shared).write_to(out, written),
-        AnySketch::FrequentI64(sketch) => sketch.write_to(out, written),
-        AnySketch::SharedFrequentI64(shared) => (**shared).write_to(out, written),
-        AnySketch::FrequentU64(sketch) => sketch.write_to(out, written),
-        AnySketch::SharedFrequentU64(shared) => (**shared).write_to(out, written),
-        AnySketch::CountI64(sketch) => sketch.write_to(out, written),
-        AnySketch::SharedCountI64(shared) => (**shared).write_to(out, written),
-        AnySketch::CountU64(sketch) => sketch.write_to(out, written),
-        AnySketch::SharedCountU64(shared) => (**shared).write_to(out, written),
-        AnySketch::Filter(sketch) => sketch.write_to(out, written),
-        AnySketch::SharedFilter(shared) => (**shared).write_to(out, written),
+        AnySketch::FrequentStrings(held) => held.get().write_to(out, written),
+        AnySketch::FrequentI64(held) => held.get().write_to(out, written),
+        AnySketch::FrequentU64(held) => held.get().write_to(out, written),
+        AnySketch::CountI64(held) => held.get().write_to(out, written),
+        AnySketch::CountU64(held) => held.get().write_to(out, written),
+        AnySketch::Filter(held) => held.get().write_to(out, written),
         AnySketch::Moved => WRONG_KIND,
     }
 }
@@ -89,18 +83,12 @@ fn measure_image(sketch: &AnySketch, bytes: &mut usize) -> i32
     ensures untouched { OnRefused result (bytes.new ≡ bytes.old) }
 {
     match sketch {
-        AnySketch::FrequentStrings(sketch) => sketch.length_to(bytes),
-        AnySketch::SharedFrequentStrings(shared) => (**shared).length_to(bytes),
-        AnySketch::FrequentI64(sketch) => sketch.length_to(bytes),
-        AnySketch::SharedFrequentI64(shared) => (**shared).length_to(bytes),
-        AnySketch::FrequentU64(sketch) => sketch.length_to(bytes),
-        AnySketch::SharedFrequentU64(shared) => (**shared).length_to(bytes),
-        AnySketch::CountI64(sketch) => sketch.length_to(bytes),
-        AnySketch::SharedCountI64(shared) => (**shared).length_to(bytes),
-        AnySketch::CountU64(sketch) => sketch.length_to(bytes),
-        AnySketch::SharedCountU64(shared) => (**shared).length_to(bytes),
-        AnySketch::Filter(sketch) => sketch.length_to(bytes),
-        AnySketch::SharedFilter(shared) => (**shared).length_to(bytes),
+        AnySketch::FrequentStrings(held) => held.get().length_to(bytes),
+        AnySketch::FrequentI64(held) => held.get().length_to(bytes),
+        AnySketch::FrequentU64(held) => held.get().length_to(bytes),
+        AnySketch::CountI64(held) => held.get().length_to(bytes),
+        AnySketch::CountU64(held) => held.get().length_to(bytes),
+        AnySketch::Filter(held) => held.get().length_to(bytes),
         AnySketch::Moved => WRONG_KIND,
     }
 }

@@ -6,7 +6,7 @@ ghost use Rattle.datasketches_c.specs.Kinds.{ReadsKind};
 ghost use Rattle.datasketches_c.specs.Numbers.{OnRefused};
 ghost use Rattle.datasketches_c.specs.Sharing.{unshared};
 
-use crate::any_sketch::AnySketch;
+use crate::any_sketch::{AnySketch, Held};
 use crate::equality::equal_to;
 use crate::filter::SetOperation;
 use crate::handle::SketchHandle;
@@ -22,12 +22,17 @@ fn merge_with(alloc: Global, sketch: &mut AnySketch, other: &mut SketchHandle) -
     ensures refused { OnRefused result (sketch.new ≡ sketch.old) }
 {
     match sketch {
-        AnySketch::FrequentStrings(sketch) => join_into(alloc, sketch, other, ()),
-        AnySketch::FrequentI64(sketch) => join_into(alloc, sketch, other, ()),
-        AnySketch::FrequentU64(sketch) => join_into(alloc, sketch, other, ()),
-        AnySketch::CountI64(sketch) => join_into(alloc, sketch, other, ()),
-        AnySketch::CountU64(sketch) => join_into(alloc, sketch, other, ()),
-        AnySketch::Filter(sketch) => join_into(alloc, sketch, other, SetOperation::Union),
+        AnySketch::FrequentStrings(Held::Own(sketch)) => join_into(alloc, sketch, other, ()),
+        AnySketch::FrequentI64(Held::Own(sketch)) => join_into(alloc, sketch, other, ()),
+        AnySketch::FrequentU64(Held::Own(sketch)) => join_into(alloc, sketch, other, ()),
+        AnySketch::CountI64(Held::Own(sketch)) => join_into(alloc, sketch, other, ()),
+        AnySketch::CountU64(Held::Own(sketch)) => join_into(alloc, sketch, other, ()),
+        AnySketch::Filter(Held::Own(sketch)) => join_into(
+            alloc,
+            sketch,
+            other,
+            SetOperation::Union,
+        ),
         _ => WRONG_KIND,
     }
 }
@@ -67,12 +72,12 @@ fn merge_with_all(alloc: Global, sketch: &mut AnySketch, others: &mut [SketchHan
     ensures refused { OnRefused result (sketch.new ≡ sketch.old) }
 {
     match sketch {
-        AnySketch::FrequentStrings(sketch) => join_many_into(alloc, sketch, others),
-        AnySketch::FrequentI64(sketch) => join_many_into(alloc, sketch, others),
-        AnySketch::FrequentU64(sketch) => join_many_into(alloc, sketch, others),
-        AnySketch::CountI64(sketch) => join_many_into(alloc, sketch, others),
-        AnySketch::CountU64(sketch) => join_many_into(alloc, sketch, others),
-        AnySketch::Filter(sketch) => join_many_into(alloc, sketch, others),
+        AnySketch::FrequentStrings(Held::Own(sketch)) => join_many_into(alloc, sketch, others),
+        AnySketch::FrequentI64(Held::Own(sketch)) => join_many_into(alloc, sketch, others),
+        AnySketch::FrequentU64(Held::Own(sketch)) => join_many_into(alloc, sketch, others),
+        AnySketch::CountI64(Held::Own(sketch)) => join_many_into(alloc, sketch, others),
+        AnySketch::CountU64(Held::Own(sketch)) => join_many_into(alloc, sketch, others),
+        AnySketch::Filter(Held::Own(sketch)) => join_many_into(alloc, sketch, others),
         _ => WRONG_KIND,
     }
 }
@@ -112,12 +117,9 @@ fn compare_with(alloc: Global, sketch: &AnySketch, other: &mut SketchHandle) -> 
     ensures call { ComparesWith (unshared sketch.now) result other.old.value other.new.value }
 {
     match sketch {
-        AnySketch::CountI64(sketch) => equal_to(alloc, sketch, other),
-        AnySketch::SharedCountI64(shared) => equal_to(alloc, &**shared, other),
-        AnySketch::CountU64(sketch) => equal_to(alloc, sketch, other),
-        AnySketch::SharedCountU64(shared) => equal_to(alloc, &**shared, other),
-        AnySketch::Filter(sketch) => equal_to(alloc, sketch, other),
-        AnySketch::SharedFilter(shared) => equal_to(alloc, &**shared, other),
+        AnySketch::CountI64(held) => equal_to(alloc, held.get(), other),
+        AnySketch::CountU64(held) => equal_to(alloc, held.get(), other),
+        AnySketch::Filter(held) => equal_to(alloc, held.get(), other),
         _ => WRONG_KIND,
     }
 }

@@ -1,26 +1,40 @@
-//! Sketches of any kind.
+//! Sketches of any kind, alone or shared.
+ghost use Rattle.std.specs.Prelude.{◌≡◌};
+ghost use Rattle.datasketches_c.specs.Sharing.{value_in};
+
 use sketch_bloom::BloomFilter;
 use sketch_countmin::CountMinSketch;
 use sketch_frequencies::FrequentItemsSketch;
 use std::sync::Arc;
 
-/// A sketch of one of the kinds that calls from C use.
-///
-/// A shared sketch belongs to all handles that share it, and no call changes it. `Moved` stands in a handle only while a call
-/// moves its sketch.
+/// A sketch that a handle holds alone, or shares with other handles. No call changes a shared one.
+#[derive(Drop)]
+pub enum Held<K> {
+    Own(K),
+    Shared(Arc<K>),
+}
+
+impl<K> Held<K> {
+    /// Returns the sketch for reading.
+    #[inline(always)]
+    pub(crate) fn get(&self) -> &K
+        ensures { result.now ≡ value_in self.now }
+    {
+        match self {
+            Held::Own(sketch) => sketch,
+            Held::Shared(shared) => &**shared,
+        }
+    }
+}
+
+/// A sketch of one of the kinds that calls from C use. `Moved` stands in a handle only while a call moves its sketch.
 #[derive(Drop)]
 pub enum AnySketch {
-    FrequentStrings(FrequentItemsSketch<String>),
-    FrequentI64(FrequentItemsSketch<i64>),
-    FrequentU64(FrequentItemsSketch<u64>),
-    CountI64(CountMinSketch<i64>),
-    CountU64(CountMinSketch<u64>),
-    Filter(BloomFilter),
-    SharedFrequentStrings(Arc<FrequentItemsSketch<String>>),
-    SharedFrequentI64(Arc<FrequentItemsSketch<i64>>),
-    SharedFrequentU64(Arc<FrequentItemsSketch<u64>>),
-    SharedCountI64(Arc<CountMinSketch<i64>>),
-    SharedCountU64(Arc<CountMinSketch<u64>>),
-    SharedFilter(Arc<BloomFilter>),
+    FrequentStrings(Held<FrequentItemsSketch<String>>),
+    FrequentI64(Held<FrequentItemsSketch<i64>>),
+    FrequentU64(Held<FrequentItemsSketch<u64>>),
+    CountI64(Held<CountMinSketch<i64>>),
+    CountU64(Held<CountMinSketch<u64>>),
+    Filter(Held<BloomFilter>),
     Moved,
 }

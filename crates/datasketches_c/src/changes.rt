@@ -13,7 +13,7 @@ ghost use Rattle.datasketches_c.specs.Kinds.{HoldsKind};
 ghost use Rattle.datasketches_c.specs.Numbers.{OnDone, OnRefused, ok, refusal_number};
 ghost use Rattle.datasketches_c.specs.SketchKinds.{HoldsCount, OfCount, OfFrequent, kind_numbered};
 
-use crate::any_sketch::AnySketch;
+use crate::any_sketch::{AnySketch, Held};
 use crate::frequent::resample;
 use crate::handle::SketchHandle;
 use crate::kind::Kind;
@@ -185,12 +185,12 @@ fn reset(alloc: Global, sketch: &mut AnySketch) -> i32
     ensures refused { OnRefused result (sketch.new ≡ sketch.old) }
 {
     match sketch {
-        AnySketch::FrequentStrings(sketch) => empty_frequent(sketch),
-        AnySketch::FrequentI64(sketch) => empty_frequent(sketch),
-        AnySketch::FrequentU64(sketch) => empty_frequent(sketch),
-        AnySketch::CountI64(sketch) => restart_count(alloc, sketch),
-        AnySketch::CountU64(sketch) => restart_count(alloc, sketch),
-        AnySketch::Filter(sketch) => clear_filter(sketch),
+        AnySketch::FrequentStrings(Held::Own(sketch)) => empty_frequent(sketch),
+        AnySketch::FrequentI64(Held::Own(sketch)) => empty_frequent(sketch),
+        AnySketch::FrequentU64(Held::Own(sketch)) => empty_frequent(sketch),
+        AnySketch::CountI64(Held::Own(sketch)) => restart_count(alloc, sketch),
+        AnySketch::CountU64(Held::Own(sketch)) => restart_count(alloc, sketch),
+        AnySketch::Filter(Held::Own(sketch)) => clear_filter(sketch),
         _ => WRONG_KIND,
     }
 }
@@ -220,9 +220,9 @@ fn resample_any(sketch: &mut AnySketch, sample_size: usize) -> i32
     ensures refused { OnRefused result (sketch.new ≡ sketch.old) }
 {
     match sketch {
-        AnySketch::FrequentStrings(sketch) => resample(sketch, sample_size),
-        AnySketch::FrequentI64(sketch) => resample(sketch, sample_size),
-        AnySketch::FrequentU64(sketch) => resample(sketch, sample_size),
+        AnySketch::FrequentStrings(Held::Own(sketch)) => resample(sketch, sample_size),
+        AnySketch::FrequentI64(Held::Own(sketch)) => resample(sketch, sample_size),
+        AnySketch::FrequentU64(Held::Own(sketch)) => resample(sketch, sample_size),
         _ => WRONG_KIND,
     }
 }

@@ -25,18 +25,12 @@ fn copy_of(sketch: &AnySketch) -> Option<AnySketch>
     ensures { IfSome result (λ copy. HoldsCopy (unshared sketch.now) (Some copy)) }
 {
     match sketch {
-        AnySketch::FrequentStrings(sketch) => as_any(sketch.try_clone()),
-        AnySketch::SharedFrequentStrings(shared) => as_any((**shared).try_clone()),
-        AnySketch::FrequentI64(sketch) => as_any(sketch.try_clone()),
-        AnySketch::SharedFrequentI64(shared) => as_any((**shared).try_clone()),
-        AnySketch::FrequentU64(sketch) => as_any(sketch.try_clone()),
-        AnySketch::SharedFrequentU64(shared) => as_any((**shared).try_clone()),
-        AnySketch::CountI64(sketch) => as_any(sketch.try_clone()),
-        AnySketch::SharedCountI64(shared) => as_any((**shared).try_clone()),
-        AnySketch::CountU64(sketch) => as_any(sketch.try_clone()),
-        AnySketch::SharedCountU64(shared) => as_any((**shared).try_clone()),
-        AnySketch::Filter(sketch) => as_any(sketch.try_clone()),
-        AnySketch::SharedFilter(shared) => as_any((**shared).try_clone()),
+        AnySketch::FrequentStrings(held) => as_any(held.get().try_clone()),
+        AnySketch::FrequentI64(held) => as_any(held.get().try_clone()),
+        AnySketch::FrequentU64(held) => as_any(held.get().try_clone()),
+        AnySketch::CountI64(held) => as_any(held.get().try_clone()),
+        AnySketch::CountU64(held) => as_any(held.get().try_clone()),
+        AnySketch::Filter(held) => as_any(held.get().try_clone()),
         AnySketch::Moved => Some(AnySketch::Moved),
     }
 }

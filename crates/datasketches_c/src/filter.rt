@@ -14,6 +14,7 @@ ghost use Rattle.datasketches_c.specs.Images.{WritesSizedImage};
 ghost use Rattle.datasketches_c.specs.Joining.{IsCombined};
 ghost use Rattle.datasketches_c.specs.Kinds.{OnFilter, ReadsFilter};
 ghost use Rattle.datasketches_c.specs.Numbers.{OnDone, OnRefused, ok, no, yes, no_room, refusal_number};
+ghost use Rattle.datasketches_c.specs.declared.any_sketch.Held.TheVariants.{Own};
 ghost use Rattle.datasketches_c.specs.declared.any_sketch.AnySketch.TheVariants.{Filter};
 
 use crate::handle::SketchHandle;
@@ -45,7 +46,7 @@ pub extern "C" fn ds_bloom_new(
     seed: u64,
 ) -> i32
     ensures done { OnDone result ((result ≡ ok)
-        × (handle.new.value ≡ Some (Filter (empty_state (words_for num_bits) num_hashes seed)))) }
+        × (handle.new.value ≡ Some (Filter (Own (empty_state (words_for num_bits) num_hashes seed))))) }
     ensures stands { OnDone result (StandsFor (empty_state (words_for num_bits) num_hashes seed)
         (New (words_for num_bits) num_hashes seed)) }
     ensures accepted { OnDone result
@@ -61,7 +62,7 @@ pub extern "C" fn ds_bloom_new(
 #[inline]
 fn insert<I: Hash + Drop>(alloc: Global, handle: &mut SketchHandle, item: I) -> i32
     ensures { OnFilter handle.old.value handle.new.value result (λ s.
-        (result ≡ ok) × (handle.new.value ≡ Some (Filter (inserted s (fed_bytes I.hash_input item))))
+        (result ≡ ok) × (handle.new.value ≡ Some (Filter (Own (inserted s (fed_bytes I.hash_input item)))))
         × Extends s (inserted s (fed_bytes I.hash_input item)) (λ h. Insert h (fed_bytes I.hash_input item))) }
 {
     on_kind!(alloc, handle, BloomFilter, filter => {
@@ -74,7 +75,7 @@ fn insert<I: Hash + Drop>(alloc: Global, handle: &mut SketchHandle, item: I) -> 
 #[inline]
 fn insert_str(alloc: Global, handle: &mut SketchHandle, item: &str) -> i32
     ensures { OnFilter handle.old.value handle.new.value result (λ s.
-        (result ≡ ok) × (handle.new.value ≡ Some (Filter (inserted s (fed_bytes fed.str item.now))))
+        (result ≡ ok) × (handle.new.value ≡ Some (Filter (Own (inserted s (fed_bytes fed.str item.now)))))
         × Extends s (inserted s (fed_bytes fed.str item.now)) (λ h. Insert h (fed_bytes fed.str item.now))) }
 {
     on_kind!(alloc, handle, BloomFilter, filter => {
@@ -90,7 +91,7 @@ fn insert_str(alloc: Global, handle: &mut SketchHandle, item: &str) -> i32
 #[unsafe(no_mangle)]
 pub extern "C" fn ds_bloom_insert_u64(alloc: Global, handle: &mut SketchHandle, item: u64) -> i32
     ensures { OnFilter handle.old.value handle.new.value result (λ s.
-        (result ≡ ok) × (handle.new.value ≡ Some (Filter (inserted s (fed_bytes fed.u64 item))))
+        (result ≡ ok) × (handle.new.value ≡ Some (Filter (Own (inserted s (fed_bytes fed.u64 item)))))
         × Extends s (inserted s (fed_bytes fed.u64 item)) (λ h. Insert h (fed_bytes fed.u64 item))) }
 {
     insert(alloc, handle, item)
@@ -103,7 +104,7 @@ pub extern "C" fn ds_bloom_insert_u64(alloc: Global, handle: &mut SketchHandle, 
 #[unsafe(no_mangle)]
 pub extern "C" fn ds_bloom_insert_i64(alloc: Global, handle: &mut SketchHandle, item: i64) -> i32
     ensures { OnFilter handle.old.value handle.new.value result (λ s.
-        (result ≡ ok) × (handle.new.value ≡ Some (Filter (inserted s (fed_bytes fed.i64 item))))
+        (result ≡ ok) × (handle.new.value ≡ Some (Filter (Own (inserted s (fed_bytes fed.i64 item)))))
         × Extends s (inserted s (fed_bytes fed.i64 item)) (λ h. Insert h (fed_bytes fed.i64 item))) }
 {
     insert(alloc, handle, item)
@@ -122,7 +123,7 @@ pub extern "C" fn ds_bloom_insert_string(
     item: &[u8],
 ) -> i32
     ensures utf8 { IsUtf8 item.now → OnFilter handle.old.value handle.new.value result (λ s.
-        (result ≡ ok) × (handle.new.value ≡ Some (Filter (inserted s (fed_bytes fed.str item.now))))
+        (result ≡ ok) × (handle.new.value ≡ Some (Filter (Own (inserted s (fed_bytes fed.str item.now)))))
         × Extends s (inserted s (fed_bytes fed.str item.now)) (λ h. Insert h (fed_bytes fed.str item.now))) }
     ensures invalid_utf8 { ¬ (IsUtf8 item.now) → (result ≡ refusal_number Fault.InvalidUtf8)
         × (handle.new.value ≡ handle.old.value) }
@@ -134,7 +135,7 @@ pub extern "C" fn ds_bloom_insert_string(
 #[inline]
 fn insert_all<I: Hash>(alloc: Global, handle: &mut SketchHandle, items: &[I]) -> i32
     ensures { OnFilter handle.old.value handle.new.value result (λ s.
-        (result ≡ ok) × (handle.new.value ≡ Some (Filter (all_inserted s (map (fed_bytes I.hash_input) items.now))))
+        (result ≡ ok) × (handle.new.value ≡ Some (Filter (Own (all_inserted s (map (fed_bytes I.hash_input) items.now)))))
         × Extends s (all_inserted s (map (fed_bytes I.hash_input) items.now))
         (λ h. all_inserted_after h (map (fed_bytes I.hash_input) items.now))) }
 {
@@ -155,7 +156,7 @@ pub extern "C" fn ds_bloom_insert_all_u64(
     items: &[u64],
 ) -> i32
     ensures { OnFilter handle.old.value handle.new.value result (λ s.
-        (result ≡ ok) × (handle.new.value ≡ Some (Filter (all_inserted s (map (fed_bytes fed.u64) items.now))))
+        (result ≡ ok) × (handle.new.value ≡ Some (Filter (Own (all_inserted s (map (fed_bytes fed.u64) items.now)))))
         × Extends s (all_inserted s (map (fed_bytes fed.u64) items.now))
         (λ h. all_inserted_after h (map (fed_bytes fed.u64) items.now))) }
 {
@@ -173,7 +174,7 @@ pub extern "C" fn ds_bloom_insert_all_i64(
     items: &[i64],
 ) -> i32
     ensures { OnFilter handle.old.value handle.new.value result (λ s.
-        (result ≡ ok) × (handle.new.value ≡ Some (Filter (all_inserted s (map (fed_bytes fed.i64) items.now))))
+        (result ≡ ok) × (handle.new.value ≡ Some (Filter (Own (all_inserted s (map (fed_bytes fed.i64) items.now)))))
         × Extends s (all_inserted s (map (fed_bytes fed.i64) items.now))
         (λ h. all_inserted_after h (map (fed_bytes fed.i64) items.now))) }
 {
@@ -355,7 +356,7 @@ pub extern "C" fn ds_bloom_intersect(
     ensures refused { OnRefused result (handle.new.value ≡ handle.old.value) }
     ensures call { OnFilter handle.old.value handle.new.value result (λ a.
         ReadsFilter other.old.value other.new.value result (λ b.
-        (IsCompatible a b → (result ≡ ok) × (handle.new.value ≡ Some (Filter (intersected a b)))
+        (IsCompatible a b → (result ≡ ok) × (handle.new.value ≡ Some (Filter (Own (intersected a b))))
         × ExtendsBoth a b (intersected a b) Intersection)
         × (¬ IsCompatible a b → result ≡ refusal_number Fault.Mismatch))) }
 {
@@ -379,7 +380,7 @@ pub extern "C" fn ds_bloom_difference(
     ensures refused { OnRefused result (handle.new.value ≡ handle.old.value) }
     ensures call { OnFilter handle.old.value handle.new.value result (λ a.
         ReadsFilter other.old.value other.new.value result (λ b.
-        (IsCompatible a b → (result ≡ ok) × (handle.new.value ≡ Some (Filter (subtracted a b)))
+        (IsCompatible a b → (result ≡ ok) × (handle.new.value ≡ Some (Filter (Own (subtracted a b))))
         × ExtendsBoth a b (subtracted a b) Difference)
         × (¬ IsCompatible a b → result ≡ refusal_number Fault.Mismatch))) }
 {

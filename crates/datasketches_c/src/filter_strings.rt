@@ -7,6 +7,7 @@ ghost use Rattle.sketch_bloom.specs.Stands.{Extends};
 ghost use Rattle.sketch_bloom.specs.State.{contains_item, all_inserted};
 ghost use Rattle.datasketches_c.specs.Kinds.{OnFilter, ReadsFilter};
 ghost use Rattle.datasketches_c.specs.Numbers.{OnRefused, ok};
+ghost use Rattle.datasketches_c.specs.declared.any_sketch.Held.TheVariants.{Own};
 ghost use Rattle.datasketches_c.specs.declared.any_sketch.AnySketch.TheVariants.{Filter};
 
 use crate::handle::SketchHandle;
@@ -24,7 +25,7 @@ pub(crate) fn insert_all_strings<S: Strings>(
 ) -> i32
     ensures call { OnFilter handle.old.value handle.new.value result (λ s.
         (result ≡ ok) × (handle.new.value
-        ≡ Some (Filter (all_inserted s (map (fed_bytes fed.str) (S.list strings.now)))))
+        ≡ Some (Filter (Own (all_inserted s (map (fed_bytes fed.str) (S.list strings.now))))))
         × Extends s (all_inserted s (map (fed_bytes fed.str) (S.list strings.now)))
         (λ h. all_inserted_after h (map (fed_bytes fed.str) (S.list strings.now)))) }
     ensures refused { OnRefused result (handle.new.value ≡ handle.old.value) }

@@ -6,11 +6,12 @@ ghost use Rattle.datasketches_c.specs.Kinds.{filter_of, count_i64_of, count_u64_
 ghost use Rattle.datasketches_c.specs.Sharing.{is_shared, reads, unshared};
 ghost use Rattle.datasketches_c.specs.contracts.any_sketch.AnySketch as any_sketch;
 ghost use Rattle.datasketches_c.specs.declared.any_sketch.AnySketch.{AnySketch as OfAnyKind};
-ghost use Rattle.datasketches_c.specs.declared.any_sketch.AnySketch.TheVariants.{Filter, CountI64, CountU64, FrequentI64, FrequentU64, FrequentStrings, SharedFilter, SharedCountI64, SharedCountU64, SharedFrequentI64, SharedFrequentU64, SharedFrequentStrings};
+ghost use Rattle.datasketches_c.specs.declared.any_sketch.AnySketch.TheVariants.{Filter, CountI64, CountU64, FrequentI64, FrequentU64, FrequentStrings};
+ghost use Rattle.datasketches_c.specs.declared.any_sketch.Held.TheVariants.{Own, Shared};
 ghost use Rattle.std.specs.Global.{Global};
 ghost use Rattle.std.specs.declared.sync.Arc.{Arc};
 
-use crate::any_sketch::AnySketch;
+use crate::any_sketch::{AnySketch, Held};
 use sketch_bloom::BloomFilter;
 use sketch_countmin::CountMinSketch;
 use sketch_frequencies::FrequentItemsSketch;
@@ -54,36 +55,36 @@ pub(crate) trait Kind: Drop {
 impl Kind for BloomFilter {
     ghost part = { filter_of };
 
-    ghost whole = { Filter };
+    ghost whole = { λ s. Filter (Own s) };
 
-    ghost sharing = { SharedFilter };
+    ghost sharing = { λ shared. Filter (Shared shared) };
 
     #[inline(always)]
     fn part_of(any: &mut AnySketch) -> Option<&mut BloomFilter> {
-        if let AnySketch::Filter(sketch) = any {
-            Some(sketch)
-        } else {
-            None
+        if let AnySketch::Filter(held) = any {
+            if let Held::Own(sketch) = held {
+                return Some(sketch);
+            }
         }
+        None
     }
 
     #[inline(always)]
     fn part_in(any: &AnySketch) -> Option<&BloomFilter> {
         match any {
-            AnySketch::Filter(sketch) => Some(sketch),
-            AnySketch::SharedFilter(shared) => Some(&**shared),
+            AnySketch::Filter(held) => Some(held.get()),
             _ => None,
         }
     }
 
     fn into_any(self) -> AnySketch {
-        AnySketch::Filter(self)
+        AnySketch::Filter(Held::Own(self))
     }
 
     fn into_shared(shared: Arc<BloomFilter>) -> AnySketch
-        ensures { result ≡ SharedFilter shared }
+        ensures { result ≡ Filter (Shared shared) }
     {
-        AnySketch::SharedFilter(shared)
+        AnySketch::Filter(Held::Shared(shared))
     }
 
     ghost back = { λ s. refl };
@@ -98,36 +99,36 @@ impl Kind for BloomFilter {
 impl Kind for CountMinSketch<i64> {
     ghost part = { count_i64_of };
 
-    ghost whole = { CountI64 };
+    ghost whole = { λ s. CountI64 (Own s) };
 
-    ghost sharing = { SharedCountI64 };
+    ghost sharing = { λ shared. CountI64 (Shared shared) };
 
     #[inline(always)]
     fn part_of(any: &mut AnySketch) -> Option<&mut CountMinSketch<i64>> {
-        if let AnySketch::CountI64(sketch) = any {
-            Some(sketch)
-        } else {
-            None
+        if let AnySketch::CountI64(held) = any {
+            if let Held::Own(sketch) = held {
+                return Some(sketch);
+            }
         }
+        None
     }
 
     #[inline(always)]
     fn part_in(any: &AnySketch) -> Option<&CountMinSketch<i64>> {
         match any {
-            AnySketch::CountI64(sketch) => Some(sketch),
-            AnySketch::SharedCountI64(shared) => Some(&**shared),
+            AnySketch::CountI64(held) => Some(held.get()),
             _ => None,
         }
     }
 
     fn into_any(self) -> AnySketch {
-        AnySketch::CountI64(self)
+        AnySketch::CountI64(Held::Own(self))
     }
 
     fn into_shared(shared: Arc<CountMinSketch<i64>>) -> AnySketch
-        ensures { result ≡ SharedCountI64 shared }
+        ensures { result ≡ CountI64 (Shared shared) }
     {
-        AnySketch::SharedCountI64(shared)
+        AnySketch::CountI64(Held::Shared(shared))
     }
 
     ghost back = { λ s. refl };
@@ -142,36 +143,36 @@ impl Kind for CountMinSketch<i64> {
 impl Kind for CountMinSketch<u64> {
     ghost part = { count_u64_of };
 
-    ghost whole = { CountU64 };
+    ghost whole = { λ s. CountU64 (Own s) };
 
-    ghost sharing = { SharedCountU64 };
+    ghost sharing = { λ shared. CountU64 (Shared shared) };
 
     #[inline(always)]
     fn part_of(any: &mut AnySketch) -> Option<&mut CountMinSketch<u64>> {
-        if let AnySketch::CountU64(sketch) = any {
-            Some(sketch)
-        } else {
-            None
+        if let AnySketch::CountU64(held) = any {
+            if let Held::Own(sketch) = held {
+                return Some(sketch);
+            }
         }
+        None
     }
 
     #[inline(always)]
     fn part_in(any: &AnySketch) -> Option<&CountMinSketch<u64>> {
         match any {
-            AnySketch::CountU64(sketch) => Some(sketch),
-            AnySketch::SharedCountU64(shared) => Some(&**shared),
+            AnySketch::CountU64(held) => Some(held.get()),
             _ => None,
         }
     }
 
     fn into_any(self) -> AnySketch {
-        AnySketch::CountU64(self)
+        AnySketch::CountU64(Held::Own(self))
     }
 
     fn into_shared(shared: Arc<CountMinSketch<u64>>) -> AnySketch
-        ensures { result ≡ SharedCountU64 shared }
+        ensures { result ≡ CountU64 (Shared shared) }
     {
-        AnySketch::SharedCountU64(shared)
+        AnySketch::CountU64(Held::Shared(shared))
     }
 
     ghost back = { λ s. refl };
@@ -186,36 +187,36 @@ impl Kind for CountMinSketch<u64> {
 impl Kind for FrequentItemsSketch<i64> {
     ghost part = { frequent_i64_of };
 
-    ghost whole = { FrequentI64 };
+    ghost whole = { λ s. FrequentI64 (Own s) };
 
-    ghost sharing = { SharedFrequentI64 };
+    ghost sharing = { λ shared. FrequentI64 (Shared shared) };
 
     #[inline(always)]
     fn part_of(any: &mut AnySketch) -> Option<&mut FrequentItemsSketch<i64>> {
-        if let AnySketch::FrequentI64(sketch) = any {
-            Some(sketch)
-        } else {
-            None
+        if let AnySketch::FrequentI64(held) = any {
+            if let Held::Own(sketch) = held {
+                return Some(sketch);
+            }
         }
+        None
     }
 
     #[inline(always)]
     fn part_in(any: &AnySketch) -> Option<&FrequentItemsSketch<i64>> {
         match any {
-            AnySketch::FrequentI64(sketch) => Some(sketch),
-            AnySketch::SharedFrequentI64(shared) => Some(&**shared),
+            AnySketch::FrequentI64(held) => Some(held.get()),
             _ => None,
         }
     }
 
     fn into_any(self) -> AnySketch {
-        AnySketch::FrequentI64(self)
+        AnySketch::FrequentI64(Held::Own(self))
     }
 
     fn into_shared(shared: Arc<FrequentItemsSketch<i64>>) -> AnySketch
-        ensures { result ≡ SharedFrequentI64 shared }
+        ensures { result ≡ FrequentI64 (Shared shared) }
     {
-        AnySketch::SharedFrequentI64(shared)
+        AnySketch::FrequentI64(Held::Shared(shared))
     }
 
     ghost back = { λ s. refl };
@@ -230,36 +231,36 @@ impl Kind for FrequentItemsSketch<i64> {
 impl Kind for FrequentItemsSketch<u64> {
     ghost part = { frequent_u64_of };
 
-    ghost whole = { FrequentU64 };
+    ghost whole = { λ s. FrequentU64 (Own s) };
 
-    ghost sharing = { SharedFrequentU64 };
+    ghost sharing = { λ shared. FrequentU64 (Shared shared) };
 
     #[inline(always)]
     fn part_of(any: &mut AnySketch) -> Option<&mut FrequentItemsSketch<u64>> {
-        if let AnySketch::FrequentU64(sketch) = any {
-            Some(sketch)
-        } else {
-            None
+        if let AnySketch::FrequentU64(held) = any {
+            if let Held::Own(sketch) = held {
+                return Some(sketch);
+            }
         }
+        None
     }
 
     #[inline(always)]
     fn part_in(any: &AnySketch) -> Option<&FrequentItemsSketch<u64>> {
         match any {
-            AnySketch::FrequentU64(sketch) => Some(sketch),
-            AnySketch::SharedFrequentU64(shared) => Some(&**shared),
+            AnySketch::FrequentU64(held) => Some(held.get()),
             _ => None,
         }
     }
 
     fn into_any(self) -> AnySketch {
-        AnySketch::FrequentU64(self)
+        AnySketch::FrequentU64(Held::Own(self))
     }
 
     fn into_shared(shared: Arc<FrequentItemsSketch<u64>>) -> AnySketch
-        ensures { result ≡ SharedFrequentU64 shared }
+        ensures { result ≡ FrequentU64 (Shared shared) }
     {
-        AnySketch::SharedFrequentU64(shared)
+        AnySketch::FrequentU64(Held::Shared(shared))
     }
 
     ghost back = { λ s. refl };
@@ -274,36 +275,36 @@ impl Kind for FrequentItemsSketch<u64> {
 impl Kind for FrequentItemsSketch<String> {
     ghost part = { frequent_strings_of };
 
-    ghost whole = { FrequentStrings };
+    ghost whole = { λ s. FrequentStrings (Own s) };
 
-    ghost sharing = { SharedFrequentStrings };
+    ghost sharing = { λ shared. FrequentStrings (Shared shared) };
 
     #[inline(always)]
     fn part_of(any: &mut AnySketch) -> Option<&mut FrequentItemsSketch<String>> {
-        if let AnySketch::FrequentStrings(sketch) = any {
-            Some(sketch)
-        } else {
-            None
+        if let AnySketch::FrequentStrings(held) = any {
+            if let Held::Own(sketch) = held {
+                return Some(sketch);
+            }
         }
+        None
     }
 
     #[inline(always)]
     fn part_in(any: &AnySketch) -> Option<&FrequentItemsSketch<String>> {
         match any {
-            AnySketch::FrequentStrings(sketch) => Some(sketch),
-            AnySketch::SharedFrequentStrings(shared) => Some(&**shared),
+            AnySketch::FrequentStrings(held) => Some(held.get()),
             _ => None,
         }
     }
 
     fn into_any(self) -> AnySketch {
-        AnySketch::FrequentStrings(self)
+        AnySketch::FrequentStrings(Held::Own(self))
     }
 
     fn into_shared(shared: Arc<FrequentItemsSketch<String>>) -> AnySketch
-        ensures { result ≡ SharedFrequentStrings shared }
+        ensures { result ≡ FrequentStrings (Shared shared) }
     {
-        AnySketch::SharedFrequentStrings(shared)
+        AnySketch::FrequentStrings(Held::Shared(shared))
     }
 
     ghost back = { λ s. refl };

@@ -13,6 +13,7 @@ ghost use Rattle.datasketches_c.specs.FrequentStrings.{AddsStrings, WeighsString
 ghost use Rattle.datasketches_c.specs.Kinds.{HoldsFrequentStrings, OnFilter, OnFrequentStrings, count_i64_of, count_u64_of, ReadsFilter, ReadsFrequentStrings};
 ghost use Rattle.datasketches_c.specs.Numbers.{OnRefused, max_i64, max_u64, no_room, ok, refusal_number};
 ghost use Rattle.sketch_base.specs.Strings.{strings_at};
+ghost use Rattle.datasketches_c.specs.declared.any_sketch.Held.TheVariants.{Own};
 ghost use Rattle.datasketches_c.specs.declared.any_sketch.AnySketch.TheVariants.{Filter};
 ghost use Rattle.datasketches_c.specs.Sharing.{reads};
 
@@ -38,7 +39,7 @@ pub extern "C" fn ds_bloom_insert_all_string_pairs(
     items: &[&[u8]],
 ) -> i32
     ensures strings { All IsUtf8 (strings_at items.now) → OnFilter handle.old.value handle.new.value result (λ s.
-        (result ≡ ok) × (handle.new.value ≡ Some (Filter (all_inserted s (map (fed_bytes fed.str) (strings_at items.now)))))
+        (result ≡ ok) × (handle.new.value ≡ Some (Filter (Own (all_inserted s (map (fed_bytes fed.str) (strings_at items.now))))))
         × Extends s (all_inserted s (map (fed_bytes fed.str) (strings_at items.now)))
         (λ h. all_inserted_after h (map (fed_bytes fed.str) (strings_at items.now)))) }
     ensures invalid_utf8 { ¬ All IsUtf8 (strings_at items.now) → result ≡ refusal_number Fault.InvalidUtf8 }

@@ -13,6 +13,7 @@ ghost use Rattle.datasketches_c.specs.FrequentStrings.{AddsStrings};
 ghost use Rattle.datasketches_c.specs.Kinds.{HoldsFrequentStrings, OnFilter, OnFrequentStrings, count_i64_of, count_u64_of, ReadsFilter, ReadsFrequentStrings};
 ghost use Rattle.datasketches_c.specs.Numbers.{OnRefused, bad_offsets, max_i64, max_u64, no_room, ok, refusal_number};
 ghost use Rattle.sketch_base.specs.Strings.{AreOffsets, AreStrings, strings_of};
+ghost use Rattle.datasketches_c.specs.declared.any_sketch.Held.TheVariants.{Own};
 ghost use Rattle.datasketches_c.specs.declared.any_sketch.AnySketch.TheVariants.{Filter};
 ghost use Rattle.datasketches_c.specs.Sharing.{reads};
 
@@ -43,7 +44,7 @@ pub extern "C" fn ds_bloom_insert_all_string(
 ) -> i32
     ensures strings { AreStrings bytes.now offsets.now → OnFilter handle.old.value handle.new.value result (λ s.
         (result ≡ ok) × (handle.new.value
-        ≡ Some (Filter (all_inserted s (map (fed_bytes fed.str) (strings_of bytes.now offsets.now)))))
+        ≡ Some (Filter (Own (all_inserted s (map (fed_bytes fed.str) (strings_of bytes.now offsets.now))))))
         × Extends s (all_inserted s (map (fed_bytes fed.str) (strings_of bytes.now offsets.now)))
         (λ h. all_inserted_after h (map (fed_bytes fed.str) (strings_of bytes.now offsets.now)))) }
     ensures bad_offsets { ¬ AreOffsets bytes.now offsets.now → result ≡ bad_offsets }

@@ -13,18 +13,12 @@ fn bytes_of(sketch: &AnySketch) -> usize
     ensures { result ≡ bytes_of (unshared sketch.now) }
 {
     match sketch {
-        AnySketch::FrequentStrings(sketch) => sketch.memory_bytes(),
-        AnySketch::SharedFrequentStrings(shared) => (**shared).memory_bytes(),
-        AnySketch::FrequentI64(sketch) => sketch.memory_bytes(),
-        AnySketch::SharedFrequentI64(shared) => (**shared).memory_bytes(),
-        AnySketch::FrequentU64(sketch) => sketch.memory_bytes(),
-        AnySketch::SharedFrequentU64(shared) => (**shared).memory_bytes(),
-        AnySketch::CountI64(sketch) => sketch.estimated_size(),
-        AnySketch::SharedCountI64(shared) => (**shared).estimated_size(),
-        AnySketch::CountU64(sketch) => sketch.estimated_size(),
-        AnySketch::SharedCountU64(shared) => (**shared).estimated_size(),
-        AnySketch::Filter(sketch) => sketch.estimated_size(),
-        AnySketch::SharedFilter(shared) => (**shared).estimated_size(),
+        AnySketch::FrequentStrings(held) => held.get().memory_bytes(),
+        AnySketch::FrequentI64(held) => held.get().memory_bytes(),
+        AnySketch::FrequentU64(held) => held.get().memory_bytes(),
+        AnySketch::CountI64(held) => held.get().estimated_size(),
+        AnySketch::CountU64(held) => held.get().estimated_size(),
+        AnySketch::Filter(held) => held.get().estimated_size(),
         AnySketch::Moved => 0,
     }
 }

@@ -5,7 +5,7 @@ ghost use Rattle.datasketches_c.specs.Numbers.{OnDone, OnRefused, ok, no, yes, n
 ghost use Rattle.datasketches_c.specs.Sharing.{is_shared, unshared, HoldsShared, IsFreezeRefusal, IsShareOf, IsOwnOf, IsShareRefusal};
 ghost use Rattle.datasketches_c.specs.declared.any_sketch.AnySketch.TheVariants.{Moved};
 
-use crate::any_sketch::AnySketch;
+use crate::any_sketch::{AnySketch, Held};
 use crate::handle::SketchHandle;
 use crate::kind::Kind;
 use crate::status_code::{NO, NO_SKETCH, OK, WRONG_KIND, YES, refusal_number};
@@ -34,12 +34,12 @@ fn freeze_any(alloc: Global, sketch: AnySketch) -> (AnySketch, i32)
         ⊎ ((result.1 ≡ refusal_number Fault.NoMemory) × (is_shared sketch ≡ false)))) }
 {
     match sketch {
-        AnySketch::FrequentStrings(sketch) => freeze(alloc, sketch),
-        AnySketch::FrequentI64(sketch) => freeze(alloc, sketch),
-        AnySketch::FrequentU64(sketch) => freeze(alloc, sketch),
-        AnySketch::CountI64(sketch) => freeze(alloc, sketch),
-        AnySketch::CountU64(sketch) => freeze(alloc, sketch),
-        AnySketch::Filter(sketch) => freeze(alloc, sketch),
+        AnySketch::FrequentStrings(Held::Own(sketch)) => freeze(alloc, sketch),
+        AnySketch::FrequentI64(Held::Own(sketch)) => freeze(alloc, sketch),
+        AnySketch::FrequentU64(Held::Own(sketch)) => freeze(alloc, sketch),
+        AnySketch::CountI64(Held::Own(sketch)) => freeze(alloc, sketch),
+        AnySketch::CountU64(Held::Own(sketch)) => freeze(alloc, sketch),
+        AnySketch::Filter(Held::Own(sketch)) => freeze(alloc, sketch),
         AnySketch::Moved => (AnySketch::Moved, WRONG_KIND),
         shared => (shared, OK),
     }
@@ -62,12 +62,12 @@ fn thaw_any(sketch: AnySketch) -> (AnySketch, i32)
         ⊎ ((result.1 ≡ no) × (result.0 ≡ sketch) × (is_shared sketch ≡ true)) }
 {
     match sketch {
-        AnySketch::SharedFrequentStrings(shared) => thaw(shared),
-        AnySketch::SharedFrequentI64(shared) => thaw(shared),
-        AnySketch::SharedFrequentU64(shared) => thaw(shared),
-        AnySketch::SharedCountI64(shared) => thaw(shared),
-        AnySketch::SharedCountU64(shared) => thaw(shared),
-        AnySketch::SharedFilter(shared) => thaw(shared),
+        AnySketch::FrequentStrings(Held::Shared(shared)) => thaw(shared),
+        AnySketch::FrequentI64(Held::Shared(shared)) => thaw(shared),
+        AnySketch::FrequentU64(Held::Shared(shared)) => thaw(shared),
+        AnySketch::CountI64(Held::Shared(shared)) => thaw(shared),
+        AnySketch::CountU64(Held::Shared(shared)) => thaw(shared),
+        AnySketch::Filter(Held::Shared(shared)) => thaw(shared),
         own => (own, YES),
     }
 }
@@ -92,12 +92,12 @@ fn share_any(sketch: &AnySketch) -> Result<AnySketch, i32>
         ⊎ ((e ≡ refusal_number Fault.NoMemory) × (is_shared sketch.now ≡ true))) }
 {
     match sketch {
-        AnySketch::SharedFrequentStrings(shared) => share(shared),
-        AnySketch::SharedFrequentI64(shared) => share(shared),
-        AnySketch::SharedFrequentU64(shared) => share(shared),
-        AnySketch::SharedCountI64(shared) => share(shared),
-        AnySketch::SharedCountU64(shared) => share(shared),
-        AnySketch::SharedFilter(shared) => share(shared),
+        AnySketch::FrequentStrings(Held::Shared(shared)) => share(shared),
+        AnySketch::FrequentI64(Held::Shared(shared)) => share(shared),
+        AnySketch::FrequentU64(Held::Shared(shared)) => share(shared),
+        AnySketch::CountI64(Held::Shared(shared)) => share(shared),
+        AnySketch::CountU64(Held::Shared(shared)) => share(shared),
+        AnySketch::Filter(Held::Shared(shared)) => share(shared),
         _ => Err(WRONG_KIND),
     }
 }

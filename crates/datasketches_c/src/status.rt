@@ -3,6 +3,7 @@ ghost use Rattle.std.specs.Prelude.{◌≡◌};
 ghost use Rattle.datasketches_c.specs.Sharing.{unshared};
 ghost use Rattle.datasketches_c.specs.Status.{Describes, count_numbers, frequent_numbers, no_numbers, numbers_of};
 ghost use Rattle.datasketches_c.specs.declared.any_sketch.AnySketch.TheVariants as held;
+ghost use Rattle.datasketches_c.specs.declared.any_sketch.Held.TheVariants.{Own};
 
 use crate::any_sketch::AnySketch;
 use crate::handle::SketchHandle;
@@ -55,7 +56,7 @@ fn no_numbers(kind: u16) -> Status
 
 /// Returns the numbers of a filter.
 fn filter_numbers(sketch: &BloomFilter) -> Status
-    ensures { result ≡ numbers_of (held.Filter sketch.now) }
+    ensures { result ≡ numbers_of (held.Filter (Own sketch.now)) }
 {
     Status {
         seed: sketch.seed(),
@@ -100,18 +101,12 @@ fn numbers_of(sketch: &AnySketch) -> Status
     ensures { result ≡ numbers_of (unshared sketch.now) }
 {
     match sketch {
-        AnySketch::Filter(sketch) => filter_numbers(sketch),
-        AnySketch::SharedFilter(shared) => filter_numbers(&**shared),
-        AnySketch::CountU64(sketch) => count_numbers(2, sketch),
-        AnySketch::SharedCountU64(shared) => count_numbers(2, &**shared),
-        AnySketch::CountI64(sketch) => count_numbers(3, sketch),
-        AnySketch::SharedCountI64(shared) => count_numbers(3, &**shared),
-        AnySketch::FrequentU64(sketch) => frequent_numbers(4, sketch),
-        AnySketch::SharedFrequentU64(shared) => frequent_numbers(4, &**shared),
-        AnySketch::FrequentI64(sketch) => frequent_numbers(5, sketch),
-        AnySketch::SharedFrequentI64(shared) => frequent_numbers(5, &**shared),
-        AnySketch::FrequentStrings(sketch) => frequent_numbers(6, sketch),
-        AnySketch::SharedFrequentStrings(shared) => frequent_numbers(6, &**shared),
+        AnySketch::Filter(held) => filter_numbers(held.get()),
+        AnySketch::CountU64(held) => count_numbers(2, held.get()),
+        AnySketch::CountI64(held) => count_numbers(3, held.get()),
+        AnySketch::FrequentU64(held) => frequent_numbers(4, held.get()),
+        AnySketch::FrequentI64(held) => frequent_numbers(5, held.get()),
+        AnySketch::FrequentStrings(held) => frequent_numbers(6, held.get()),
         AnySketch::Moved => no_numbers(0),
     }
 }

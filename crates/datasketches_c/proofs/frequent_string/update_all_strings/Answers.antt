@@ -2,6 +2,7 @@ use Rattle.std.proofs.Common.{ℤ, Some, refl, sym, ap, ◌∙◌}
 use Rattle.datasketches_c.specs.FrequentStrings.{AddsStrings}
 use Rattle.datasketches_c.specs.Kinds.{HoldsFrequentStrings, OnFrequentStrings, frequent_strings_of}
 use Rattle.datasketches_c.specs.declared.any_sketch.AnySketch.TheVariants.{FrequentStrings}
+use Rattle.datasketches_c.specs.declared.any_sketch.Held.TheVariants.{Own}
 use Rattle.datasketches_c.proofs.AnswerLemmas.{handed_on}
 use Rattle.datasketches_c.proofs.KindLemmas.{changed}
 use Rattle.datasketches_c.proofs.frequent_string.update_all_strings.Goals as goal
@@ -13,5 +14,5 @@ returns-in-Some-part_of g c =
     let new = c.update_strings-answer.new.sketch in
     let answer = c.update_strings-answer.result in
     let call : ℤ → Type 0 = λ z. OnFrequentStrings c.args.handle.now.value c.give.new.self.value z (λ s. HoldsFrequentStrings c.give.new.self.value (λ t. AddsStrings s strings t z)) in
-    handed_on call answer c.update_strings-answer.type_inv (changed frequent_strings_of (λ s t. AddsStrings s strings t answer) c.args.handle.now.value c.give.new.self.value c.deref_mut.result.now (FrequentStrings new) c.in-Some-part_of.sketch.now new answer
+    handed_on call answer c.update_strings-answer.type_inv (changed frequent_strings_of (λ s t. AddsStrings s strings t answer) c.args.handle.now.value c.give.new.self.value c.deref_mut.result.now (FrequentStrings (Own new)) c.in-Some-part_of.sketch.now new answer
     (c.in-Some.ensures.sketch ∙ ap Some (sym c.deref_mut.ensures.value)) c.in-Some-part_of.ensures.which.0 c.give.ensures refl c.update_strings-answer.ensures)

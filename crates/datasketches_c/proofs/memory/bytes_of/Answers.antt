@@ -14,15 +14,3 @@ returns-in-FrequentI64 c = search rules
 pub returns-in-FrequentU64 : goal.returns-in-FrequentU64
 unfolding table_bytes
 returns-in-FrequentU64 c = search rules
-
-pub returns-in-SharedFrequentStrings : goal.returns-in-SharedFrequentStrings
-unfolding table_bytes
-returns-in-SharedFrequentStrings c = search rules
-
-pub returns-in-SharedFrequentI64 : goal.returns-in-SharedFrequentI64
-unfolding table_bytes
-returns-in-SharedFrequentI64 c = search rules
-
-pub returns-in-SharedFrequentU64 : goal.returns-in-SharedFrequentU64
-unfolding table_bytes
-returns-in-SharedFrequentU64 c = search rules
