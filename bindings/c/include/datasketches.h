@@ -303,12 +303,10 @@ int32_t ds_bloom_new(ds_sketch *handle, uint64_t num_bits, uint16_t num_hashes, 
 
 /* Inserts an item. */
 int32_t ds_bloom_insert_u64(ds_sketch *handle, uint64_t item);
-int32_t ds_bloom_insert_i64(ds_sketch *handle, int64_t item);
 int32_t ds_bloom_insert_string(ds_sketch *handle, const uint8_t *item, size_t length);
 
 /* Inserts many numbers, as one after another, and faster. */
 int32_t ds_bloom_insert_all_u64(ds_sketch *handle, const uint64_t *items, size_t count);
-int32_t ds_bloom_insert_all_i64(ds_sketch *handle, const int64_t *items, size_t count);
 
 /* Inserts many strings, as one after another. */
 int32_t ds_bloom_insert_all_string(ds_sketch *handle, const uint8_t *bytes, size_t num_bytes, const uint64_t *offsets,
@@ -323,12 +321,10 @@ int32_t ds_bloom_insert_lines(ds_sketch *handle, const uint8_t *text, size_t len
 
 /* Returns DS_YES if the filter contains the item, and DS_NO otherwise. */
 int32_t ds_bloom_contains_u64(ds_sketch *handle, uint64_t item);
-int32_t ds_bloom_contains_i64(ds_sketch *handle, int64_t item);
 int32_t ds_bloom_contains_string(ds_sketch *handle, const uint8_t *item, size_t length);
 
 /* Writes for each item whether the filter contains it. Returns DS_NO_ROOM unless `num_results` is the number of items. */
 int32_t ds_bloom_contains_all_u64(ds_sketch *handle, const uint64_t *items, size_t count, bool *results, size_t num_results);
-int32_t ds_bloom_contains_all_i64(ds_sketch *handle, const int64_t *items, size_t count, bool *results, size_t num_results);
 int32_t ds_bloom_contains_all_string(ds_sketch *handle, const uint8_t *bytes, size_t num_bytes, const uint64_t *offsets,
                                      size_t num_offsets, bool *results, size_t num_results);
 int32_t ds_bloom_contains_all_string_pairs(ds_sketch *handle, const ds_string *strings, size_t count, bool *results,
@@ -336,14 +332,11 @@ int32_t ds_bloom_contains_all_string_pairs(ds_sketch *handle, const ds_string *s
 
 /* Inserts an item. Returns DS_YES if the filter contained it before, and DS_NO otherwise. */
 int32_t ds_bloom_contains_and_insert_u64(ds_sketch *handle, uint64_t item);
-int32_t ds_bloom_contains_and_insert_i64(ds_sketch *handle, int64_t item);
 int32_t ds_bloom_contains_and_insert_string(ds_sketch *handle, const uint8_t *item, size_t length);
 
 /* Inserts many items, as one after another. Writes for each whether the filter contained it before, so also whether an earlier one
  * of the same call put it there. Returns DS_NO_ROOM unless `num_results` is the number of items. */
 int32_t ds_bloom_contains_and_insert_all_u64(ds_sketch *handle, const uint64_t *items, size_t count, bool *results,
-                                             size_t num_results);
-int32_t ds_bloom_contains_and_insert_all_i64(ds_sketch *handle, const int64_t *items, size_t count, bool *results,
                                              size_t num_results);
 int32_t ds_bloom_contains_and_insert_all_string(ds_sketch *handle, const uint8_t *bytes, size_t num_bytes,
                                                 const uint64_t *offsets, size_t num_offsets, bool *results, size_t num_results);
@@ -359,14 +352,11 @@ int32_t ds_bloom_difference(ds_sketch *handle, ds_sketch *other);
  * in a mapped file, to which rule 2 applies, too. Returns the error of the image's first failed check: each of
  * `ds_deserialize` but those of `max_bytes` and of the number of set bits, in constant time. Does not allocate. */
 int32_t ds_bloom_image_contains_u64(const uint8_t *image, size_t length, uint64_t item);
-int32_t ds_bloom_image_contains_i64(const uint8_t *image, size_t length, int64_t item);
 int32_t ds_bloom_image_contains_string(const uint8_t *image, size_t length, const uint8_t *item, size_t item_length);
 
 /* Writes for each number whether the filter in an image contains it. Returns DS_NO_ROOM unless `num_results` is the number of
  * items, and then the errors of the calls above. Does not allocate. */
 int32_t ds_bloom_image_contains_all_u64(const uint8_t *image, size_t length, const uint64_t *items, size_t count, bool *results,
-                                        size_t num_results);
-int32_t ds_bloom_image_contains_all_i64(const uint8_t *image, size_t length, const int64_t *items, size_t count, bool *results,
                                         size_t num_results);
 
 /* --- Count-Min sketches with weights in uint64_t. An estimate is at most the total, and at least the item's own weight: what
@@ -379,13 +369,11 @@ int32_t ds_count_min_new(ds_sketch *handle, int32_t kind, uint8_t num_hashes, ui
 
 /* Adds a weight to the item's. Returns DS_WEIGHT_OVERFLOW if the total would exceed 2^64 - 1. */
 int32_t ds_count_min_u64_update_u64(ds_sketch *handle, uint64_t item, uint64_t weight);
-int32_t ds_count_min_u64_update_i64(ds_sketch *handle, int64_t item, uint64_t weight);
 int32_t ds_count_min_u64_update_string(ds_sketch *handle, const uint8_t *item, size_t length, uint64_t weight);
 
 /* Adds 1 to the weight of each item, in order. Returns DS_WEIGHT_OVERFLOW if the total would exceed 2^64 - 1: then the items
  * before the first that does not fit are counted. */
 int32_t ds_count_min_u64_update_all_u64(ds_sketch *handle, const uint64_t *items, size_t count);
-int32_t ds_count_min_u64_update_all_i64(ds_sketch *handle, const int64_t *items, size_t count);
 int32_t ds_count_min_u64_update_all_string(ds_sketch *handle, const uint8_t *bytes, size_t num_bytes, const uint64_t *offsets,
                                            size_t num_offsets);
 int32_t ds_count_min_u64_update_all_string_pairs(ds_sketch *handle, const ds_string *strings, size_t count);
@@ -393,8 +381,6 @@ int32_t ds_count_min_u64_update_all_string_pairs(ds_sketch *handle, const ds_str
 /* Adds a weight to each item's, in order. Returns DS_NO_ROOM unless there are as many weights as items. Returns
  * DS_WEIGHT_OVERFLOW if the total would exceed 2^64 - 1 with all weights: then none is added. */
 int32_t ds_count_min_u64_update_all_weighted_u64(ds_sketch *handle, const uint64_t *items, size_t count, const uint64_t *weights,
-                                                 size_t num_weights);
-int32_t ds_count_min_u64_update_all_weighted_i64(ds_sketch *handle, const int64_t *items, size_t count, const uint64_t *weights,
                                                  size_t num_weights);
 int32_t ds_count_min_u64_update_all_weighted_string(ds_sketch *handle, const uint8_t *bytes, size_t num_bytes,
                                                     const uint64_t *offsets, size_t num_offsets, const uint64_t *weights,
@@ -410,13 +396,10 @@ int32_t ds_count_min_u64_update_lines(ds_sketch *handle, const uint8_t *text, si
 
 /* Writes the estimate of the item's weight: the minimum of its cells. */
 int32_t ds_count_min_u64_estimate_u64(ds_sketch *handle, uint64_t item, uint64_t *estimate);
-int32_t ds_count_min_u64_estimate_i64(ds_sketch *handle, int64_t item, uint64_t *estimate);
 int32_t ds_count_min_u64_estimate_string(ds_sketch *handle, const uint8_t *item, size_t length, uint64_t *estimate);
 
 /* Writes the estimate of each item's weight. Returns DS_NO_ROOM unless `num_estimates` is the number of items. */
 int32_t ds_count_min_u64_estimate_all_u64(ds_sketch *handle, const uint64_t *items, size_t count, uint64_t *estimates,
-                                          size_t num_estimates);
-int32_t ds_count_min_u64_estimate_all_i64(ds_sketch *handle, const int64_t *items, size_t count, uint64_t *estimates,
                                           size_t num_estimates);
 int32_t ds_count_min_u64_estimate_all_string(ds_sketch *handle, const uint8_t *bytes, size_t num_bytes, const uint64_t *offsets,
                                              size_t num_offsets, uint64_t *estimates, size_t num_estimates);
@@ -425,7 +408,6 @@ int32_t ds_count_min_u64_estimate_all_string_pairs(ds_sketch *handle, const ds_s
 
 /* Writes the estimate plus a margin: e times the total over the buckets, rounded down. The sum stops at 2^64 - 1. */
 int32_t ds_count_min_u64_upper_bound_u64(ds_sketch *handle, uint64_t item, uint64_t *bound);
-int32_t ds_count_min_u64_upper_bound_i64(ds_sketch *handle, int64_t item, uint64_t *bound);
 int32_t ds_count_min_u64_upper_bound_string(ds_sketch *handle, const uint8_t *item, size_t length, uint64_t *bound);
 
 /* Halves each cell and the total, rounded down. */
@@ -442,7 +424,6 @@ int32_t ds_count_min_u64_decay(ds_sketch *handle, uint64_t numerator, uint64_t d
  * that was read. Does not allocate. */
 int32_t ds_count_min_u64_image_estimate_u64(const uint8_t *image, size_t length, uint64_t seed, uint64_t item,
                                             uint64_t *estimate);
-int32_t ds_count_min_u64_image_estimate_i64(const uint8_t *image, size_t length, uint64_t seed, int64_t item, uint64_t *estimate);
 int32_t ds_count_min_u64_image_estimate_string(const uint8_t *image, size_t length, uint64_t seed, const uint8_t *item,
                                                size_t item_length, uint64_t *estimate);
 
@@ -452,16 +433,12 @@ int32_t ds_count_min_u64_image_estimate_string(const uint8_t *image, size_t leng
  * DS_WEIGHT_OVERFLOW is returned if it would exceed 2^63 - 1. An estimate is at least the item's own weight if no weight is
  * below 0. If some weight is below 0, it may be less. There is no halving and no decay. */
 int32_t ds_count_min_i64_update_u64(ds_sketch *handle, uint64_t item, int64_t weight);
-int32_t ds_count_min_i64_update_i64(ds_sketch *handle, int64_t item, int64_t weight);
 int32_t ds_count_min_i64_update_string(ds_sketch *handle, const uint8_t *item, size_t length, int64_t weight);
 int32_t ds_count_min_i64_update_all_u64(ds_sketch *handle, const uint64_t *items, size_t count);
-int32_t ds_count_min_i64_update_all_i64(ds_sketch *handle, const int64_t *items, size_t count);
 int32_t ds_count_min_i64_update_all_string(ds_sketch *handle, const uint8_t *bytes, size_t num_bytes, const uint64_t *offsets,
                                            size_t num_offsets);
 int32_t ds_count_min_i64_update_all_string_pairs(ds_sketch *handle, const ds_string *strings, size_t count);
 int32_t ds_count_min_i64_update_all_weighted_u64(ds_sketch *handle, const uint64_t *items, size_t count, const int64_t *weights,
-                                                 size_t num_weights);
-int32_t ds_count_min_i64_update_all_weighted_i64(ds_sketch *handle, const int64_t *items, size_t count, const int64_t *weights,
                                                  size_t num_weights);
 int32_t ds_count_min_i64_update_all_weighted_string(ds_sketch *handle, const uint8_t *bytes, size_t num_bytes,
                                                     const uint64_t *offsets, size_t num_offsets, const int64_t *weights,
@@ -471,23 +448,140 @@ int32_t ds_count_min_i64_update_all_weighted_string_pairs(ds_sketch *handle, con
 int32_t ds_count_min_i64_update_words(ds_sketch *handle, const uint8_t *text, size_t length);
 int32_t ds_count_min_i64_update_lines(ds_sketch *handle, const uint8_t *text, size_t length);
 int32_t ds_count_min_i64_estimate_u64(ds_sketch *handle, uint64_t item, int64_t *estimate);
-int32_t ds_count_min_i64_estimate_i64(ds_sketch *handle, int64_t item, int64_t *estimate);
 int32_t ds_count_min_i64_estimate_string(ds_sketch *handle, const uint8_t *item, size_t length, int64_t *estimate);
 int32_t ds_count_min_i64_estimate_all_u64(ds_sketch *handle, const uint64_t *items, size_t count, int64_t *estimates,
-                                          size_t num_estimates);
-int32_t ds_count_min_i64_estimate_all_i64(ds_sketch *handle, const int64_t *items, size_t count, int64_t *estimates,
                                           size_t num_estimates);
 int32_t ds_count_min_i64_estimate_all_string(ds_sketch *handle, const uint8_t *bytes, size_t num_bytes, const uint64_t *offsets,
                                              size_t num_offsets, int64_t *estimates, size_t num_estimates);
 int32_t ds_count_min_i64_estimate_all_string_pairs(ds_sketch *handle, const ds_string *strings, size_t count, int64_t *estimates,
                                                    size_t num_estimates);
 int32_t ds_count_min_i64_upper_bound_u64(ds_sketch *handle, uint64_t item, int64_t *bound);
-int32_t ds_count_min_i64_upper_bound_i64(ds_sketch *handle, int64_t item, int64_t *bound);
 int32_t ds_count_min_i64_upper_bound_string(ds_sketch *handle, const uint8_t *item, size_t length, int64_t *bound);
 int32_t ds_count_min_i64_image_estimate_u64(const uint8_t *image, size_t length, uint64_t seed, uint64_t item, int64_t *estimate);
-int32_t ds_count_min_i64_image_estimate_i64(const uint8_t *image, size_t length, uint64_t seed, int64_t item, int64_t *estimate);
 int32_t ds_count_min_i64_image_estimate_string(const uint8_t *image, size_t length, uint64_t seed, const uint8_t *item,
                                                size_t item_length, int64_t *estimate);
+
+/* --- Items in int64_t. Of filters and Count-Min sketches, a number in int64_t is the same item as the one of the same bits in
+ * uint64_t. So these functions of the header make the calls for uint64_t. --- */
+
+static inline int32_t ds_bloom_insert_i64(ds_sketch *handle, int64_t item)
+{
+    return ds_bloom_insert_u64(handle, (uint64_t)item);
+}
+
+static inline int32_t ds_bloom_insert_all_i64(ds_sketch *handle, const int64_t *items, size_t count)
+{
+    return ds_bloom_insert_all_u64(handle, (const uint64_t *)items, count);
+}
+
+static inline int32_t ds_bloom_contains_i64(ds_sketch *handle, int64_t item)
+{
+    return ds_bloom_contains_u64(handle, (uint64_t)item);
+}
+
+static inline int32_t ds_bloom_contains_all_i64(ds_sketch *handle, const int64_t *items, size_t count, bool *results,
+                                                size_t num_results)
+{
+    return ds_bloom_contains_all_u64(handle, (const uint64_t *)items, count, results, num_results);
+}
+
+static inline int32_t ds_bloom_contains_and_insert_i64(ds_sketch *handle, int64_t item)
+{
+    return ds_bloom_contains_and_insert_u64(handle, (uint64_t)item);
+}
+
+static inline int32_t ds_bloom_contains_and_insert_all_i64(ds_sketch *handle, const int64_t *items, size_t count, bool *results,
+                                                           size_t num_results)
+{
+    return ds_bloom_contains_and_insert_all_u64(handle, (const uint64_t *)items, count, results, num_results);
+}
+
+static inline int32_t ds_bloom_image_contains_i64(const uint8_t *image, size_t length, int64_t item)
+{
+    return ds_bloom_image_contains_u64(image, length, (uint64_t)item);
+}
+
+static inline int32_t ds_bloom_image_contains_all_i64(const uint8_t *image, size_t length, const int64_t *items, size_t count,
+                                                      bool *results, size_t num_results)
+{
+    return ds_bloom_image_contains_all_u64(image, length, (const uint64_t *)items, count, results, num_results);
+}
+
+static inline int32_t ds_count_min_u64_update_i64(ds_sketch *handle, int64_t item, uint64_t weight)
+{
+    return ds_count_min_u64_update_u64(handle, (uint64_t)item, weight);
+}
+
+static inline int32_t ds_count_min_u64_update_all_i64(ds_sketch *handle, const int64_t *items, size_t count)
+{
+    return ds_count_min_u64_update_all_u64(handle, (const uint64_t *)items, count);
+}
+
+static inline int32_t ds_count_min_u64_update_all_weighted_i64(ds_sketch *handle, const int64_t *items, size_t count,
+                                                               const uint64_t *weights, size_t num_weights)
+{
+    return ds_count_min_u64_update_all_weighted_u64(handle, (const uint64_t *)items, count, weights, num_weights);
+}
+
+static inline int32_t ds_count_min_u64_estimate_i64(ds_sketch *handle, int64_t item, uint64_t *estimate)
+{
+    return ds_count_min_u64_estimate_u64(handle, (uint64_t)item, estimate);
+}
+
+static inline int32_t ds_count_min_u64_estimate_all_i64(ds_sketch *handle, const int64_t *items, size_t count,
+                                                        uint64_t *estimates, size_t num_estimates)
+{
+    return ds_count_min_u64_estimate_all_u64(handle, (const uint64_t *)items, count, estimates, num_estimates);
+}
+
+static inline int32_t ds_count_min_u64_upper_bound_i64(ds_sketch *handle, int64_t item, uint64_t *bound)
+{
+    return ds_count_min_u64_upper_bound_u64(handle, (uint64_t)item, bound);
+}
+
+static inline int32_t ds_count_min_u64_image_estimate_i64(const uint8_t *image, size_t length, uint64_t seed, int64_t item,
+                                                          uint64_t *estimate)
+{
+    return ds_count_min_u64_image_estimate_u64(image, length, seed, (uint64_t)item, estimate);
+}
+
+static inline int32_t ds_count_min_i64_update_i64(ds_sketch *handle, int64_t item, int64_t weight)
+{
+    return ds_count_min_i64_update_u64(handle, (uint64_t)item, weight);
+}
+
+static inline int32_t ds_count_min_i64_update_all_i64(ds_sketch *handle, const int64_t *items, size_t count)
+{
+    return ds_count_min_i64_update_all_u64(handle, (const uint64_t *)items, count);
+}
+
+static inline int32_t ds_count_min_i64_update_all_weighted_i64(ds_sketch *handle, const int64_t *items, size_t count,
+                                                               const int64_t *weights, size_t num_weights)
+{
+    return ds_count_min_i64_update_all_weighted_u64(handle, (const uint64_t *)items, count, weights, num_weights);
+}
+
+static inline int32_t ds_count_min_i64_estimate_i64(ds_sketch *handle, int64_t item, int64_t *estimate)
+{
+    return ds_count_min_i64_estimate_u64(handle, (uint64_t)item, estimate);
+}
+
+static inline int32_t ds_count_min_i64_estimate_all_i64(ds_sketch *handle, const int64_t *items, size_t count, int64_t *estimates,
+                                                        size_t num_estimates)
+{
+    return ds_count_min_i64_estimate_all_u64(handle, (const uint64_t *)items, count, estimates, num_estimates);
+}
+
+static inline int32_t ds_count_min_i64_upper_bound_i64(ds_sketch *handle, int64_t item, int64_t *bound)
+{
+    return ds_count_min_i64_upper_bound_u64(handle, (uint64_t)item, bound);
+}
+
+static inline int32_t ds_count_min_i64_image_estimate_i64(const uint8_t *image, size_t length, uint64_t seed, int64_t item,
+                                                          int64_t *estimate)
+{
+    return ds_count_min_i64_image_estimate_u64(image, length, seed, (uint64_t)item, estimate);
+}
 
 /* --- Frequent items: the items of the largest weights, in at most three quarters of `max_map_size` counters.
  *

@@ -44,20 +44,6 @@ impl CountItem for u64 {
     }
 }
 
-impl CountItem for i64 {
-    ghost bytes = { fed_bytes fed.i64 };
-
-    #[inline(always)]
-    fn add_to<V: CountMinValue>(self, sketch: &mut CountMinSketch<V>, weight: V) -> i32 {
-        count(sketch, self, weight)
-    }
-
-    #[inline(always)]
-    fn estimate_in<V: CountMinValue>(self, sketch: &CountMinSketch<V>) -> V {
-        sketch.estimate(self)
-    }
-}
-
 impl<'a> CountItem for &'a str {
     ghost bytes = { λ item. fed_bytes fed.str item.now };
 

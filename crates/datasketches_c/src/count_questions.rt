@@ -33,24 +33,6 @@ pub extern "C" fn ds_count_min_u64_estimate_u64(
     count::estimate(alloc, handle, item, estimate)
 }
 
-/// Writes the estimate of a number's weight: the minimum of its cells.
-///
-/// Returns `NO_SKETCH` if the handle has no sketch, and `WRONG_KIND` if its sketch is of another kind. Then nothing
-/// changes.
-#[unsafe(no_mangle)]
-pub extern "C" fn ds_count_min_u64_estimate_i64(
-    alloc: Global,
-    handle: &mut SketchHandle,
-    item: i64,
-    estimate: &mut u64,
-) -> i32
-    ensures kept { handle.new.value ≡ handle.old.value }
-    ensures estimate { Estimates (reads count_u64_of) handle.old.value handle.new.value result (fed_bytes fed.i64 item) (pos estimate.new) }
-    ensures untouched { OnRefused result (estimate.new ≡ estimate.old) }
-{
-    count::estimate(alloc, handle, item, estimate)
-}
-
 /// Writes the estimate of a string's weight: the minimum of its cells.
 ///
 /// Returns the first of these errors, and then changes nothing:
@@ -86,24 +68,6 @@ pub extern "C" fn ds_count_min_i64_estimate_u64(
 ) -> i32
     ensures kept { handle.new.value ≡ handle.old.value }
     ensures estimate { Estimates (reads count_i64_of) handle.old.value handle.new.value result (fed_bytes fed.u64 item) estimate.new }
-    ensures untouched { OnRefused result (estimate.new ≡ estimate.old) }
-{
-    count::estimate(alloc, handle, item, estimate)
-}
-
-/// Writes the estimate of a number's weight: the minimum of its cells.
-///
-/// Returns `NO_SKETCH` if the handle has no sketch, and `WRONG_KIND` if its sketch is of another kind. Then nothing
-/// changes.
-#[unsafe(no_mangle)]
-pub extern "C" fn ds_count_min_i64_estimate_i64(
-    alloc: Global,
-    handle: &mut SketchHandle,
-    item: i64,
-    estimate: &mut i64,
-) -> i32
-    ensures kept { handle.new.value ≡ handle.old.value }
-    ensures estimate { Estimates (reads count_i64_of) handle.old.value handle.new.value result (fed_bytes fed.i64 item) estimate.new }
     ensures untouched { OnRefused result (estimate.new ≡ estimate.old) }
 {
     count::estimate(alloc, handle, item, estimate)
@@ -162,30 +126,6 @@ pub extern "C" fn ds_count_min_u64_estimate_all_u64(
 /// - `NO_ROOM` if `items` and `estimates` differ in length.
 /// - `NO_SKETCH` if the handle has no sketch, and `WRONG_KIND` if its sketch is of another kind.
 #[unsafe(no_mangle)]
-pub extern "C" fn ds_count_min_u64_estimate_all_i64(
-    alloc: Global,
-    handle: &mut SketchHandle,
-    items: &[i64],
-    estimates: &mut [u64],
-) -> i32
-    ensures kept { handle.new.value ≡ handle.old.value }
-    ensures length { length estimates.new ≡ length estimates.old }
-    ensures no_room { length estimates.old ≢ length items.now
-        → (result ≡ no_room) × (estimates.new ≡ estimates.old) }
-    ensures estimates { length estimates.old ≡ length items.now
-        → EstimatesAll (reads count_u64_of) handle.old.value handle.new.value result (fed_bytes fed.i64) items.now (map pos estimates.new) }
-    ensures untouched { OnRefused result (estimates.new ≡ estimates.old) }
-{
-    count::estimate_all(alloc, handle, items, estimates)
-}
-
-/// Writes the estimate of each number's weight.
-///
-/// Returns the first of these errors, and then changes nothing:
-///
-/// - `NO_ROOM` if `items` and `estimates` differ in length.
-/// - `NO_SKETCH` if the handle has no sketch, and `WRONG_KIND` if its sketch is of another kind.
-#[unsafe(no_mangle)]
 pub extern "C" fn ds_count_min_i64_estimate_all_u64(
     alloc: Global,
     handle: &mut SketchHandle,
@@ -198,30 +138,6 @@ pub extern "C" fn ds_count_min_i64_estimate_all_u64(
         → (result ≡ no_room) × (estimates.new ≡ estimates.old) }
     ensures estimates { length estimates.old ≡ length items.now
         → EstimatesAll (reads count_i64_of) handle.old.value handle.new.value result (fed_bytes fed.u64) items.now estimates.new }
-    ensures untouched { OnRefused result (estimates.new ≡ estimates.old) }
-{
-    count::estimate_all(alloc, handle, items, estimates)
-}
-
-/// Writes the estimate of each number's weight.
-///
-/// Returns the first of these errors, and then changes nothing:
-///
-/// - `NO_ROOM` if `items` and `estimates` differ in length.
-/// - `NO_SKETCH` if the handle has no sketch, and `WRONG_KIND` if its sketch is of another kind.
-#[unsafe(no_mangle)]
-pub extern "C" fn ds_count_min_i64_estimate_all_i64(
-    alloc: Global,
-    handle: &mut SketchHandle,
-    items: &[i64],
-    estimates: &mut [i64],
-) -> i32
-    ensures kept { handle.new.value ≡ handle.old.value }
-    ensures length { length estimates.new ≡ length estimates.old }
-    ensures no_room { length estimates.old ≢ length items.now
-        → (result ≡ no_room) × (estimates.new ≡ estimates.old) }
-    ensures estimates { length estimates.old ≡ length items.now
-        → EstimatesAll (reads count_i64_of) handle.old.value handle.new.value result (fed_bytes fed.i64) items.now estimates.new }
     ensures untouched { OnRefused result (estimates.new ≡ estimates.old) }
 {
     count::estimate_all(alloc, handle, items, estimates)
@@ -241,25 +157,6 @@ pub extern "C" fn ds_count_min_u64_upper_bound_u64(
 ) -> i32
     ensures kept { handle.new.value ≡ handle.old.value }
     ensures bound { Bounds (reads count_u64_of) max_u64 handle.old.value handle.new.value result (fed_bytes fed.u64 item) (pos bound.new) }
-    ensures untouched { OnRefused result (bound.new ≡ bound.old) }
-{
-    count::upper_bound(alloc, handle, item, bound)
-}
-
-/// Writes the estimate of a number's weight plus a margin, or 2^64 - 1 if the sum exceeds it. The margin is e times the
-/// total over the number of buckets, rounded down.
-///
-/// Returns `NO_SKETCH` if the handle has no sketch, and `WRONG_KIND` if its sketch is of another kind. Then nothing
-/// changes.
-#[unsafe(no_mangle)]
-pub extern "C" fn ds_count_min_u64_upper_bound_i64(
-    alloc: Global,
-    handle: &mut SketchHandle,
-    item: i64,
-    bound: &mut u64,
-) -> i32
-    ensures kept { handle.new.value ≡ handle.old.value }
-    ensures bound { Bounds (reads count_u64_of) max_u64 handle.old.value handle.new.value result (fed_bytes fed.i64 item) (pos bound.new) }
     ensures untouched { OnRefused result (bound.new ≡ bound.old) }
 {
     count::upper_bound(alloc, handle, item, bound)
@@ -302,25 +199,6 @@ pub extern "C" fn ds_count_min_i64_upper_bound_u64(
 ) -> i32
     ensures kept { handle.new.value ≡ handle.old.value }
     ensures bound { Bounds (reads count_i64_of) max_i64 handle.old.value handle.new.value result (fed_bytes fed.u64 item) bound.new }
-    ensures untouched { OnRefused result (bound.new ≡ bound.old) }
-{
-    count::upper_bound(alloc, handle, item, bound)
-}
-
-/// Writes the estimate of a number's weight plus a margin, or 2^63 - 1 if the sum exceeds it. The margin is e times the
-/// total over the number of buckets, rounded down.
-///
-/// Returns `NO_SKETCH` if the handle has no sketch, and `WRONG_KIND` if its sketch is of another kind. Then nothing
-/// changes.
-#[unsafe(no_mangle)]
-pub extern "C" fn ds_count_min_i64_upper_bound_i64(
-    alloc: Global,
-    handle: &mut SketchHandle,
-    item: i64,
-    bound: &mut i64,
-) -> i32
-    ensures kept { handle.new.value ≡ handle.old.value }
-    ensures bound { Bounds (reads count_i64_of) max_i64 handle.old.value handle.new.value result (fed_bytes fed.i64 item) bound.new }
     ensures untouched { OnRefused result (bound.new ≡ bound.old) }
 {
     count::upper_bound(alloc, handle, item, bound)

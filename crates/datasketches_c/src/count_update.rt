@@ -34,25 +34,6 @@ pub extern "C" fn ds_count_min_u64_update_u64(
     count::update(alloc, handle, item, weight)
 }
 
-/// Adds a weight to a number's.
-///
-/// Returns the first of these errors, and then changes nothing:
-///
-/// - `NO_SKETCH` if the handle has no sketch, and `WRONG_KIND` if its sketch is of another kind.
-/// - `WeightOverflow` if the total would exceed 2^64 - 1.
-#[unsafe(no_mangle)]
-pub extern "C" fn ds_count_min_u64_update_i64(
-    alloc: Global,
-    handle: &mut SketchHandle,
-    item: i64,
-    weight: u64,
-) -> i32
-    ensures call { AddsWeight count_u64_of max_u64 handle.old.value handle.new.value result (fed_bytes fed.i64 item) (pos weight) }
-    ensures refused { OnRefused result (handle.new.value ≡ handle.old.value) }
-{
-    count::update(alloc, handle, item, weight)
-}
-
 /// Adds a weight to a string's.
 ///
 /// Returns the first of these errors, and then changes nothing:
@@ -89,25 +70,6 @@ pub extern "C" fn ds_count_min_i64_update_u64(
     weight: i64,
 ) -> i32
     ensures call { AddsWeight count_i64_of max_i64 handle.old.value handle.new.value result (fed_bytes fed.u64 item) weight }
-    ensures refused { OnRefused result (handle.new.value ≡ handle.old.value) }
-{
-    count::update(alloc, handle, item, weight)
-}
-
-/// Adds a weight to a number's, and the weight's distance from 0 to the total.
-///
-/// Returns the first of these errors, and then changes nothing:
-///
-/// - `NO_SKETCH` if the handle has no sketch, and `WRONG_KIND` if its sketch is of another kind.
-/// - `WeightOverflow` if the total would exceed 2^63 - 1.
-#[unsafe(no_mangle)]
-pub extern "C" fn ds_count_min_i64_update_i64(
-    alloc: Global,
-    handle: &mut SketchHandle,
-    item: i64,
-    weight: i64,
-) -> i32
-    ensures call { AddsWeight count_i64_of max_i64 handle.old.value handle.new.value result (fed_bytes fed.i64 item) weight }
     ensures refused { OnRefused result (handle.new.value ≡ handle.old.value) }
 {
     count::update(alloc, handle, item, weight)
@@ -158,24 +120,6 @@ pub extern "C" fn ds_count_min_u64_update_all_u64(
 /// Returns `NO_SKETCH` if the handle has no sketch, and `WRONG_KIND` if its sketch is of another kind. Then nothing
 /// changes.
 ///
-/// Returns `WeightOverflow` if the total would exceed 2^64 - 1. Then the numbers before the first that does not fit are
-/// counted, and no others.
-#[unsafe(no_mangle)]
-pub extern "C" fn ds_count_min_u64_update_all_i64(
-    alloc: Global,
-    handle: &mut SketchHandle,
-    items: &[i64],
-) -> i32
-    ensures { AddsEach count_u64_of max_u64 handle.old.value handle.new.value result (fed_bytes fed.i64) items.now }
-{
-    count::update_all::<u64, i64>(alloc, handle, items)
-}
-
-/// Adds 1 to the weight of each number, in order.
-///
-/// Returns `NO_SKETCH` if the handle has no sketch, and `WRONG_KIND` if its sketch is of another kind. Then nothing
-/// changes.
-///
 /// Returns `WeightOverflow` if the total would exceed 2^63 - 1. Then the numbers before the first that does not fit are
 /// counted, and no others.
 #[unsafe(no_mangle)]
@@ -187,24 +131,6 @@ pub extern "C" fn ds_count_min_i64_update_all_u64(
     ensures { AddsEach count_i64_of max_i64 handle.old.value handle.new.value result (fed_bytes fed.u64) items.now }
 {
     count::update_all::<i64, u64>(alloc, handle, items)
-}
-
-/// Adds 1 to the weight of each number, in order.
-///
-/// Returns `NO_SKETCH` if the handle has no sketch, and `WRONG_KIND` if its sketch is of another kind. Then nothing
-/// changes.
-///
-/// Returns `WeightOverflow` if the total would exceed 2^63 - 1. Then the numbers before the first that does not fit are
-/// counted, and no others.
-#[unsafe(no_mangle)]
-pub extern "C" fn ds_count_min_i64_update_all_i64(
-    alloc: Global,
-    handle: &mut SketchHandle,
-    items: &[i64],
-) -> i32
-    ensures { AddsEach count_i64_of max_i64 handle.old.value handle.new.value result (fed_bytes fed.i64) items.now }
-{
-    count::update_all::<i64, i64>(alloc, handle, items)
 }
 
 /// Adds a weight to each number's, in order.
@@ -224,28 +150,6 @@ pub extern "C" fn ds_count_min_u64_update_all_weighted_u64(
     ensures no_room { length weights.now ≢ length items.now → result ≡ no_room }
     ensures call { length weights.now ≡ length items.now
         → AddsWeights count_u64_of max_u64 handle.old.value handle.new.value result (fed_bytes fed.u64) pos items.now weights.now (sum weights.now) }
-    ensures refused { OnRefused result (handle.new.value ≡ handle.old.value) }
-{
-    count::update_all_weighted(alloc, handle, items, weights)
-}
-
-/// Adds a weight to each number's, in order.
-///
-/// Returns the first of these errors, and then changes nothing:
-///
-/// - `NO_ROOM` if `items` and `weights` differ in length.
-/// - `NO_SKETCH` if the handle has no sketch, and `WRONG_KIND` if its sketch is of another kind.
-/// - `WeightOverflow` if the total would exceed 2^64 - 1 with all weights.
-#[unsafe(no_mangle)]
-pub extern "C" fn ds_count_min_u64_update_all_weighted_i64(
-    alloc: Global,
-    handle: &mut SketchHandle,
-    items: &[i64],
-    weights: &[u64],
-) -> i32
-    ensures no_room { length weights.now ≢ length items.now → result ≡ no_room }
-    ensures call { length weights.now ≡ length items.now
-        → AddsWeights count_u64_of max_u64 handle.old.value handle.new.value result (fed_bytes fed.i64) pos items.now weights.now (sum weights.now) }
     ensures refused { OnRefused result (handle.new.value ≡ handle.old.value) }
 {
     count::update_all_weighted(alloc, handle, items, weights)
@@ -300,28 +204,6 @@ pub extern "C" fn ds_count_min_i64_update_all_weighted_u64(
     ensures no_room { length weights.now ≢ length items.now → result ≡ no_room }
     ensures call { length weights.now ≡ length items.now
         → AddsWeights count_i64_of max_i64 handle.old.value handle.new.value result (fed_bytes fed.u64) (λ weight. weight) items.now weights.now (sum_by unsigned_abs weights.now) }
-    ensures refused { OnRefused result (handle.new.value ≡ handle.old.value) }
-{
-    count::update_all_weighted(alloc, handle, items, weights)
-}
-
-/// Adds a weight to each number's, in order. The total grows by each weight's distance from 0.
-///
-/// Returns the first of these errors, and then changes nothing:
-///
-/// - `NO_ROOM` if `items` and `weights` differ in length.
-/// - `NO_SKETCH` if the handle has no sketch, and `WRONG_KIND` if its sketch is of another kind.
-/// - `WeightOverflow` if the total would exceed 2^63 - 1 with all weights.
-#[unsafe(no_mangle)]
-pub extern "C" fn ds_count_min_i64_update_all_weighted_i64(
-    alloc: Global,
-    handle: &mut SketchHandle,
-    items: &[i64],
-    weights: &[i64],
-) -> i32
-    ensures no_room { length weights.now ≢ length items.now → result ≡ no_room }
-    ensures call { length weights.now ≡ length items.now
-        → AddsWeights count_i64_of max_i64 handle.old.value handle.new.value result (fed_bytes fed.i64) (λ weight. weight) items.now weights.now (sum_by unsigned_abs weights.now) }
     ensures refused { OnRefused result (handle.new.value ≡ handle.old.value) }
 {
     count::update_all_weighted(alloc, handle, items, weights)

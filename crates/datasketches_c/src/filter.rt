@@ -97,19 +97,6 @@ pub extern "C" fn ds_bloom_insert_u64(alloc: Global, handle: &mut SketchHandle, 
     insert(alloc, handle, item)
 }
 
-/// Inserts a number.
-///
-/// Returns `NO_SKETCH` if the handle has no sketch, and `WRONG_KIND` if its sketch is of another kind. Then nothing
-/// changes.
-#[unsafe(no_mangle)]
-pub extern "C" fn ds_bloom_insert_i64(alloc: Global, handle: &mut SketchHandle, item: i64) -> i32
-    ensures { OnFilter handle.old.value handle.new.value result (λ s.
-        (result ≡ ok) × (handle.new.value ≡ Some (Filter (Own (inserted s (fed_bytes fed.i64 item)))))
-        × Extends s (inserted s (fed_bytes fed.i64 item)) (λ h. Insert h (fed_bytes fed.i64 item))) }
-{
-    insert(alloc, handle, item)
-}
-
 /// Inserts a string.
 ///
 /// Returns the first of these errors, and then changes nothing:
@@ -163,24 +150,6 @@ pub extern "C" fn ds_bloom_insert_all_u64(
     insert_all(alloc, handle, items)
 }
 
-/// Inserts many numbers, as one after another, and faster.
-///
-/// Returns `NO_SKETCH` if the handle has no sketch, and `WRONG_KIND` if its sketch is of another kind. Then nothing
-/// changes.
-#[unsafe(no_mangle)]
-pub extern "C" fn ds_bloom_insert_all_i64(
-    alloc: Global,
-    handle: &mut SketchHandle,
-    items: &[i64],
-) -> i32
-    ensures { OnFilter handle.old.value handle.new.value result (λ s.
-        (result ≡ ok) × (handle.new.value ≡ Some (Filter (Own (all_inserted s (map (fed_bytes fed.i64) items.now)))))
-        × Extends s (all_inserted s (map (fed_bytes fed.i64) items.now))
-        (λ h. all_inserted_after h (map (fed_bytes fed.i64) items.now))) }
-{
-    insert_all(alloc, handle, items)
-}
-
 /// Returns whether the filter contains an item, as `YES` or `NO`, for the calls below.
 #[inline]
 fn contains<I: Hash>(alloc: Global, handle: &mut SketchHandle, item: &I) -> i32
@@ -210,19 +179,6 @@ pub extern "C" fn ds_bloom_contains_u64(alloc: Global, handle: &mut SketchHandle
     ensures kept { handle.new.value ≡ handle.old.value }
     ensures answer { ReadsFilter handle.old.value handle.new.value result (λ s.
         result ≡ (if contains_item s (fed_bytes fed.u64 item) then yes else no)) }
-{
-    contains(alloc, handle, &item)
-}
-
-/// Returns `YES` if the filter contains a number, and `NO` otherwise.
-///
-/// Returns `NO_SKETCH` if the handle has no sketch, and `WRONG_KIND` if its sketch is of another kind. Then nothing
-/// changes.
-#[unsafe(no_mangle)]
-pub extern "C" fn ds_bloom_contains_i64(alloc: Global, handle: &mut SketchHandle, item: i64) -> i32
-    ensures kept { handle.new.value ≡ handle.old.value }
-    ensures answer { ReadsFilter handle.old.value handle.new.value result (λ s.
-        result ≡ (if contains_item s (fed_bytes fed.i64 item) then yes else no)) }
 {
     contains(alloc, handle, &item)
 }
@@ -290,29 +246,6 @@ pub extern "C" fn ds_bloom_contains_all_u64(
     ensures answers { length answers.old ≡ length items.now
         → ReadsFilter handle.old.value handle.new.value result (λ s. (result ≡ ok)
         × (answers.new ≡ map (λ item. contains_item s (fed_bytes fed.u64 item)) items.now)) }
-    ensures untouched { OnRefused result (answers.new ≡ answers.old) }
-{
-    contains_all(alloc, handle, items, answers)
-}
-
-/// Writes for each number whether the filter contains it.
-///
-/// Returns the first of these errors, and then changes nothing:
-///
-/// - `NO_ROOM` if `items` and `answers` differ in length.
-/// - `NO_SKETCH` if the handle has no sketch, and `WRONG_KIND` if its sketch is of another kind.
-#[unsafe(no_mangle)]
-pub extern "C" fn ds_bloom_contains_all_i64(
-    alloc: Global,
-    handle: &mut SketchHandle,
-    items: &[i64],
-    answers: &mut [bool],
-) -> i32
-    ensures kept { handle.new.value ≡ handle.old.value }
-    ensures no_room { length answers.old ≢ length items.now → (result ≡ no_room) × (answers.new ≡ answers.old) }
-    ensures answers { length answers.old ≡ length items.now
-        → ReadsFilter handle.old.value handle.new.value result (λ s. (result ≡ ok)
-        × (answers.new ≡ map (λ item. contains_item s (fed_bytes fed.i64 item)) items.now)) }
     ensures untouched { OnRefused result (answers.new ≡ answers.old) }
 {
     contains_all(alloc, handle, items, answers)

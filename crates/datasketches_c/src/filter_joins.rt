@@ -45,18 +45,6 @@ pub extern "C" fn ds_bloom_contains_and_insert_u64(
     contains_and_insert(alloc, handle, &item)
 }
 
-/// Inserts a number, and returns whether the filter contained it before. See `ds_bloom_contains_and_insert_u64`.
-#[unsafe(no_mangle)]
-pub extern "C" fn ds_bloom_contains_and_insert_i64(
-    alloc: Global,
-    handle: &mut SketchHandle,
-    item: i64,
-) -> i32
-    ensures { TellsAndInserts handle.old.value handle.new.value result (fed_bytes fed.i64 item) }
-{
-    contains_and_insert(alloc, handle, &item)
-}
-
 /// Inserts a string, and returns whether the filter contained it before. See `ds_bloom_contains_and_insert_u64`.
 ///
 /// Returns `InvalidUtf8` if the bytes are not UTF-8. This comes before the other errors, and changes nothing.
@@ -112,22 +100,6 @@ pub extern "C" fn ds_bloom_contains_and_insert_all_u64(
     ensures no_room { length answers.old ≢ length items.now → result ≡ no_room }
     ensures call { length answers.old ≡ length items.now → TellsAndInsertsAll handle.old.value handle.new.value result
         (map (fed_bytes fed.u64) items.now) answers.new }
-    ensures refused { OnRefused result ((handle.new.value ≡ handle.old.value) × (answers.new ≡ answers.old)) }
-{
-    contains_and_insert_all(alloc, handle, items, answers)
-}
-
-/// Inserts many numbers and tells which were there. See `ds_bloom_contains_and_insert_all_u64`.
-#[unsafe(no_mangle)]
-pub extern "C" fn ds_bloom_contains_and_insert_all_i64(
-    alloc: Global,
-    handle: &mut SketchHandle,
-    items: &[i64],
-    answers: &mut [bool],
-) -> i32
-    ensures no_room { length answers.old ≢ length items.now → result ≡ no_room }
-    ensures call { length answers.old ≡ length items.now → TellsAndInsertsAll handle.old.value handle.new.value result
-        (map (fed_bytes fed.i64) items.now) answers.new }
     ensures refused { OnRefused result ((handle.new.value ≡ handle.old.value) × (answers.new ≡ answers.old)) }
 {
     contains_and_insert_all(alloc, handle, items, answers)

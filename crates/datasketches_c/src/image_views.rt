@@ -44,14 +44,6 @@ pub extern "C" fn ds_bloom_image_contains_u64(image: &[u8], item: u64) -> i32
     contains(image, &item)
 }
 
-/// Returns `YES` if the filter in an image contains a number, and `NO` otherwise. See `ds_bloom_image_contains_u64`.
-#[unsafe(no_mangle)]
-pub extern "C" fn ds_bloom_image_contains_i64(image: &[u8], item: i64) -> i32
-    ensures { AsksFilter image.now (λ s. result ≡ (if contains_item s (fed_bytes fed.i64 item) then yes else no)) result }
-{
-    contains(image, &item)
-}
-
 /// Returns `YES` if the filter in an image contains a string, and `NO` otherwise. See `ds_bloom_image_contains_u64`.
 ///
 /// Returns the first of these errors: `InvalidUtf8` if the bytes are not UTF-8, and that of the first failed check.
@@ -94,21 +86,6 @@ pub extern "C" fn ds_bloom_image_contains_all_u64(
     ensures no_room { length answers.old ≢ length items.now → result ≡ no_room }
     ensures answers { length answers.old ≡ length items.now → AsksFilter image.now (λ s. (result ≡ ok)
         × (answers.new ≡ map (λ item. contains_item s (fed_bytes fed.u64 item)) items.now)) result }
-    ensures untouched { OnRefused result (answers.new ≡ answers.old) }
-{
-    contains_all(image, items, answers)
-}
-
-/// Writes for each number whether the filter in an image contains it. See `ds_bloom_image_contains_all_u64`.
-#[unsafe(no_mangle)]
-pub extern "C" fn ds_bloom_image_contains_all_i64(
-    image: &[u8],
-    items: &[i64],
-    answers: &mut [bool],
-) -> i32
-    ensures no_room { length answers.old ≢ length items.now → result ≡ no_room }
-    ensures answers { length answers.old ≡ length items.now → AsksFilter image.now (λ s. (result ≡ ok)
-        × (answers.new ≡ map (λ item. contains_item s (fed_bytes fed.i64 item)) items.now)) result }
     ensures untouched { OnRefused result (answers.new ≡ answers.old) }
 {
     contains_all(image, items, answers)
@@ -159,24 +136,6 @@ pub extern "C" fn ds_count_min_u64_image_estimate_u64(
     self::estimate(image, seed, &item, estimate)
 }
 
-/// Writes the estimate of a number by the Count-Min sketch in an image, whose seed is `seed`. See
-/// `ds_count_min_u64_image_estimate_u64`.
-///
-/// Returns the error of the first failed check. Then `estimate` is unchanged.
-#[unsafe(no_mangle)]
-pub extern "C" fn ds_count_min_u64_image_estimate_i64(
-    image: &[u8],
-    seed: u64,
-    item: i64,
-    estimate: &mut u64,
-) -> i32
-    ensures estimate { AsksCount (pos 0) max_u64 seed image.now (λ s. (result ≡ ok)
-        × IsEstimate s (fed_bytes fed.i64 item) (pos estimate.new)) result }
-    ensures untouched { OnRefused result (estimate.new ≡ estimate.old) }
-{
-    self::estimate(image, seed, &item, estimate)
-}
-
 /// Writes the estimate of a string by the Count-Min sketch in an image, whose seed is `seed`. See
 /// `ds_count_min_u64_image_estimate_u64`.
 ///
@@ -211,24 +170,6 @@ pub extern "C" fn ds_count_min_i64_image_estimate_u64(
 ) -> i32
     ensures estimate { AsksCount min_i64 max_i64 seed image.now (λ s. (result ≡ ok)
         × IsEstimate s (fed_bytes fed.u64 item) estimate.new) result }
-    ensures untouched { OnRefused result (estimate.new ≡ estimate.old) }
-{
-    self::estimate(image, seed, &item, estimate)
-}
-
-/// Writes the estimate of a number by the Count-Min sketch in an image, whose seed is `seed`. See
-/// `ds_count_min_i64_image_estimate_u64`.
-///
-/// Returns the error of the first failed check. Then `estimate` is unchanged.
-#[unsafe(no_mangle)]
-pub extern "C" fn ds_count_min_i64_image_estimate_i64(
-    image: &[u8],
-    seed: u64,
-    item: i64,
-    estimate: &mut i64,
-) -> i32
-    ensures estimate { AsksCount min_i64 max_i64 seed image.now (λ s. (result ≡ ok)
-        × IsEstimate s (fed_bytes fed.i64 item) estimate.new) result }
     ensures untouched { OnRefused result (estimate.new ≡ estimate.old) }
 {
     self::estimate(image, seed, &item, estimate)

@@ -1,4 +1,4 @@
-use Rattle.std.proofs.Common.{◌≡◌, ◌≤◌, ◌<◌, ◌^◌, ℕ, pos, sym, ap, ◌∙◌, arith}
+use Rattle.std.proofs.Common.{◌≡◌, ◌≤◌, ◌<◌, ◌^◌, ℕ, pos, refl, sym, ap, ◌∙◌, arith}
 use Rattle.std.specs.Hash as fed
 use Rattle.std.proofs.lemmas.Int.{of_z-to_z, to_z_pos}
 use mir.Syntax.{w64}
@@ -15,4 +15,4 @@ own_bits n small =
     ap (of_z w64) (sym (to_z_pos w64 n half)) ∙ of_z-to_z w64 n whole
 
 pub returns : goal.returns
-returns c = λ n small. ap (λ (k : ℕ). fed_bytes fed.u64 k) (sym (own_bits n small))
+returns c = record { same = λ n small. ap (λ (k : ℕ). fed_bytes fed.u64 k) (sym (own_bits n small)); cast = λ z. refl }
