@@ -50,13 +50,15 @@ esac
 libdir="$(realpath -ms -- "$libdir")"
 to="${DESTDIR:-}"
 version="$(cat "$here/../../VERSION")"
-headers=("$here"/include/*)
+mapfile -t headers < <(cd "$here/include" && printf '%s\n' *.h *.hpp datasketches/*.hpp)
 
 if [ -n "$uninstall" ]; then
-    for header in "${headers[@]}"; do rm -f -- "$to$prefix/include/$(basename "$header")"; done
+    for header in "${headers[@]}"; do rm -f -- "$to$prefix/include/$header"; done
     rm -f -- "$to$libdir"/libdatasketches.{a,so,so.0,"so.$version"} "$to$libdir/pkgconfig/datasketches.pc"
     rm -f -- "$to$libdir"/cmake/datasketches/datasketches-config{,-version}.cmake
-    if [ -d "$to$libdir/cmake/datasketches" ]; then rmdir --ignore-fail-on-non-empty -- "$to$libdir/cmake/datasketches"; fi
+    for folder in "$to$prefix/include/datasketches" "$to$libdir/cmake/datasketches"; do
+        if [ -d "$folder" ]; then rmdir --ignore-fail-on-non-empty -- "$folder"; fi
+    done
     exit 0
 fi
 
@@ -87,8 +89,8 @@ case "$libdir" in
 *) values[LIBDIR]="$libdir" ;;
 esac
 for name in PREFIX LIBDIR; do values[$name]="$(printf '%s' "${values[$name]}" | sed "s/[\\\\\"' ]/\\\\&/g")"; done
-install -d -- "$to$prefix/include" "$to$libdir/pkgconfig" "$to$libdir/cmake/datasketches"
-install -m 644 -- "${headers[@]}" "$to$prefix/include/"
+install -d -- "$to$prefix/include/datasketches" "$to$libdir/pkgconfig" "$to$libdir/cmake/datasketches"
+for header in "${headers[@]}"; do install -m 644 -- "$here/include/$header" "$to$prefix/include/$header"; done
 install -m 644 -- "$built/libdatasketches.a" "$to$libdir/"
 install -m 755 -- "$built/libdatasketches.so.0" "$to$libdir/libdatasketches.so.$version"
 ln -sf -- "libdatasketches.so.$version" "$to$libdir/libdatasketches.so.0"

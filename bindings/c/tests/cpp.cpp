@@ -275,6 +275,8 @@ static void ranges_of_strings()
     FAILS(DS_BAD_OFFSETS, made.insert_all(ds::offset_strings("", nullptr, 0)));
     FAILS(DS_BAD_ARGUMENT, made.insert_all(ds::offset_strings("", nullptr, 3)));
     FAILS(DS_BAD_ARGUMENT, made.insert_all(ds::span(static_cast<const ds_string *>(nullptr), 1)));
+    const char *none = nullptr;
+    FAILS(DS_BAD_ARGUMENT, made.insert_all(std::vector<std::string_view>{std::string_view(none, 1)}));
     DONE(made.insert_all(std::vector<std::string_view>{std::string_view()}));
     CHECK(take(made.contains("")));
     made = new_filter();

@@ -448,13 +448,18 @@ class Tests:
         prefix = os.path.join(self.work, "installed", "for C++")
         subprocess.run(["bash", f"{C}/install.sh", self.built, prefix], check=True)
         flags = [f"-I{prefix}/include", f"-L{prefix}/lib", "-ldatasketches"]
-        headers = ["datasketches.h", "datasketches_checks.h", "datasketches.hpp"]
-        for name in headers[:2]:
+        headers = [os.path.relpath(path, f"{C}/include") for path in glob.glob(f"{C}/include/**/*.h*", recursive=True)]
+        there = [os.path.relpath(f"{folder}/{name}", f"{prefix}/include") for folder, _, names in os.walk(f"{prefix}/include")
+                 for name in names]
+        self.check("the installed headers", len(headers) > 3 and sorted(headers) == sorted(there), there)
+        for name in ["datasketches.h", "datasketches_checks.h"]:
             self.check(f"{name} in C", self.includes(f"{prefix}/include/{name}", COMPILER, "-x", "c", *STRICT))
         for compiler in CPP_COMPILERS:
             for name in headers:
                 path = f"{prefix}/include/{name}"
-                self.check(f"{name}, {compiler}", self.includes(path, compiler, "-x", "c++", "-std=c++17", *WARNINGS))
+                for flags_of_form in [["-std=c++17"], ["-std=c++20", *NO_EXCEPTIONS]]:
+                    command = [compiler, "-x", "c++", *flags_of_form, *WARNINGS]
+                    self.check(f"{name}, {shlex.join(command)}", self.includes(path, *command))
             subprocess.run([compiler, "-std=c++17", *WARNINGS, f"{C}/example.cpp", "-o", example, *flags], check=True)
             ran = self.run([example], b"to be or not to be", LD_LIBRARY_PATH=f"{prefix}/lib")
             shown = re.findall(r"^ \*     (?!\$)(.*)$", read(f"{C}/example.cpp"), re.MULTILINE)

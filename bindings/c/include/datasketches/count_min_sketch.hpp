@@ -1,0 +1,215 @@
+/* Count-Min sketches, and sketches in the bytes of an image. See `datasketches.hpp`. */
+#ifndef DATASKETCHES_COUNT_MIN_SKETCH_HPP
+#define DATASKETCHES_COUNT_MIN_SKETCH_HPP
+
+#include "sketch.hpp"
+
+#include <initializer_list>
+
+namespace datasketches {
+inline namespace DATASKETCHES_FORM {
+
+namespace detail {
+
+/* The C calls for sketches with weights in `W`. */
+template <class W> struct count_min_calls {};
+
+template <> struct count_min_calls<std::uint64_t> {
+    static constexpr std::int32_t kind = DS_COUNT_MIN_U64;
+    static constexpr item_calls update{ds_count_min_u64_update_u64, ds_count_min_u64_update_i64, ds_count_min_u64_update_string};
+    static constexpr range_calls update_all{
+        ds_count_min_u64_update_all_u64, ds_count_min_u64_update_all_i64,
+        ds_count_min_u64_update_all_string, ds_count_min_u64_update_all_string_pairs};
+    static constexpr range_calls update_all_weighted{
+        ds_count_min_u64_update_all_weighted_u64, ds_count_min_u64_update_all_weighted_i64,
+        ds_count_min_u64_update_all_weighted_string, ds_count_min_u64_update_all_weighted_string_pairs};
+    static constexpr auto update_words = ds_count_min_u64_update_words;
+    static constexpr auto update_lines = ds_count_min_u64_update_lines;
+    static constexpr item_calls estimate{ds_count_min_u64_estimate_u64, ds_count_min_u64_estimate_i64,
+                                         ds_count_min_u64_estimate_string};
+    static constexpr range_calls estimate_all{
+        ds_count_min_u64_estimate_all_u64, ds_count_min_u64_estimate_all_i64,
+        ds_count_min_u64_estimate_all_string, ds_count_min_u64_estimate_all_string_pairs};
+    static constexpr item_calls upper_bound{ds_count_min_u64_upper_bound_u64, ds_count_min_u64_upper_bound_i64,
+                                            ds_count_min_u64_upper_bound_string};
+    static constexpr item_calls image_estimate{ds_count_min_u64_image_estimate_u64, ds_count_min_u64_image_estimate_i64,
+                                               ds_count_min_u64_image_estimate_string};
+};
+
+template <> struct count_min_calls<std::int64_t> {
+    static constexpr std::int32_t kind = DS_COUNT_MIN_I64;
+    static constexpr item_calls update{ds_count_min_i64_update_u64, ds_count_min_i64_update_i64, ds_count_min_i64_update_string};
+    static constexpr range_calls update_all{
+        ds_count_min_i64_update_all_u64, ds_count_min_i64_update_all_i64,
+        ds_count_min_i64_update_all_string, ds_count_min_i64_update_all_string_pairs};
+    static constexpr range_calls update_all_weighted{
+        ds_count_min_i64_update_all_weighted_u64, ds_count_min_i64_update_all_weighted_i64,
+        ds_count_min_i64_update_all_weighted_string, ds_count_min_i64_update_all_weighted_string_pairs};
+    static constexpr auto update_words = ds_count_min_i64_update_words;
+    static constexpr auto update_lines = ds_count_min_i64_update_lines;
+    static constexpr item_calls estimate{ds_count_min_i64_estimate_u64, ds_count_min_i64_estimate_i64,
+                                         ds_count_min_i64_estimate_string};
+    static constexpr range_calls estimate_all{
+        ds_count_min_i64_estimate_all_u64, ds_count_min_i64_estimate_all_i64,
+        ds_count_min_i64_estimate_all_string, ds_count_min_i64_estimate_all_string_pairs};
+    static constexpr item_calls upper_bound{ds_count_min_i64_upper_bound_u64, ds_count_min_i64_upper_bound_i64,
+                                            ds_count_min_i64_upper_bound_string};
+    static constexpr item_calls image_estimate{ds_count_min_i64_image_estimate_u64, ds_count_min_i64_image_estimate_i64,
+                                               ds_count_min_i64_image_estimate_string};
+};
+
+} /* namespace detail */
+
+/* A Count-Min sketch with weights in `W`: `std::uint64_t`, or `std::int64_t`, which may be below 0. The C calls on items are named
+ * `ds_count_min_u64_..` and `ds_count_min_i64_..`. */
+template <class W> class count_min_sketch : public detail::comparable<count_min_sketch<W>> {
+    static_assert(std::is_same_v<W, std::int64_t> || std::is_same_v<W, std::uint64_t>,
+                  "the weights of count_min_sketch are std::int64_t or std::uint64_t");
+
+    using calls = detail::count_min_calls<W>;
+    using detail::comparable<count_min_sketch<W>>::handle_;
+
+public:
+    /* The kind, as in `ds_status`. */
+    static constexpr std::int32_t kind = calls::kind;
+
+    /* No sketch. */
+    count_min_sketch() noexcept = default;
+
+#ifndef DATASKETCHES_NO_EXCEPTIONS
+    /* An empty sketch: `ds_count_min_new`. */
+    count_min_sketch(std::uint8_t num_hashes, std::uint32_t num_buckets, std::uint64_t seed = default_seed)
+    {
+        detail::done(ds_count_min_new(&handle_, kind, num_hashes, num_buckets, seed));
+    }
+#endif
+
+    /* Returns an empty sketch: `ds_count_min_new`. */
+    static outcome<count_min_sketch> create(std::uint8_t num_hashes, std::uint32_t num_buckets, std::uint64_t seed = default_seed)
+    {
+        return detail::made<count_min_sketch>(ds_count_min_new, kind, num_hashes, num_buckets, seed);
+    }
+
+    /* Return sizes from targets: `ds_count_min_suggest_num_buckets` and `ds_count_min_suggest_num_hashes`. */
+    static outcome<std::uint32_t> suggest_num_buckets(std::uint64_t parts)
+    {
+        return detail::written<std::uint32_t>(ds_count_min_suggest_num_buckets, parts);
+    }
+    static outcome<std::uint8_t> suggest_num_hashes(std::uint64_t questions)
+    {
+        return detail::written<std::uint8_t>(ds_count_min_suggest_num_hashes, questions);
+    }
+
+    /* Adds 1, or a weight, to the item's: `.._update_u64`, `_i64` and `_string`. */
+    template <class Item> outcome<> update(const Item &item) { return update(item, W{1}); }
+    template <class Item, class Weight> outcome<> update(const Item &item, const Weight &weight)
+    {
+        return detail::done(this->on_item(calls::update, item, detail::to_weight<W>(weight)));
+    }
+
+    /* Adds 1 to the weight of each item: `.._update_all_u64`, `_i64`, `_string` and `_string_pairs`. If the total has no room for
+     * all items, those before the first that does not fit are counted. */
+    template <class Items> outcome<> update_all(Items &&items) { return detail::done(this->on_items(calls::update_all, items)); }
+    template <class Item> outcome<> update_all(std::initializer_list<Item> items)
+    {
+        return detail::done(this->on_items(calls::update_all, items));
+    }
+
+    /* Adds to each item's weight one of a contiguous range of as many weights in `W`: `.._update_all_weighted_u64`, `_i64`,
+     * `_string` and `_string_pairs`. If the total has no room for all weights of items that are passed whole, or of a block, none
+     * of them is added. */
+    template <class Items, class Weights> outcome<> update_all(Items &&items, const Weights &weights)
+    {
+        return detail::done(this->on_items(calls::update_all_weighted, items, detail::span_of<const W>(weights)));
+    }
+
+    /* Adds 1 to the weight of each word or each line of a string: `.._update_words` and `.._update_lines`. */
+    outcome<> update_words(std::string_view text) { return detail::done(this->on_text(calls::update_words, text)); }
+    outcome<> update_lines(std::string_view text) { return detail::done(this->on_text(calls::update_lines, text)); }
+
+    /* Returns the estimate of the item's weight: `.._estimate_u64`, `_i64` and `_string`. */
+    template <class Item> outcome<W> estimate(const Item &item)
+    {
+        return detail::written<W>([&](W *found) { return this->on_item(calls::estimate, item, found); });
+    }
+
+    /* Returns the estimate plus a margin: `.._upper_bound_u64`, `_i64` and `_string`. */
+    template <class Item> outcome<W> upper_bound(const Item &item)
+    {
+        return detail::written<W>([&](W *found) { return this->on_item(calls::upper_bound, item, found); });
+    }
+
+    /* Writes the estimate of each item's weight to a contiguous range of as many `W`: `.._estimate_all_u64`, `_i64`, `_string` and
+     * `_string_pairs`. An error in a block leaves the estimates of the blocks before it written. */
+    template <class Items, class Estimates> outcome<> estimate_all(Items &&items, Estimates &&estimates)
+    {
+        return detail::done(this->on_items(calls::estimate_all, items, detail::span_of<W>(estimates)));
+    }
+
+    /* Returns the estimate of each item's weight. */
+    template <class Items> outcome<std::vector<W>> estimate_all(Items &&items)
+    {
+        return this->template results_of<W>(calls::estimate_all, items);
+    }
+    template <class Item> outcome<std::vector<W>> estimate_all(std::initializer_list<Item> items)
+    {
+        return this->template results_of<W>(calls::estimate_all, items);
+    }
+
+    /* Halve each cell and the total, or multiply them by a fraction, for weights in `std::uint64_t`: `ds_count_min_u64_halve` and
+     * `ds_count_min_u64_decay`. */
+    outcome<> halve()
+    {
+        static_assert(std::is_same_v<W, std::uint64_t>, "only weights in std::uint64_t are halved");
+        return detail::done(ds_count_min_u64_halve(&handle_));
+    }
+    outcome<> decay(std::uint64_t numerator, std::uint64_t denominator)
+    {
+        static_assert(std::is_same_v<W, std::uint64_t>, "only weights in std::uint64_t decay");
+        return detail::done(ds_count_min_u64_decay(&handle_, numerator, denominator));
+    }
+};
+
+/* A Count-Min sketch in the bytes of its image, which it neither owns nor copies: see `bloom_filter_image`. */
+template <class W> class count_min_image {
+    static_assert(std::is_same_v<W, std::int64_t> || std::is_same_v<W, std::uint64_t>,
+                  "the weights of count_min_image are std::int64_t or std::uint64_t");
+
+    using calls = detail::count_min_calls<W>;
+
+public:
+    constexpr count_min_image(const std::uint8_t *image, std::size_t length, std::uint64_t seed = default_seed) noexcept
+        : image_(image, length), seed_(seed)
+    {
+    }
+
+    /* The image is a contiguous range of bytes, and no temporary but a span. It was written under this seed. */
+    template <class Image, class = std::enable_if_t<detail::stays<Image>>>
+    explicit count_min_image(Image &&image, std::uint64_t seed = default_seed) noexcept
+        : image_(detail::image_of(image)), seed_(seed)
+    {
+    }
+
+    /* Returns the estimate of the item's weight: `.._image_estimate_u64`, `_i64` and `_string`. */
+    template <class Item> outcome<W> estimate(const Item &item) const
+    {
+        return detail::written<W>([&](W *found) {
+            return calls::image_estimate.run(
+                detail::to_item<detail::any_item>(item), [&](auto call, auto... parts) -> std::int32_t {
+                    if (detail::is_missing(image_)) return DS_BAD_ARGUMENT;
+                    return call(detail::place(image_), image_.size(), seed_, parts..., found);
+                });
+        });
+    }
+
+    constexpr span<const std::uint8_t> bytes() const noexcept { return image_; }
+
+private:
+    span<const std::uint8_t> image_;
+    std::uint64_t seed_;
+};
+
+} /* inline namespace */
+} /* namespace datasketches */
+
+#endif
