@@ -7,11 +7,10 @@ use Rattle.datasketches.specs.Actions as action
 use Rattle.datasketches.specs.State.{SessionState}
 use Rattle.datasketches.specs.declared.reply.Reply.{Reply}
 use Rattle.datasketches.specs.KeysKept.{keys_kept}
+use Rattle.datasketches_cli.specs.Answers.{Answer, Replied, Reported}
 use Rattle.datasketches_cli.specs.Requests.{Request, Act, OpenWindows, AddTo, TurnOf, ReportOf}
 use Rattle.datasketches_cli.specs.Steps.{Did, DidWith, DidSpelled, ServingStep}
 use Rattle.datasketches_cli.specs.Texts.{Text, text_input, text_slot}
-use Rattle.datasketches_cli.specs.declared.reply.Answer.{Answer}
-use Rattle.datasketches_cli.specs.declared.reply.Answer.TheVariants.{Replied, Reported}
 use Rattle.datasketches_cli.specs.declared.state.State.{State}
 
 did_keys : (action : Action Text) (old : SessionState Text) (reply : Reply Text) (new : SessionState Text) → Did action old reply new → new.keys ≡ old.keys

@@ -6,8 +6,8 @@ use Rattle.std.specs.Io.KnownBytes.{Appends, IsAtEnd, prepend_known}
 use Rattle.std.specs.String.{string_bytes}
 use Rattle.std.proofs.lemmas.Bool.{false≢true}
 use Rattle.datasketches.specs.State.{SessionKeys}
+use Rattle.datasketches_cli.specs.Answers.{Answer}
 use Rattle.datasketches_cli.specs.Requests.{Request}
-use Rattle.datasketches_cli.specs.declared.reply.Answer.{Answer}
 use Rattle.datasketches_cli.specs.declared.state.State.{State}
 use Rattle.datasketches_cli.specs.declared.serve.Ended.{Ended}
 use Rattle.datasketches_cli.specs.declared.serve.Ended.TheVariants.{All, BadLine}
@@ -100,7 +100,7 @@ all_read own (Some input) is now held holds holds' gathered line state before (r
 
 -- the same but for what is gathered
 abbrev pub with_replies : Responder → Text → Responder
-with_replies old replies = record { alloc = old.alloc; keys = old.keys; state = old.state; answer = old.answer; replies = replies }
+with_replies old replies = record { alloc = old.alloc; keys = old.keys; state = old.state; replies = replies }
 
 -- a turn with a line that is not bad
 pub turns : (own : SessionKeys) (was is now held mid holds : Option (List ℕ)) (old new : Responder) (left : Text) (before : ℕ) (found : Option LineOutcome) (became : LineOutcome) →

@@ -75,16 +75,71 @@ filter_sizes bits hashes seed =
     option_and_then (λ b. option_and_then (λ h. option_map (λ s. record { num_bits = b; num_hashes = h; seed = s }) (number seed))
     (number_below (2 ^ 16) hashes)) (number bits)
 
--- the words of a verb that creates a Count-Min sketch
+-- ---- what the words after a verb spell
+
+-- after `hturn`
+abbrev pub hturn_of : (tenant : List ℕ) → Spelled
+hturn_of tenant = option_map TurnOf (number tenant)
+
+-- after `frequent`
+abbrev pub frequent_of : (name max : List ℕ) → Spelled
+frequent_of name max = option_map (λ m. Act (action.Create name (action.Frequent (action.usual_sizes m)))) (number max)
+
+-- after `windows`
+abbrev pub windows_of : (windows max : List ℕ) → Spelled
+windows_of windows max = option_and_then (λ w. option_map (OpenWindows w) (number max)) (number windows)
+
+-- after `add`
+abbrev pub add_of : (name weight item : List ℕ) → Spelled
+add_of name weight item = option_map (λ w. Act (action.Alter name (action.Add item w))) (number weight)
+
+-- after `adds`
+abbrev pub adds_of : (name weight item : List ℕ) → Spelled
+adds_of name weight item = option_map (λ w. Act (action.Alter name (action.AddSigned item w))) (signed_number weight)
+
+-- after `sampled`
+abbrev pub sampled_of : (name max sample : List ℕ) → Spelled
+sampled_of name max sample =
+    option_and_then (λ m. option_map (λ n.
+    Act (action.Create name (action.Frequent (record { max_map_size = m; sample_size = n })))) (number sample)) (number max)
+
+-- after `decay`
+abbrev pub decay_of : (name numerator denominator : List ℕ) → Spelled
+decay_of name numerator denominator =
+    option_and_then (λ n. option_map (λ d. Act (action.Alter name (action.Decay n d))) (number denominator)) (number numerator)
+
+-- after `rows`
+abbrev pub rows_of : (name report threshold : List ℕ) → Spelled
+rows_of name report threshold =
+    option_and_then (λ r. option_map (λ t. Act (action.ListRows name r t)) (number threshold)) (report_of report)
+
+-- after `hadd`
+abbrev pub hadd_of : (tenant weight item : List ℕ) → Spelled
+hadd_of tenant weight item = option_and_then (λ t. option_map (λ w. AddTo t w item) (number weight)) (number tenant)
+
+-- after `hreport`
+abbrev pub hreport_of : (tenant report threshold : List ℕ) → Spelled
+hreport_of tenant report threshold =
+    option_and_then (λ t. option_and_then (λ r. option_map (ReportOf t r) (number threshold)) (report_of report)) (number tenant)
+
+-- after a verb that creates a Count-Min sketch
 abbrev pub counts_of : (CountMinSizes → Shape) → (name hashes buckets seed : List ℕ) → Spelled
 counts_of shape name hashes buckets seed =
     option_map (λ sizes. Act (action.Create name (shape sizes))) (count_min_sizes hashes buckets seed)
 
--- the words of a load
+-- after `bloom`
+abbrev pub bloom_of : (name bits hashes seed : List ℕ) → Spelled
+bloom_of name bits hashes seed = option_map (λ sizes. Act (action.Create name (action.Bloom sizes))) (filter_sizes bits hashes seed)
+
+-- after `load`, where the kind of image is known
 abbrev pub load_of : (name : List ℕ) → Option ImageKind → (max digits : List ℕ) → Spelled
 load_of name kind max digits =
     option_and_then (λ k. option_and_then (λ m. option_map (λ bytes. Act (action.Load name k bytes m)) (bytes_of_digits digits))
     (number max)) kind
+
+-- after `load`, for a kind with a seed
+abbrev pub load_seeded_of : (name kind max seed digits : List ℕ) → Spelled
+load_seeded_of name kind max seed digits = load_of name (option_and_then (seeded_kind kind) (number seed)) max digits
 
 -- ---- each verb and what the words after it spell, by the number of these words
 
@@ -94,61 +149,37 @@ one_word =
     ∷ (codes "halve", λ name. Some (Act (action.Alter name action.Halve)))
     ∷ (codes "image", λ image. Some (Act (action.ShowImage image)))
     ∷ (codes "status", λ name. Some (Act (action.GetStatus name)))
-    ∷ (codes "hturn", λ tenant. option_map TurnOf (number tenant)) ∷ []
+    ∷ (codes "hturn", hturn_of) ∷ []
 
 abbrev pub two_words : List (List ℕ × (List ℕ → List ℕ → Spelled))
 two_words =
     (codes "insert", λ name item. Some (Act (action.Alter name (action.Insert item))))
     ∷ (codes "ask", λ name item. Some (Act (action.Ask name item)))
-    ∷ (codes "frequent", λ name max. option_map (λ m. Act (action.Create name (action.Frequent (action.usual_sizes m)))) (number max))
+    ∷ (codes "frequent", frequent_of)
     ∷ (codes "merge", λ into other. Some (Act (action.Combine into other action.Merge)))
     ∷ (codes "union", λ into other. Some (Act (action.Combine into other action.Union)))
     ∷ (codes "intersect", λ into other. Some (Act (action.Combine into other action.Intersect)))
     ∷ (codes "difference", λ into other. Some (Act (action.Combine into other action.Difference)))
     ∷ (codes "save", λ name image. Some (Act (action.Save name image)))
     ∷ (codes "restore", λ image name. Some (Act (action.Restore image name)))
-    ∷ (codes "windows", λ windows max. option_and_then (λ w. option_map (OpenWindows w) (number max)) (number windows)) ∷ []
+    ∷ (codes "windows", windows_of) ∷ []
 
 abbrev pub three_words : List (List ℕ × (List ℕ → List ℕ → List ℕ → Spelled))
 three_words =
-    (codes "add", λ name weight item. option_map (λ w. Act (action.Alter name (action.Add item w))) (number weight))
-    ∷ (codes "adds", λ name weight item. option_map (λ w. Act (action.Alter name (action.AddSigned item w))) (signed_number weight))
-    ∷ (
-      codes "sampled",
-      λ name max sample. option_and_then (λ m. option_map (λ n.
-          Act (action.Create name (action.Frequent (record { max_map_size = m; sample_size = n })))) (number sample)) (number max),
-    )
-    ∷ (
-      codes "decay",
-      λ name numerator denominator. option_and_then (λ n. option_map (λ d. Act (action.Alter name (action.Decay n d)))
-          (number denominator)) (number numerator),
-    )
-    ∷ (
-      codes "rows",
-      λ name report threshold. option_and_then (λ r. option_map (λ t. Act (action.ListRows name r t))
-          (number threshold)) (report_of report),
-    )
-    ∷ (codes "hadd", λ tenant weight item. option_and_then (λ t. option_map (λ w. AddTo t w item) (number weight)) (number tenant))
-    ∷ (
-      codes "hreport",
-      λ tenant report threshold. option_and_then (λ t. option_and_then (λ r. option_map (ReportOf t r)
-          (number threshold)) (report_of report)) (number tenant),
-    ) ∷ []
+    (codes "add", add_of) ∷ (codes "adds", adds_of) ∷ (codes "sampled", sampled_of) ∷ (codes "decay", decay_of)
+    ∷ (codes "rows", rows_of) ∷ (codes "hadd", hadd_of) ∷ (codes "hreport", hreport_of) ∷ []
 
 abbrev pub four_words : List (List ℕ × (List ℕ → List ℕ → List ℕ → List ℕ → Spelled))
 four_words =
     (codes "counti", counts_of action.CountI64)
     ∷ (codes "countu", counts_of action.CountU64)
-    ∷ (
-      codes "bloom",
-      λ name bits hashes seed. option_map (λ sizes. Act (action.Create name (action.Bloom sizes))) (filter_sizes bits hashes seed),
-    )
+    ∷ (codes "bloom", bloom_of)
     ∷ (codes "load", λ name kind max digits. load_of name (plain_kind kind) max digits) ∷ []
 
 -- a seed stands before the digits of a Count-Min sketch
 abbrev pub five_words : List (List ℕ × (List ℕ → List ℕ → List ℕ → List ℕ → List ℕ → Spelled))
 five_words =
-    (codes "load", λ name kind max seed digits. load_of name (option_and_then (seeded_kind kind) (number seed)) max digits) ∷ []
+    (codes "load", load_seeded_of) ∷ []
 
 -- the request that words spell, if any
 abbrev pub request_of : List (List ℕ) → Spelled

@@ -8,7 +8,7 @@ use Rattle.datasketches.specs.declared.reply.Reply.TheVariants.{Image}
 use Rattle.datasketches_cli.specs.Asking.{Says}
 use Rattle.datasketches_cli.specs.Grammar.{split_words, bytes_of_digits}
 use Rattle.datasketches_cli.specs.Requests.{Act}
-use Rattle.datasketches_cli.specs.declared.reply.Answer.TheVariants.{Replied}
+use Rattle.datasketches_cli.specs.Answers.{Replied}
 use Rattle.datasketches_cli.specs.Transcript.{answer_line}
 
 -- these are the digits that a run prints for these bytes

@@ -11,8 +11,7 @@ use Rattle.datasketches.specs.declared.reply.Reply.TheVariants as reply
 use Rattle.datasketches.specs.declared.reply.Status.{Status}
 use Rattle.datasketches.specs.declared.reply.Status.TheVariants as status
 use Rattle.heavy_windows.specs.declared.report.Report.{Report}
-use Rattle.datasketches_cli.specs.declared.reply.Answer.{Answer}
-use Rattle.datasketches_cli.specs.declared.reply.Answer.TheVariants.{Replied, Reported}
+use Rattle.datasketches_cli.specs.Answers.{Answer, Replied, Reported}
 use Rattle.datasketches_cli.specs.Texts.{Text}
 
 -- a sketch's kind and its numbers

@@ -1,5 +1,5 @@
 -- Effects of the parts of the loop.
-use Rattle.std.specs.Prelude.{◌≡◌, ℕ, true, List, [], ◌++◌, Option, None, Some, IfSome, Result, Ok, Err, ⊤}
+use Rattle.std.specs.Prelude.{◌≡◌, ℕ, true, List, [], ◌++◌, Option, None, Some, IfSome, ⊤}
 use Rattle.std.specs.Io.BufRead.{strip_last}
 use Rattle.std.specs.Io.KnownBytes.{Appends, IsAtEnd}
 use Rattle.std.specs.String.{string_bytes}
@@ -15,10 +15,9 @@ use Rattle.datasketches_cli.specs.declared.serve.Ended.TheVariants.{All}
 use Rattle.datasketches_cli.specs.KeyValues.{HasKeys}
 use Rattle.datasketches_cli.specs.Reading.{TakesLine}
 use Rattle.datasketches_cli.specs.Requests.{Request}
-use Rattle.datasketches_cli.specs.declared.reply.Answer.{Answer}
-use Rattle.datasketches_cli.specs.declared.reply.Answer.TheVariants.{Replied}
-use Rattle.datasketches_cli.specs.declared.reply.Ran.{Ran}
-use Rattle.datasketches_cli.specs.declared.reply.Ran.TheVariants.{Done, Told}
+use Rattle.datasketches_cli.specs.Answers.{Answer, Replied}
+use Rattle.datasketches_cli.specs.declared.reply.Outcome.{Outcome}
+use Rattle.datasketches_cli.specs.declared.reply.Outcome.TheVariants.{NoRequest, Done, Written, NoMemory}
 use Rattle.datasketches_cli.specs.declared.state.State.{State}
 use Rattle.datasketches_cli.specs.Steps.{ServingStep}
 use Rattle.datasketches_cli.specs.Transcript.{answer_line, ServesUnder}
@@ -37,17 +36,22 @@ HasAnswered request old new =
 abbrev pub IsIdle : Responder → Responder → Type 0
 IsIdle old new = (new.state ≡ old.state) × (string_bytes new.replies ≡ string_bytes old.replies)
 
--- the `Answer` to a request that was run, given the one that was set if it is a query
-abbrev pub answer_by : Answer → Ran → Answer
-answer_by told (Done outcome) = Replied (done_or outcome)
-answer_by told Told = told
+-- the line of the `Answer` was appended to the gathered lines, or memory ran out
+abbrev pub IsGathered : Answer → List ℕ → Outcome → List ℕ → Type 0
+IsGathered answer lines Written after = after ≡ lines ++ answer_line answer
+IsGathered answer lines NoMemory after = ⊤
+IsGathered answer lines _ after = ⊥
 
--- the spelled request was run, and has this answer, if memory did not run out; or there is none, and nothing was done
-abbrev pub Runs : {E : Type 0} → Spelled → State → Answer → Option (Result Ran E) → State → Type 0
-Runs (Some request) old answer (Some (Ok ran)) new = ServingStep old request (answer_by answer ran) new
-Runs (Some request) old answer (Some (Err e)) new = ⊤
-Runs None old answer None new = new ≡ old
-Runs _ old answer _ new = ⊥
+-- words were run, from a state and the lines gathered before, to a state and the lines gathered after. A request was done, and the
+-- line of its `Answer` was gathered if it is `Written`. No more is stated if memory ran out. Without a request nothing was done
+abbrev pub Runs : Spelled → State → List ℕ → Outcome → State → List ℕ → Type 0
+Runs None old lines NoRequest new after = (new ≡ old) × (after ≡ lines)
+Runs (Some request) old lines (Done outcome) new after =
+    ServingStep old request (Replied (done_or outcome)) new × (after ≡ lines)
+Runs (Some request) old lines Written new after =
+    (answer : Answer) × ServingStep old request answer new × IsGathered answer lines Written after
+Runs (Some request) old lines NoMemory new after = ⊤
+Runs _ old lines _ new after = ⊥
 
 -- the outcome of the line
 abbrev pub IsAnswered : List ℕ → Responder → Responder → LineOutcome → Type 0

@@ -20,8 +20,7 @@ use Rattle.heavy_windows.specs.Errors.{ErrorValue}
 use Rattle.heavy_windows.specs.State.{WindowsState}
 use Rattle.heavy_windows.specs.declared.report.Report.{Report}
 use Rattle.datasketches_cli.specs.Requests.{Request, Act, OpenWindows, AddTo, TurnOf, ReportOf}
-use Rattle.datasketches_cli.specs.declared.reply.Answer.{Answer}
-use Rattle.datasketches_cli.specs.declared.reply.Answer.TheVariants.{Replied, Reported}
+use Rattle.datasketches_cli.specs.Answers.{Answer, Replied, Reported}
 use Rattle.datasketches_cli.specs.declared.state.State.{State}
 use Rattle.datasketches_cli.specs.Texts.{Text, text_input, text_slot}
 

@@ -11,7 +11,7 @@ use Rattle.datasketches_cli.specs.declared.serve.Ended.{Ended}
 use Rattle.datasketches_cli.specs.declared.serve.Ended.TheVariants.{All, BadLine}
 use Rattle.datasketches_cli.specs.Printing.{answer_text}
 use Rattle.datasketches_cli.specs.Requests.{Request}
-use Rattle.datasketches_cli.specs.declared.reply.Answer.{Answer}
+use Rattle.datasketches_cli.specs.Answers.{Answer}
 use Rattle.datasketches_cli.specs.declared.state.State.{State}
 use Rattle.datasketches_cli.specs.Asking.{Says, IsBad}
 use Rattle.datasketches_cli.specs.Grammar.{IsBlank}

@@ -2,8 +2,10 @@
 ghost use Rattle.std.specs.Prelude.{◌≡◌, ◌++◌, OnOk, string_bytes, codes};
 ghost use Rattle.hex.specs.Hex.{encode_lower};
 ghost use Rattle.std.specs.List.{flat_map};
+ghost use Rattle.datasketches.specs.Replies.{done_or};
+ghost use Rattle.datasketches_cli.specs.Answers.{Replied, Reported};
 ghost use Rattle.datasketches_cli.specs.Printing.{report_text, reply_text, status_text, row_text};
-ghost use Rattle.datasketches_cli.specs.Serving.{answer_by};
+ghost use Rattle.datasketches_cli.specs.Serving.{IsGathered};
 ghost use Rattle.datasketches_cli.specs.Transcript.{answer_line};
 
 use datasketches::frequencies::Row;
@@ -12,56 +14,55 @@ use heavy_windows::Report;
 use std::alloc::{AllocError, Global};
 use std::fmt::Write;
 
-/// The answer to a request.
-#[derive(Drop)]
-pub enum Answer {
-    /// The reply of the session, or `Done` or `Refused` for windows.
-    Replied(Reply<String>),
-    /// A report on windows.
-    Reported(Report<String>),
-}
-
-/// The outcome of a request that was run.
-pub enum Ran {
-    /// The request was done or rejected.
+/// The outcome of the words of a line.
+pub enum Outcome {
+    /// The words are no request. Nothing was done.
+    NoRequest,
+    /// The request was done or rejected. Its reply is not written yet.
     Done(Result<(), Refusal>),
-    /// The answer to the request was set.
-    Told,
+    /// The request was done, and its reply was written.
+    Written,
+    /// Memory ran out outside the call of the request.
+    NoMemory,
 }
 
-/// Writes the line of the answer to a request, given its outcome and the answer that was set, if any.
+/// Writes the line of a request that was done or rejected.
 #[inline(always)]
-pub fn write_outcome(
-    alloc: Global,
-    out: &mut String,
-    ran: Ran,
-    answer: &Answer,
-) -> Result<(), AllocError>
-    ensures { OnOk result (string_bytes out.new ≡ string_bytes out.old ++ answer_line (answer_by answer.now ran)) }
+pub fn write_done(out: &mut String, outcome: Result<(), Refusal>) -> Result<(), AllocError>
+    ensures { OnOk result (string_bytes out.new ≡ string_bytes out.old ++ answer_line (Replied (done_or outcome))) }
 {
-    match ran {
-        Ran::Done(Ok(())) => out.push_str("ok\n"),
-        Ran::Done(Err(refusal)) => write_refusal(out, refusal),
-        Ran::Told => write_answer(alloc, out, answer),
+    match outcome {
+        Ok(()) => out.push_str("ok\n"),
+        Err(refusal) => write_refusal(out, refusal),
+    }
+}
+
+/// Writes the line of a reply, and returns the outcome of its request.
+pub fn replied(alloc: Global, out: &mut String, reply: &Reply<String>) -> Outcome
+    ensures { IsGathered (Replied reply.now) (string_bytes out.old) result (string_bytes out.new) }
+{
+    match write_reply(alloc, out, reply) {
+        Ok(()) => Outcome::Written,
+        Err(_) => Outcome::NoMemory,
+    }
+}
+
+/// Writes the line of a report on a tenant's windows, and returns the outcome of its request.
+pub fn reported(out: &mut String, report: &Report<String>) -> Outcome
+    ensures { IsGathered (Reported report.now) (string_bytes out.old) result (string_bytes out.new) }
+{
+    match write_report(out, report) {
+        Ok(()) => Outcome::Written,
+        Err(_) => Outcome::NoMemory,
     }
 }
 
 /// Writes the line of a rejection.
 fn write_refusal(out: &mut String, refusal: Refusal) -> Result<(), AllocError>
     ensures { OnOk result (string_bytes out.new
-        ≡ string_bytes out.old ++ answer_line (Answer.Replied (Reply.Refused refusal))) }
+        ≡ string_bytes out.old ++ answer_line (Replied (Reply.Refused refusal))) }
 {
     writeln!(out, "refused {}", refusal.name())
-}
-
-/// Writes the line of an answer.
-fn write_answer(alloc: Global, out: &mut String, answer: &Answer) -> Result<(), AllocError>
-    ensures { OnOk result (string_bytes out.new ≡ string_bytes out.old ++ answer_line answer.now) }
-{
-    match answer {
-        Answer::Replied(reply) => write_reply(alloc, out, reply),
-        Answer::Reported(report) => write_report(out, report),
-    }
 }
 
 /// Writes the line of a report on a tenant's windows.
@@ -100,7 +101,7 @@ fn write_reply(alloc: Global, out: &mut String, reply: &Reply<String>) -> Result
             write_rows(out, rows)
         }
         Reply::Image(bytes) => write_image(alloc, out, bytes),
-        Reply::Refused(refusal) => writeln!(out, "refused {}", refusal.name()),
+        Reply::Refused(refusal) => write_refusal(out, *refusal),
     }
 }
 

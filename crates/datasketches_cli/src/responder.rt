@@ -4,9 +4,8 @@ ghost use Rattle.datasketches_cli.specs.Serving.{HasOwnKeys, IsAnswered};
 ghost use Rattle.datasketches_cli.specs.Steps.{nothing_served};
 
 use crate::keys::Keys;
-use crate::reply::{Answer, write_outcome};
+use crate::reply::{Outcome, write_done};
 use crate::state::State;
-use datasketches::Reply;
 use sketch_base::{Separator, first_words, from_utf8};
 use std::alloc::{AllocError, Global};
 
@@ -31,8 +30,6 @@ pub struct Responder {
     pub(crate) keys: Keys,
     /// The session and the windows.
     pub(crate) state: State,
-    /// The answer to the last query.
-    answer: Answer,
     /// The replies that were gathered and are not written yet.
     pub replies: String,
 }
@@ -50,7 +47,6 @@ impl Responder {
             alloc,
             keys,
             state,
-            answer: Answer::Replied(Reply::Done),
             replies: String::new(alloc),
         }
     }
@@ -72,14 +68,15 @@ impl Responder {
         }
         match self
             .state
-            .run(self.alloc, &self.keys, words, &mut self.answer)
+            .run(self.alloc, &self.keys, &mut self.replies, words)
         {
-            Some(Ok(ran)) => {
-                write_outcome(self.alloc, &mut self.replies, ran, &self.answer)?;
+            Outcome::NoRequest => Ok(LineOutcome::Bad),
+            Outcome::Done(outcome) => {
+                write_done(&mut self.replies, outcome)?;
                 Ok(LineOutcome::Answered)
             }
-            Some(Err(e)) => Err(e),
-            None => Ok(LineOutcome::Bad),
+            Outcome::Written => Ok(LineOutcome::Answered),
+            Outcome::NoMemory => Err(AllocError),
         }
     }
 }

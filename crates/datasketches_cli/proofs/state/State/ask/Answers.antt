@@ -1,13 +1,18 @@
-use Rattle.std.proofs.Common.{rules, arith}
+use Rattle.std.proofs.Common.{refl, arith}
 use Rattle.datasketches.specs.Actions.{Ask}
-use Rattle.datasketches.specs.Replies.{told}
-use Rattle.datasketches_cli.specs.Steps.{DidWith}
+use Rattle.datasketches_cli.specs.Answers.{Replied}
+use Rattle.datasketches_cli.specs.Requests.{Act}
+use Rattle.datasketches_cli.proofs.Spelling.{ran_written}
 use Rattle.datasketches_cli.proofs.TextItems.{text_named}
 use Rattle.datasketches_cli.proofs.state.State.ask.Goals as goal
 
-pub returns : goal.returns
-returns c =
-    let alloc = c.args.self.now in
-    let (x, same, named) = text_named c.args.item.now c.utf8.item (omega arith) _ in
-    let did : DidWith c.args.item.now (λ x. Ask c.args.name.now x) c.args.self.now.session (told c.ask.result) c.args.self.now.session = (x, same, (c.ask.ensures.performed x named).step) in
-    search (rules, did)
+pub returns-in-Ok : goal.returns-in-Ok
+returns-in-Ok c =
+    let (x, same, named) = text_named c.args.item.now c.utf8.item (omega arith) c.args.alloc in
+    ran_written (Act (Ask c.args.name.now c.args.item.now)) (Replied c.in-Ok.reply) c.args.self.now c.args.self.now _ _ _
+    ((x, same, rw c.in-Ok.is at ((c.ask.ensures.performed x named).step)), refl) c.replied.ensures
+
+pub returns-in-Err : goal.returns-in-Err
+returns-in-Err c =
+    let (x, same, named) = text_named c.args.item.now c.utf8.item (omega arith) c.args.alloc in
+    (((x, same, rw c.in-Err.is at ((c.ask.ensures.performed x named).step)), refl), refl)
