@@ -169,6 +169,13 @@ def declared():
     return functions(f"{C}/include/datasketches.h", ";")
 
 
+def casts():
+    """Returns the functions of the header for items in `int64_t`: the name, the parameters, and the call that it makes."""
+    form = r"^static inline int32_t (ds_\w+_i64)\(([^)]*)\)\n\{\n    return (.*);\n\}$"
+    return {name: (re.sub(r"\s+", " ", inside).split(", "), call)
+            for name, inside, call in re.findall(form, read(f"{C}/include/datasketches.h"), re.MULTILINE)}
+
+
 def needs_check(kinds):
     """Returns whether a call needs a check of its arguments: it takes two handles, or a pointer with a count."""
     counted = any(kind.endswith("*") and kind != "ds_sketch *" and count == "size_t" for kind, count in zip(kinds, kinds[1:]))
@@ -222,6 +229,11 @@ class Tests:
             self.check(f"the prototype of {name}", sources.get(name) == form, (sources.get(name), form))
         for name in sorted(calls | header):
             self.check(f"the prototype of {name}", calls.get(name) == header.get(name), (calls.get(name), header.get(name)))
+        self.check("there are functions for int64_t", len(casts()) == 22, len(casts()))
+        for name, (parameters, call) in casts().items():
+            passed = {"int64_t item": "(uint64_t)item", "const int64_t *items": "(const uint64_t *)items"}
+            arguments = [passed.get(it, re.search(r"\w+$", it).group()) for it in parameters]
+            self.check(f"the call of {name}", call == f"{name[:-3]}u64({', '.join(arguments)})", call)
         for path, flags, wanted in [(self.archive, [], set(sources)), (f"{self.built}/libdatasketches.a", [], set(calls)),
                                     (f"{self.built}/libdatasketches.so", ["-D"], set(calls))]:
             names = global_names(path, *flags)
@@ -229,6 +241,7 @@ class Tests:
         checked = re.findall(r"^#define (ds_\w+)\(\.\.\.\)(?: \\\n   )? ds_check_\w+\((\w+), __VA_ARGS__\)$",
                              read(f"{C}/include/datasketches_checks.h"), re.MULTILINE)
         needed = {name for name, (_, kinds) in header.items() if needs_check(kinds)}
+        needed |= {name for name in casts() if f"{name[:-3]}u64" in needed}
         self.check("the calls with checks", {name for name, _ in checked} == needed, {name for name, _ in checked} ^ needed)
         self.check("each check makes its call", all(name == made for name, made in checked) and len(checked) == len(needed))
         numbers = re.findall(r"Fault::(\w+) => (-\d+)", read(f"{CRATE}/src/status_code.rt"))
