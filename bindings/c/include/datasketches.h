@@ -251,9 +251,9 @@ typedef struct ds_image_options {
  *
  * Returns DS_WRONG_KIND if `kind` is no kind. Returns DS_NO_RANDOM if a key is drawn and the system has no random bytes. Returns
  * the error of the image's first failed check. Returns DS_TABLE_TOO_LARGE if the sketch takes more than `max_bytes`, where a string
- * counts the bytes that it takes in the image, 4 more than its own. Returns DS_NO_MEMORY. Before both come the checks of the
- * image's length and fields, after them those of the number of set bits, of the total and the cells, or of the weights and the
- * items. */
+ * counts the bytes that it takes in the image, 4 more than its own. Returns DS_NO_MEMORY. Both come after the checks of the
+ * image's length and fields. The checks of the number of set bits, of the total and the cells, or of the weights and the items
+ * come last. */
 int32_t ds_deserialize(ds_sketch *handle, int32_t kind, const uint8_t *image, size_t length, const ds_image_options *options);
 
 /* Reads a sketch from the image at the front of `image` and puts it into the handle, as `ds_deserialize` does. Writes the number of
