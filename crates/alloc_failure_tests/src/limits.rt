@@ -3,7 +3,8 @@ use crate::output::write_error;
 use crate::table::free_table;
 use crate::trial::{Trial, counted};
 use datasketches::error::Error;
-use datasketches::frequencies::{FrequentItemValue, FrequentItemsSketch};
+use datasketches::frequencies::{FrequentItemValue, FrequentItemsSketch, TableKey};
+use sketch_frequencies::FrequentItemsImageOptions;
 use std::hash::Hash;
 
 /// The maximum size of a sketch here.
@@ -37,7 +38,14 @@ fn read<T: FrequentItemValue + Drop>(trial: &mut Trial, image: &[u8], limit: usi
     let alloc = trial.alloc;
     match counted!(
         trial,
-        FrequentItemsSketch::<T>::deserialize_with_limit(alloc, image, limit)
+        FrequentItemsSketch::<T>::deserialize_with_options(
+            alloc,
+            image,
+            FrequentItemsImageOptions {
+                max_bytes: limit,
+                key: TableKey::Plain,
+            }
+        )
     ) {
         Ok(sketch) => {
             let bytes = counted!(trial, sketch.memory_bytes());

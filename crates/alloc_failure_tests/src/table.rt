@@ -1,8 +1,6 @@
 //! Calls of a table that are made only if their contracts allow them.
-ghost use Rattle.std.specs.Prelude.{IsTrue};
-
 use datasketches::error::{Error, Fault};
-use datasketches::frequencies::ReversePurgeItemHashMap;
+use datasketches::frequencies::{EqualClone, ReversePurgeItemHashMap};
 use std::alloc::Global;
 use std::hash::Hash;
 use test_items::Item;
@@ -49,13 +47,11 @@ pub fn put<T: Eq + Hash + Drop>(map: &mut ReversePurgeItemHashMap<T>, item: T, a
 }
 
 /// Adds an amount to the item's count if there is room for it. An item that is new is cloned.
-pub fn put_ref<T: Eq + Hash + Clone + Drop>(
+pub fn put_ref<T: EqualClone + Hash + Drop>(
     map: &mut ReversePurgeItemHashMap<T>,
     item: &T,
     amount: u8,
-) -> Result<(), Error>
-    requires clones { (x y : T) → T.is_clone x y → IsTrue (T.eq x y) }
-{
+) -> Result<(), Error> {
     let slots = map.len();
     if map.num_active() + 1 >= slots {
         return Ok(());

@@ -34,14 +34,14 @@ pub record Ended {T : Type 0} (eq : T → T → Bool) (hashed : T → ℕ) (name
   pub slots_ok : IsSlots eq hashed slots
   pub probe : IsProbe names (fed % length slots) slots index found probed
 
-pub ended_by_key : {T : Type 0} {eq : T → T → Bool} {input : T → List (List ℕ)} {names : T → Bool} {fed : List (List ℕ)} → ((x : T) → IsTrue (names x) → fed ≡ input x) → ((x y : T) → IsTrue (names x) → names y ≡ eq x y) → (of : KeyedSlots T) → IsSlots eq (hash_in of.key input) of.slots → {index probed : ℕ} {found : Option ℕ}
-    → IsProbe names (hash_of of.key (concat fed) % length of.slots) of.slots index found probed → Ended eq (hash_in of.key input) names (hash_of of.key (concat fed)) of.slots index found probed
-ended_by_key respects alike of ok probe = record { key = record { same_hash = hashed_as_named of.key respects; alike = alike }; slots_ok = ok; probe = probe }
+pub ended_by_key : {T : Type 0} {eq : T → T → Bool} (input : T → List (List ℕ)) {names : T → Bool} {fed : List ℕ} → ((x : T) → IsTrue (names x) → fed ≡ concat (input x)) → ((x y : T) → IsTrue (names x) → names y ≡ eq x y) → (of : KeyedSlots T) → IsSlots eq (hash_in of.key input) of.slots → {index probed : ℕ} {found : Option ℕ}
+    → IsProbe names (hash_of of.key fed % length of.slots) of.slots index found probed → Ended eq (hash_in of.key input) names (hash_of of.key fed) of.slots index found probed
+ended_by_key input respects alike of ok probe = record { key = record { same_hash = hashed_as_named input of.key respects; alike = alike }; slots_ok = ok; probe = probe }
 
 -- an item is a key of the items that are equal to it
 pub ended_item : {T : Type 0} {eq : T → T → Bool} {input : T → List (List ℕ)} → IsEquivalence eq → ((x y : T) → IsTrue (eq x y) → input x ≡ input y) → (x : T) → (of : KeyedSlots T) → IsSlots eq (hash_in of.key input) of.slots → {index probed : ℕ} {found : Option ℕ}
     → IsProbe (eq x) (home_in (hash_in of.key input) (length of.slots) x) of.slots index found probed → Ended eq (hash_in of.key input) (eq x) (hash_in of.key input x) of.slots index found probed
-ended_item laws respects x of ok probe = ended_by_key (respects x) (laws.congr x) of ok probe
+ended_item {input = input} laws respects x of ok probe = ended_by_key input (λ y t. ap concat (respects x y t)) (laws.congr x) of ok probe
 
 module _ {T : Type 0} {eq : T → T → Bool} {hashed : T → ℕ} {names : T → Bool} {fed : ℕ} {slots : List (Slot T)} {index probed : ℕ} {found : Option ℕ} (at : Ended eq hashed names fed slots index found probed) where
   looked_up : lookup names (entries_of slots) ≡ found

@@ -204,10 +204,10 @@ key_found {T} {eq} {hashed} {names} {fed} key slots s index found probed p =
     lookup_found names key.alike home ((fed % n)) slots (remainder_below _ n (some_size n s.size)) s.placed s.distinct index probed found (λ y t. ap (λ f. f % n) (key.same_hash y t)) p
 
 -- in a table under a view
-pub key_found_of : {T : Type 0} {eq : T → T → Bool} {input : T → List (List ℕ)} {names : T → Bool} {fed : List (List ℕ)} → ((x : T) → IsTrue (names x) → fed ≡ input x) → ((x y : T) → IsTrue (names x) → names y ≡ eq x y) → (of : KeyedSlots T) → IsSlots eq (hash_in of.key input) of.slots → (table : Table T) → table_of of.key of.slots ≡ table →
-    (index : ℕ) (found : Option ℕ) (probed : ℕ) → IsProbe names (hash_of of.key (concat fed) % length of.slots) of.slots index found probed → lookup names table.entries ≡ found
-key_found_of {T} {names = names} respects alike of s table view index found probed p =
-    ap (λ t. lookup names t.entries) (sym view) ∙ key_found (record { same_hash = hashed_as_named of.key respects; alike = alike }) of.slots s index found probed p
+pub key_found_of : {T : Type 0} {eq : T → T → Bool} (input : T → List (List ℕ)) {names : T → Bool} {fed : List ℕ} → ((x : T) → IsTrue (names x) → fed ≡ concat (input x)) → ((x y : T) → IsTrue (names x) → names y ≡ eq x y) → (of : KeyedSlots T) → IsSlots eq (hash_in of.key input) of.slots → (table : Table T) → table_of of.key of.slots ≡ table →
+    (index : ℕ) (found : Option ℕ) (probed : ℕ) → IsProbe names (hash_of of.key fed % length of.slots) of.slots index found probed → lookup names table.entries ≡ found
+key_found_of {T} input {names = names} respects alike of s table view index found probed p =
+    ap (λ t. lookup names t.entries) (sym view) ∙ key_found (record { same_hash = hashed_as_named input of.key respects; alike = alike }) of.slots s index found probed p
 
 -- ---- where it ended
 pub probe_below : {T : Type 0} {names : T → Bool} {h : ℕ} {slots : List (Slot T)} {index : ℕ} {found : Option ℕ} {probed : ℕ} → h < length slots → IsProbe names h slots index found probed → index < length slots

@@ -1,4 +1,5 @@
 pub mod Bytes
+pub mod Clones
 pub mod Filters
 pub mod Fingerprints
 pub mod Homes
@@ -8,6 +9,7 @@ pub mod Probes
 pub mod Samples
 pub mod Settled
 pub mod Slots
+pub mod StringKeys
 pub mod TableHashes
 pub mod Tables
 pub mod Walk

@@ -31,19 +31,16 @@ abbrev pub put : {T : Type 0} → (T → T → Bool) → List (T × ℕ) → T �
 put eq [] x w = (x, w) ∷ []
 put eq (e ∷ es) x w = cond (eq x e.0) ((e.0, e.1 + w) ∷ es) (e ∷ put eq es x w)
 
--- w was added at an item equal to x
-pub record PutsEqual {T : Type 0} (eq : T → T → Bool) (old : List (T × ℕ)) (x : T) (w : ℕ) (new : List (T × ℕ))
-    : Type 0 where
-  pub item : T
-  pub equal : eq x item ≡ true
-  pub entries : IsPermutation (put eq old item w) new
-
 -- w was added at an item that a key names
 pub record PutsByKey {T : Type 0} (eq : T → T → Bool) (names : T → Bool) (old : List (T × ℕ)) (w : ℕ)
     (new : List (T × ℕ)) : Type 0 where
   pub item : T
   pub named : names item ≡ true
   pub entries : IsPermutation (put eq old item w) new
+
+-- w was added at an item equal to x
+abbrev pub PutsEqual : {T : Type 0} → (T → T → Bool) → (old : List (T × ℕ)) → T → ℕ → (new : List (T × ℕ)) → Type 0
+PutsEqual eq old x w new = PutsByKey eq (eq x) old w new
 
 -- two entries of equal items with one count
 abbrev pub IsSameEntry : {T : Type 0} → (T → T → Bool) → T × ℕ → T × ℕ → Type 0

@@ -9,7 +9,7 @@ ghost use Rattle.sketch_base.specs.Errors.{no_memory};
 ghost use Rattle.counter_table.specs.Fingerprints.{fingerprint_of};
 ghost use Rattle.counter_table.specs.Probes.{IsCountAt};
 ghost use Rattle.counter_table.specs.Slots.{IsTableSize, Held, slot_at};
-ghost use Rattle.counter_table.specs.TableHashes.{hash_in};
+ghost use Rattle.counter_table.specs.TableHashes as hashes;
 
 use crate::item_key::ItemKey;
 use crate::slot::Slot;
@@ -25,7 +25,7 @@ pub(crate) const FREE: u8 = 0;
 /// Returns the hash of the items that the key names, in a table with this key.
 #[inline(always)]
 pub(crate) fn hash_of<T: Eq + Hash, K: ItemKey<T>>(table_key: TableKey, key: K) -> u64
-    ensures { result ≡ hash_in table_key K.hash_input key }
+    ensures { result ≡ hashes.hash_of table_key (K.bytes key) }
 {
     match table_key {
         TableKey::Plain => key.murmur3(DEFAULT_UPDATE_SEED).0,

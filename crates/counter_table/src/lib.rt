@@ -14,9 +14,11 @@
 //! [`ReversePurgeItemHashMap::slots`] returns the slots, for a caller that writes all entries.
 #![tactic(auto)]
 
+mod equal_clone;
 mod fingerprints;
 mod indices;
 mod item_key;
+mod keys;
 mod reverse_purge_item_hash_map;
 mod reverse_purge_item_iter;
 mod sizes;
@@ -24,7 +26,9 @@ mod slot;
 mod slot_table;
 mod table_key;
 
+pub use equal_clone::EqualClone;
 pub use item_key::{ItemKey, OwnedKey};
+pub use keys::Keys;
 pub use reverse_purge_item_hash_map::ReversePurgeItemHashMap;
 pub use reverse_purge_item_iter::ReversePurgeItemIter;
 pub use sizes::{MAX_SAMPLE_SIZE, bytes_of_table, capacity_of, lg_of};

@@ -12,6 +12,7 @@ ghost use Rattle.counter_table.specs.Tables.{count_by_key, count_of, is_tracked_
 ghost use Rattle.counter_table.specs.Walk.{entry_of};
 ghost use Rattle.counter_table.specs.declared.table_key.TableKey.TheVariants.{Plain};
 
+use crate::equal_clone::EqualClone;
 use crate::item_key::{ItemKey, OwnedKey};
 use crate::reverse_purge_item_iter::ReversePurgeItemIter;
 use crate::sizes::{MAX_SAMPLE_SIZE, bytes_of_table, capacity_of, lg_of};
@@ -180,7 +181,7 @@ impl<T: Eq + Hash + Drop> ReversePurgeItemHashMap<T> {
 
     /// Adds the amount to the item's count, or inserts a clone of the item with the amount as its count.
     ///
-    /// Clones the item only if it has no entry. Clones have to equal their originals. An amount of 0 is inserted too. An
+    /// Clones the item only if it has no entry. An amount of 0 is inserted too. An
     /// insertion requires that a slot stays free after it, and an addition requires that the sum fits.
     ///
     /// # Errors
@@ -188,8 +189,7 @@ impl<T: Eq + Hash + Drop> ReversePurgeItemHashMap<T> {
     /// Returns `NoMemory` if the clone cannot be allocated. The map is then unchanged.
     pub fn adjust_or_put_value_ref(&mut self, item: &T, adjust_amount: u64) -> Result<(), Error>
     where
-        T: Clone,
-        requires clones { (x y : T) → T.is_clone x y → IsTrue (T.eq x y) }
+        T: EqualClone,
         requires room { is_tracked T.eq self.old.entries item.now ≡ false
             → length self.old.entries + 1 < self.old.size }
         requires fits { is_tracked T.eq self.old.entries item.now ≡ true
@@ -202,10 +202,7 @@ impl<T: Eq + Hash + Drop> ReversePurgeItemHashMap<T> {
         ensures memory { IfErr result (λ e. e ≡ no_memory) }
         ensures succeeds { is_tracked T.eq self.old.entries item.now ≡ true → IsOk result }
     {
-        if self.table.put_clone(item, adjust_amount)? {
-            self.active += 1;
-        }
-        Ok(())
+        self.adjust_or_put_by_key(item, adjust_amount)
     }
 
     /// Adds the amount to the count of the item that the key names, or inserts the item with the amount as its count.
@@ -232,6 +229,7 @@ impl<T: Eq + Hash + Drop> ReversePurgeItemHashMap<T> {
         ensures err { OnErr result (self.new ≡ self.old) }
         ensures memory { IfErr result (λ e. e ≡ no_memory) }
         ensures succeeds { is_tracked_by_key (K.names key) self.old.entries ≡ true → IsOk result }
+        ensures infallible { K.needs_no_memory key → IsOk result }
     {
         if self.table.put_by_key(key, adjust_amount)? {
             self.active += 1;
@@ -343,13 +341,12 @@ impl<T: Eq + Hash + Drop> ReversePurgeItemHashMap<T> {
         bytes_of_table::<T>(self.table.len())
     }
 
-    /// Returns the same map with clones of the items, in a table of the same size. Clones have to equal their originals.
+    /// Returns the same map with clones of the items, in a table of the same size.
     ///
     /// Allocates the table and the clones. Returns `NoMemory` if an allocation fails.
     pub fn try_clone(&self) -> Result<Self, Error>
     where
-        T: Clone,
-        requires clones { (x y : T) → T.is_clone x y → IsTrue (T.eq x y) }
+        T: EqualClone,
         ensures entries { IfOk result (λ map. IsSameMap T.eq self.now.entries map.entries) }
         ensures size { IfOk result (λ map. map.size ≡ self.now.size) }
         ensures key { IfOk result (λ map. map.key ≡ self.now.key) }

@@ -10,6 +10,7 @@ mod insertions;
 mod look_ups;
 mod purges;
 
+use crate::equal_clone::EqualClone;
 use crate::fingerprints::{FREE, free_fingerprints};
 use crate::slot::Slot;
 use crate::slot_table::look_ups::SlotSlices;
@@ -131,13 +132,12 @@ impl<T: Eq + Hash + Drop> SlotTable<T> {
         }
     }
 
-    /// Returns the same slots with clones of the items. Clones have to equal their originals.
+    /// Returns the same slots with clones of the items.
     ///
     /// Allocates the slots, the fingerprints and the clones.
     pub(crate) fn try_clone(&self) -> Result<Self, Error>
     where
-        T: Clone,
-        requires clones { (x y : T) → T.is_clone x y → IsTrue (T.eq x y) }
+        T: EqualClone,
         ensures ok { IfOk result (λ table. AllZip (IsSameSlot T.eq) self.now.slots table.slots) }
         ensures key { IfOk result (λ table. table.key ≡ self.now.key) }
         ensures err { IfErr result (λ e. e ≡ no_memory) }
@@ -174,12 +174,8 @@ fn free_all<T: Drop>(slots: &mut [Slot<T>])
     }
 }
 
-/// Returns the same slots with clones of the items. Clones have to equal their originals.
-fn clone_slots<T: Eq + Clone + Drop>(
-    alloc: Global,
-    slots: &[Slot<T>],
-) -> Result<Vec<Slot<T>>, Error>
-    requires clones { (x y : T) → T.is_clone x y → IsTrue (T.eq x y) }
+/// Returns the same slots with clones of the items.
+fn clone_slots<T: EqualClone>(alloc: Global, slots: &[Slot<T>]) -> Result<Vec<Slot<T>>, Error>
     ensures ok { IfOk result (λ clones. AllZip (IsSameSlot T.eq) slots.now clones.items) }
     ensures err { IfErr result (λ e. e ≡ no_memory) }
 {

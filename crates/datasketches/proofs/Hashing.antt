@@ -18,9 +18,8 @@ use Rattle.datasketches.specs.KeysKept.{makes, loads, keys_kept}
 use Rattle.datasketches.specs.Joining.{Joins, JoinsFrequent}
 use Rattle.datasketches.specs.Names.{at_name, Puts, AreSame}
 use Rattle.datasketches.specs.Shapes.{empty_sketch, fault_of}
-use Rattle.datasketches.specs.State.{SessionKeys, SessionState, IsUnchanged}
-use Rattle.datasketches.specs.Steps.{OnSketch, Alters, Stores, Creates, IsCreated, JoinsNamed, JoinsApart, MakesFrom, Writes, Reads, IsRestored, Loads, Brings, IsLoaded, Performs}
-use Rattle.datasketches.specs.declared.image_kind.ImageKind.{ImageKind}
+use Rattle.datasketches.specs.State.{SessionKeys, SessionState}
+use Rattle.datasketches.specs.Steps.{OnSketch, Alters, Stores, Creates, IsCreated, JoinsNamed, JoinsApart, Writes, Reads, IsRestored, IsLoaded, Performs}
 use Rattle.datasketches.specs.declared.reply.Reply.{Reply}
 use Rattle.datasketches.specs.declared.sketch.Sketch.{Sketch}
 use Rattle.datasketches.specs.declared.sketch.Sketch.TheVariants.{Frequent, CountI64, CountU64, Bloom}

@@ -1,5 +1,5 @@
 //! Merges and set operations on two sketches.
-ghost use Rattle.std.specs.Prelude.{◌≡◌, IsTrue, OnErr, OnOk};
+ghost use Rattle.std.specs.Prelude.{◌≡◌, OnErr, OnOk};
 ghost use Rattle.datasketches.specs.Actions.{Join};
 ghost use Rattle.datasketches.specs.Histories.{joined};
 ghost use Rattle.datasketches.specs.Joining.{Joins};
@@ -8,10 +8,11 @@ ghost use Rattle.datasketches.specs.Stands.{CarriesBoth};
 
 use crate::reply::Refusal;
 use crate::sketch::Sketch;
+use sketch_frequencies::EqualClone;
 use std::hash::Hash;
 
 /// A merge or set operation that combines another sketch into one. Each kind of sketch supports some of these.
-pub trait Joining<T: Eq + Hash + Clone + Drop> {
+pub trait Joining<T: EqualClone + Hash + Drop> {
     ghost join: { Join };
 
     /// Combines another sketch into this one, if both are of one kind that supports it.
@@ -21,7 +22,6 @@ pub trait Joining<T: Eq + Hash + Clone + Drop> {
     /// Returns `WrongKind` if the kinds differ or do not support it, and the error of the sketch's own call. The sketch
     /// is then unchanged.
     fn join(sketch: &mut Sketch<T>, other: &Sketch<T>) -> Result<(), Refusal>
-        requires clones { (x y : T) → T.is_clone x y → IsTrue (T.eq x y) }
         ensures own { Joins T.eq join other.now sketch.old (done_or result) sketch.new }
         ensures carries { OnOk result (CarriesBoth T.eq (joined join) sketch.old other.now sketch.new) }
         ensures refused { OnErr result (sketch.new ≡ sketch.old) };
@@ -30,7 +30,7 @@ pub trait Joining<T: Eq + Hash + Clone + Drop> {
 /// Adds the other's weights.
 pub struct Merge;
 
-impl<T: Eq + Hash + Clone + Drop> Joining<T> for Merge {
+impl<T: EqualClone + Hash + Drop> Joining<T> for Merge {
     ghost join = { Join.Merge };
 
     fn join(sketch: &mut Sketch<T>, other: &Sketch<T>) -> Result<(), Refusal> {
@@ -68,7 +68,7 @@ macro_rules! on_filters {
 /// Adds the other's positions.
 pub struct Union;
 
-impl<T: Eq + Hash + Clone + Drop> Joining<T> for Union {
+impl<T: EqualClone + Hash + Drop> Joining<T> for Union {
     ghost join = { Join.Union };
 
     fn join(sketch: &mut Sketch<T>, other: &Sketch<T>) -> Result<(), Refusal> {
@@ -79,7 +79,7 @@ impl<T: Eq + Hash + Clone + Drop> Joining<T> for Union {
 /// Keeps only the positions that are also in the other.
 pub struct Intersect;
 
-impl<T: Eq + Hash + Clone + Drop> Joining<T> for Intersect {
+impl<T: EqualClone + Hash + Drop> Joining<T> for Intersect {
     ghost join = { Join.Intersect };
 
     fn join(sketch: &mut Sketch<T>, other: &Sketch<T>) -> Result<(), Refusal> {
@@ -90,7 +90,7 @@ impl<T: Eq + Hash + Clone + Drop> Joining<T> for Intersect {
 /// Removes the other's positions.
 pub struct Difference;
 
-impl<T: Eq + Hash + Clone + Drop> Joining<T> for Difference {
+impl<T: EqualClone + Hash + Drop> Joining<T> for Difference {
     ghost join = { Join.Difference };
 
     fn join(sketch: &mut Sketch<T>, other: &Sketch<T>) -> Result<(), Refusal> {

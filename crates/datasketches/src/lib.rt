@@ -35,8 +35,8 @@ pub mod bloom {
 /// Count-Min sketches.
 pub mod countmin {
     pub use sketch_countmin::{
-        CountMinSizes, CountMinSketch, CountMinValue, Error, ErrorKind, Fault,
-        UnsignedCountMinValue, suggest_num_buckets, suggest_num_hashes,
+        CountMinItems, CountMinSizes, CountMinSketch, CountMinValue, Error, ErrorKind, Fault,
+        RowItem, UnsignedCountMinValue, suggest_num_buckets, suggest_num_hashes,
     };
 }
 
@@ -44,10 +44,17 @@ pub mod countmin {
 pub mod frequencies {
     pub use sketch_base::{SketchBytes, SketchSlice};
     pub use sketch_frequencies::{
-        EMPTY_FLAG_MASK, Error, ErrorKind, ErrorType, Fault, FrequentItemValue, FrequentItemsSizes,
-        FrequentItemsSketch, HashKey, ItemBounds, ItemKey, OwnedKey, PREAMBLE_LONGS_EMPTY,
-        PREAMBLE_LONGS_NONEMPTY, ReversePurgeItemHashMap, ReversePurgeItemIter, Row,
-        SERIAL_VERSION, TableKey, suggest_max_map_size,
+        EMPTY_FLAG_MASK, EqualClone, Error, ErrorKind, ErrorType, Fault, FrequentItemValue,
+        FrequentItemsSizes, FrequentItemsSketch, HashKey, ItemBounds, ItemKey, Keys, OwnedKey,
+        PREAMBLE_LONGS_EMPTY, PREAMBLE_LONGS_NONEMPTY, ReversePurgeItemHashMap,
+        ReversePurgeItemIter, Row, SERIAL_VERSION, TableKey, suggest_max_map_size,
+    };
+}
+
+/// Items and strings, one by one and in sequences.
+pub mod items {
+    pub use sketch_base::{
+        ByteStrings, Item, Items, Lines, OffsetStrings, Offsets, Separator, Strings, Strs, Words,
     };
 }
 

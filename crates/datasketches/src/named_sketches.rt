@@ -1,5 +1,5 @@
 //! Merges and set operations on two named sketches.
-ghost use Rattle.std.specs.Prelude.{◌≡◌, ◌≢◌, ◌<◌, length, IsTrue};
+ghost use Rattle.std.specs.Prelude.{◌≡◌, ◌≢◌, ◌<◌, length};
 ghost use Rattle.datasketches.specs.Indices.{JoinsAt};
 ghost use Rattle.datasketches.specs.Replies.{done_or};
 ghost use Rattle.datasketches.specs.Steps.{JoinsNamed};
@@ -8,9 +8,10 @@ use crate::joining::Joining;
 use crate::name_map::{NameMap, index_of};
 use crate::reply::Refusal;
 use crate::sketch::Sketch;
+use sketch_frequencies::EqualClone;
 use std::hash::Hash;
 
-impl<T: Eq + Hash + Clone + Drop> NameMap<Sketch<T>> {
+impl<T: EqualClone + Hash + Drop> NameMap<Sketch<T>> {
     /// Combines the sketch named `other` into the one named `into`.
     ///
     /// # Errors
@@ -18,7 +19,6 @@ impl<T: Eq + Hash + Clone + Drop> NameMap<Sketch<T>> {
     /// Returns `NoSuchName` if a name has no sketch, `SameName` if both names are the same, and the errors of
     /// [`Joining::join`].
     pub fn join<J: Joining<T>>(&mut self, into: &str, other: &str) -> Result<(), Refusal>
-        requires clones { (x y : T) → T.is_clone x y → IsTrue (T.eq x y) }
         ensures joins { JoinsNamed T.eq J.join into.now other.now self.old.entries (done_or result) self.new.entries }
         ensures hasher { self.new.hasher ≡ self.old.hasher }
     {
@@ -36,12 +36,11 @@ impl<T: Eq + Hash + Clone + Drop> NameMap<Sketch<T>> {
 }
 
 /// Combines the sketch at index `other` into the one at index `into`.
-fn join_at<T: Eq + Hash + Clone + Drop, J: Joining<T>>(
+fn join_at<T: EqualClone + Hash + Drop, J: Joining<T>>(
     sketches: &mut [Sketch<T>],
     into: usize,
     other: usize,
 ) -> Result<(), Refusal>
-    requires clones { (x y : T) → T.is_clone x y → IsTrue (T.eq x y) }
     requires into_below { into < length sketches.old }
     requires other_below { other < length sketches.old }
     requires apart { into ≢ other }

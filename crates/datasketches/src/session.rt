@@ -22,9 +22,9 @@ use crate::reply::{Bounds, Refusal, Reply, Status};
 use crate::sketch::Sketch;
 use sketch_base::MapState;
 use sketch_bloom::BloomFilterBuilder;
-use sketch_countmin::CountMinSizes;
+use sketch_countmin::{CountMinSizes, RowItem};
 use sketch_frequencies::{
-    ErrorType, FrequentItemValue, FrequentItemsSizes, ItemKey, OwnedKey, Row, TableKey,
+    EqualClone, ErrorType, FrequentItemValue, FrequentItemsSizes, ItemKey, OwnedKey, Row, TableKey,
 };
 use std::alloc::Global;
 use std::fmt;
@@ -84,7 +84,7 @@ impl<T: Eq + Hash + Drop> fmt::Debug for Session<T> {
     }
 }
 
-impl<T: FrequentItemValue + Clone + Drop> Session<T> {
+impl<T: FrequentItemValue + EqualClone + Drop> Session<T> {
     /// Creates a session with no names. Does not allocate.
     pub fn new(alloc: Global) -> Self
         ensures empty { result ≡ nothing_stored (keys_with Plain result.keys.sketch_names) }
@@ -234,7 +234,7 @@ impl<T: FrequentItemValue + Clone + Drop> Session<T> {
     /// Creates an owned item only if a sketch of frequent items tracks none. Then this may also return `NoMemory` for that
     /// item, but not if the weight is 0, and not in place of `WeightOverflow`.
     #[inline(always)]
-    pub fn add_by_key<K: OwnedKey<T>>(
+    pub fn add_by_key<K: OwnedKey<T> + RowItem<u64>>(
         &mut self,
         name: &str,
         item: K,
@@ -251,7 +251,7 @@ impl<T: FrequentItemValue + Clone + Drop> Session<T> {
     }
 
     /// Adds an item with a weight that may be negative to a Count-Min sketch of signed weights.
-    pub fn add_signed<K: ItemKey<T>>(
+    pub fn add_signed<K: ItemKey<T> + RowItem<i64>>(
         &mut self,
         name: &str,
         item: K,
@@ -326,7 +326,6 @@ impl<T: FrequentItemValue + Clone + Drop> Session<T> {
     /// - `WrongKind` if the kinds differ or do not support the call;
     /// - the error of the sketch's own call.
     pub fn merge(&mut self, into: &str, other: &str) -> Result<(), Refusal>
-        requires clones { (x y : T) → T.is_clone x y → IsTrue (T.eq x y) }
         ensures { Performed (option_bytes T.row) T.eq T.hash_input T.codec T.content
             (Action.Combine into.now other.now Join.Merge) self.old (done_or result) self.new }
     {
@@ -335,7 +334,6 @@ impl<T: FrequentItemValue + Clone + Drop> Session<T> {
 
     /// Adds the positions of the filter `other` to the filter `into`.
     pub fn union(&mut self, into: &str, other: &str) -> Result<(), Refusal>
-        requires clones { (x y : T) → T.is_clone x y → IsTrue (T.eq x y) }
         ensures { Performed (option_bytes T.row) T.eq T.hash_input T.codec T.content
             (Action.Combine into.now other.now Join.Union) self.old (done_or result) self.new }
     {
@@ -344,7 +342,6 @@ impl<T: FrequentItemValue + Clone + Drop> Session<T> {
 
     /// Keeps in the filter `into` only the positions that are also in the filter `other`.
     pub fn intersect(&mut self, into: &str, other: &str) -> Result<(), Refusal>
-        requires clones { (x y : T) → T.is_clone x y → IsTrue (T.eq x y) }
         ensures { Performed (option_bytes T.row) T.eq T.hash_input T.codec T.content
             (Action.Combine into.now other.now Join.Intersect) self.old (done_or result) self.new }
     {
@@ -353,7 +350,6 @@ impl<T: FrequentItemValue + Clone + Drop> Session<T> {
 
     /// Removes the positions of the filter `other` from the filter `into`.
     pub fn difference(&mut self, into: &str, other: &str) -> Result<(), Refusal>
-        requires clones { (x y : T) → T.is_clone x y → IsTrue (T.eq x y) }
         ensures { Performed (option_bytes T.row) T.eq T.hash_input T.codec T.content
             (Action.Combine into.now other.now Join.Difference) self.old (done_or result) self.new }
     {
@@ -435,7 +431,11 @@ impl<T: FrequentItemValue + Clone + Drop> Session<T> {
 
     /// Returns what a sketch tells of an item: `Reply::Contains` if it is a filter, and `Reply::Bounds` otherwise.
     #[inline(always)]
-    pub fn ask<K: ItemKey<T>>(&self, name: &str, item: K) -> Result<Reply<T>, Refusal>
+    pub fn ask<K: ItemKey<T> + RowItem<i64> + RowItem<u64>>(
+        &self,
+        name: &str,
+        item: K,
+    ) -> Result<Reply<T>, Refusal>
         ensures performed { (x : T) → IsTrue (K.names item x)
             → Performed (option_bytes T.row) T.eq T.hash_input T.codec T.content
             (Action.Ask name.now x) self.now (told result) self.now }
@@ -445,7 +445,11 @@ impl<T: FrequentItemValue + Clone + Drop> Session<T> {
     }
 
     /// Returns an item's estimate and bounds. Also returns `WrongKind` if the sketch is a filter.
-    pub fn bounds<K: ItemKey<T>>(&self, name: &str, item: K) -> Result<Bounds, Refusal>
+    pub fn bounds<K: ItemKey<T> + RowItem<i64> + RowItem<u64>>(
+        &self,
+        name: &str,
+        item: K,
+    ) -> Result<Bounds, Refusal>
         ensures { (x : T) → IsTrue (K.names item x) → (reply : Reply T)
             × Performed (option_bytes T.row) T.eq T.hash_input T.codec T.content
             (Action.Ask name.now x) self.now reply self.now
@@ -456,7 +460,11 @@ impl<T: FrequentItemValue + Clone + Drop> Session<T> {
     }
 
     /// Returns whether a filter contains an item. Also returns `WrongKind` if the sketch is no filter.
-    pub fn contains<K: ItemKey<T>>(&self, name: &str, item: K) -> Result<bool, Refusal>
+    pub fn contains<K: ItemKey<T> + RowItem<i64> + RowItem<u64>>(
+        &self,
+        name: &str,
+        item: K,
+    ) -> Result<bool, Refusal>
         ensures { (x : T) → IsTrue (K.names item x) → (reply : Reply T)
             × Performed (option_bytes T.row) T.eq T.hash_input T.codec T.content
             (Action.Ask name.now x) self.now reply self.now
@@ -483,7 +491,6 @@ impl<T: FrequentItemValue + Clone + Drop> Session<T> {
         error_type: ErrorType,
         threshold: u64,
     ) -> Result<Vec<Row<T>>, Refusal>
-        requires clones { (x y : T) → T.is_clone x y → IsTrue (T.eq x y) }
         ensures { Performed (option_bytes T.row) T.eq T.hash_input T.codec T.content
             (Action.ListRows name.now error_type threshold) self.now (told_as Reply.Rows result) self.now }
     {
@@ -502,7 +509,6 @@ impl<T: FrequentItemValue + Clone + Drop> Session<T> {
     }
 
     fn join<J: Joining<T>>(&mut self, into: &str, other: &str) -> Result<(), Refusal>
-        requires clones { (x y : T) → T.is_clone x y → IsTrue (T.eq x y) }
         ensures { Performed (option_bytes T.row) T.eq T.hash_input T.codec T.content
             (Action.Combine into.now other.now J.join) self.old (done_or result) self.new }
     {

@@ -16,10 +16,10 @@ use crate::image_kind::ImageKind;
 use crate::reply::{Refusal, Reply, Status};
 use sketch_base::Error;
 use sketch_bloom::{BloomFilter, laws as bloom};
-use sketch_countmin::{CountMinSketch, laws as countmin};
+use sketch_countmin::{CountMinImageOptions, CountMinSketch, RowItem, laws as countmin};
 use sketch_frequencies::{
-    ErrorType, FrequentItemValue, FrequentItemsSketch, ItemKey, OwnedKey, Row, TableKey,
-    laws as frequencies,
+    EqualClone, ErrorType, FrequentItemValue, FrequentItemsImageOptions, FrequentItemsSketch,
+    ItemKey, OwnedKey, Row, TableKey, laws as frequencies,
 };
 use std::alloc::Global;
 use std::hash::Hash;
@@ -57,14 +57,18 @@ impl<T: Eq + Hash + Drop> Sketch<T> {
     {
         match self {
             Sketch::Frequent(sketch) => Ok(sketch.update_with_count(item, weight)?),
-            Sketch::CountU64(sketch) => Ok(sketch.update_with_weight(&item, weight)?),
+            Sketch::CountU64(sketch) => Ok(sketch.update_item_with_weight(&item, weight)?),
             _ => Err(Refusal::WrongKind),
         }
     }
 
     /// Adds the item that the key names, as [`add`](Self::add) does. Creates an item only if none is tracked.
     #[inline(always)]
-    pub fn add_by_key<K: OwnedKey<T>>(&mut self, item: K, weight: u64) -> Result<(), Refusal>
+    pub fn add_by_key<K: OwnedKey<T> + RowItem<u64>>(
+        &mut self,
+        item: K,
+        weight: u64,
+    ) -> Result<(), Refusal>
         ensures added { (x : T) → IsTrue (K.names item x)
             → AddsNamed T.eq T.hash_input (K.names item) weight self.old result self.new }
         ensures carries { (x : T) → IsTrue (K.names item x)
@@ -72,19 +76,23 @@ impl<T: Eq + Hash + Drop> Sketch<T> {
         ensures refused { OnErr result (self.new ≡ self.old) }
     {
         match self {
-            Sketch::Frequent(sketch) => Ok(sketch.update_with_count_by_key(item, weight)?),
-            Sketch::CountU64(sketch) => Ok(sketch.update_with_weight(item, weight)?),
+            Sketch::Frequent(sketch) => Ok(sketch.update_item_with_count(item, weight)?),
+            Sketch::CountU64(sketch) => Ok(sketch.update_item_with_weight(item, weight)?),
             _ => Err(Refusal::WrongKind),
         }
     }
 
     /// Adds an item with a weight to a Count-Min sketch of signed weights.
-    pub fn add_signed<K: ItemKey<T>>(&mut self, item: K, weight: i64) -> Result<(), Refusal>
+    pub fn add_signed<K: ItemKey<T> + RowItem<i64>>(
+        &mut self,
+        item: K,
+        weight: i64,
+    ) -> Result<(), Refusal>
         ensures { (x : T) → IsTrue (K.names item x)
             → Alters T.eq T.hash_input (Change.AddSigned x weight) self.old (done_or result) self.new }
     {
         match self {
-            Sketch::CountI64(sketch) => Ok(sketch.update_with_weight(item, weight)?),
+            Sketch::CountI64(sketch) => Ok(sketch.update_item_with_weight(item, weight)?),
             _ => Err(Refusal::WrongKind),
         }
     }
@@ -97,7 +105,7 @@ impl<T: Eq + Hash + Drop> Sketch<T> {
     {
         match self {
             Sketch::Bloom(filter) => {
-                filter.insert(item);
+                filter.insert_item(item);
                 Ok(())
             }
             _ => Err(Refusal::WrongKind),
@@ -154,26 +162,24 @@ impl<T: Eq + Hash + Drop> Sketch<T> {
 
     /// Returns an item's estimate and bounds, or whether a filter contains it.
     #[inline(always)]
-    pub fn ask<K: ItemKey<T>>(&self, item: K) -> Reply<T>
+    pub fn ask<K: ItemKey<T> + RowItem<i64> + RowItem<u64>>(&self, item: K) -> Reply<T>
         ensures tells { (x : T) → IsTrue (K.names item x) → Tells T.eq T.hash_input x self.now result }
         ensures accepted { is_refused result ≡ false }
     {
         match self {
             Sketch::Frequent(sketch) => {
-                let found = sketch.bounds_by_key(item);
+                let found = sketch.bounds_item(item);
                 bounds(found.estimate, found.lower_bound, found.upper_bound)
             }
-            Sketch::CountI64(sketch) => signed_bounds(
-                sketch.estimate(item),
-                sketch.lower_bound(item),
-                sketch.upper_bound(item),
-            ),
-            Sketch::CountU64(sketch) => bounds(
-                sketch.estimate(item),
-                sketch.lower_bound(item),
-                sketch.upper_bound(item),
-            ),
-            Sketch::Bloom(filter) => Reply::Contains(filter.contains(&item)),
+            Sketch::CountI64(sketch) => {
+                let estimate = sketch.estimate_item(item);
+                signed_bounds(estimate, estimate, sketch.upper_bound_item(item))
+            }
+            Sketch::CountU64(sketch) => {
+                let estimate = sketch.estimate_item(item);
+                bounds(estimate, estimate, sketch.upper_bound_item(item))
+            }
+            Sketch::Bloom(filter) => Reply::Contains(filter.contains_item(item)),
         }
     }
 
@@ -258,11 +264,13 @@ impl<T: FrequentItemValue + Drop> Sketch<T> {
                 frequencies::image_laws::<T>();
                 of_kind!(
                     Frequent,
-                    FrequentItemsSketch::deserialize_with_limit_and_key(
+                    FrequentItemsSketch::deserialize_with_options(
                         alloc,
                         bytes,
-                        usize::MAX,
-                        key
+                        FrequentItemsImageOptions {
+                            max_bytes: usize::MAX,
+                            key,
+                        }
                     )
                 )
             }
@@ -291,7 +299,7 @@ impl<T: FrequentItemValue + Drop> Sketch<T> {
     /// `key`.
     ///
     /// For frequent items the limit counts what
-    /// [`deserialize_with_limit`](sketch_frequencies::FrequentItemsSketch::deserialize_with_limit) counts: the table,
+    /// [`deserialize_with_options`](sketch_frequencies::FrequentItemsSketch::deserialize_with_options) counts: the table,
     /// and for items that own memory also the bytes that they take in the image.
     ///
     /// # Errors
@@ -317,8 +325,10 @@ impl<T: FrequentItemValue + Drop> Sketch<T> {
                 frequencies::image_laws::<T>();
                 of_kind!(
                     Frequent,
-                    FrequentItemsSketch::deserialize_with_limit_and_key(
-                        alloc, bytes, max_bytes, key
+                    FrequentItemsSketch::deserialize_with_options(
+                        alloc,
+                        bytes,
+                        FrequentItemsImageOptions { max_bytes, key }
                     )
                 )
             }
@@ -326,14 +336,22 @@ impl<T: FrequentItemValue + Drop> Sketch<T> {
                 countmin::image_laws::<i64>();
                 of_kind!(
                     CountI64,
-                    CountMinSketch::deserialize_with_seed_and_limit(alloc, bytes, seed, max_bytes)
+                    CountMinSketch::deserialize_with_options(
+                        alloc,
+                        bytes,
+                        CountMinImageOptions { seed, max_bytes }
+                    )
                 )
             }
             ImageKind::CountU64 { seed } => {
                 countmin::image_laws::<u64>();
                 of_kind!(
                     CountU64,
-                    CountMinSketch::deserialize_with_seed_and_limit(alloc, bytes, seed, max_bytes)
+                    CountMinSketch::deserialize_with_options(
+                        alloc,
+                        bytes,
+                        CountMinImageOptions { seed, max_bytes }
+                    )
                 )
             }
             ImageKind::Bloom => {
@@ -347,14 +365,13 @@ impl<T: FrequentItemValue + Drop> Sketch<T> {
     }
 }
 
-impl<T: Eq + Hash + Clone + Drop> Sketch<T> {
+impl<T: EqualClone + Hash + Drop> Sketch<T> {
     /// Returns the items above a threshold, if the sketch is of frequent items.
     ///
     /// # Errors
     ///
     /// Returns `WrongKind` if the sketch is of another kind, and `NoMemory` if the rows or a clone cannot be allocated.
     pub fn rows(&self, error_type: ErrorType, threshold: u64) -> Result<Vec<Row<T>>, Refusal>
-        requires clones { (x y : T) → T.is_clone x y → IsTrue (T.eq x y) }
         ensures { Lists T.eq error_type threshold self.now (told_as Reply.Rows result) }
     {
         match self {

@@ -14,36 +14,36 @@ use Rattle.datasketches_c.proofs.KindLemmas.{on_kind_said, holds_kind}
 module _ (part : AnySketch → Option CountState) (old new : Option AnySketch) (held : AnySketch) (s : CountState) (result : ℤ)
     (is : old ≡ Some held) (which : part held ≡ Some s) where
   -- each item's estimate was written down
-  pub all_estimated : {I : Type 0} (bytes_of : I → List ℕ) (items : List I) (estimates : List ℤ) → result ≡ ok → AreEstimates s bytes_of items estimates
-      → EstimatesAll part old new result bytes_of items estimates
-  all_estimated bytes_of items estimates done are = on_kind_said part old new held s result (λ a. (result ≡ ok) × AreEstimates a bytes_of items estimates) is which (done, are)
+  pub all_estimated : (items : List (List ℕ)) (estimates : List ℤ) → result ≡ ok → AreEstimates s items estimates
+      → EstimatesAll part old new result items estimates
+  all_estimated items estimates done are = on_kind_said part old new held s result (λ a. (result ≡ ok) × AreEstimates a items estimates) is which (done, are)
 
   module _ (greatest : ℕ) (given : AnySketch) (t : CountState) (new_is : new ≡ Some given) (which_new : part given ≡ Some t) where
     -- 1 was added for each item
-    pub each_added : {I : Type 0} (bytes_of : I → List ℕ) (items : List I) → WeighsAll s (take (greatest - s.total) (map bytes_of items)) t
+    pub each_added : (items : List (List ℕ)) → WeighsAll s (take (greatest - s.total) items) t
         → (s.total + length items ≤ greatest → result ≡ ok) → (greatest < s.total + length items → result ≡ refusal_number WeightOverflow)
-        → AddsEach part greatest old new result bytes_of items
-    each_added bytes_of items counted done overflow =
+        → AddsEach part greatest old new result items
+    each_added items counted done overflow =
         let Said : CountState → Type 0 = λ a.
-        HoldsKind part new (WeighsAll a (take (greatest - a.total) (map bytes_of items)))
+        HoldsKind part new (WeighsAll a (take (greatest - a.total) items))
         × (a.total + length items ≤ greatest → result ≡ ok)
         × (greatest < a.total + length items → result ≡ refusal_number WeightOverflow) in
         on_kind_said part old new held s result Said is which
-        (holds_kind part new given t (WeighsAll s (take (greatest - s.total) (map bytes_of items))) new_is which_new counted, done, overflow)
+        (holds_kind part new given t (WeighsAll s (take (greatest - s.total) items)) new_is which_new counted, done, overflow)
 
     -- weights were added for the items
-    pub weights_added : {I W : Type 0} (bytes_of : I → List ℕ) (number : W → ℤ) (items : List I) (weights : List W) (together : ℕ)
-        → (s.total + together ≤ greatest → (result ≡ ok) × WeighsEach bytes_of number s items weights t)
+    pub weights_added : {W : Type 0} (number : W → ℤ) (items : List (List ℕ)) (weights : List W) (together : ℕ)
+        → (s.total + together ≤ greatest → (result ≡ ok) × WeighsEach number s items weights t)
         → (greatest < s.total + together → result ≡ refusal_number WeightOverflow)
-        → AddsWeights part greatest old new result bytes_of number items weights together
-    weights_added bytes_of number items weights together counted overflow =
+        → AddsWeights part greatest old new result number items weights together
+    weights_added number items weights together counted overflow =
         let Said : CountState → Type 0 = λ a.
-        (a.total + together ≤ greatest → (result ≡ ok) × HoldsKind part new (WeighsEach bytes_of number a items weights))
+        (a.total + together ≤ greatest → (result ≡ ok) × HoldsKind part new (WeighsEach number a items weights))
         × (greatest < a.total + together → result ≡ refusal_number WeightOverflow) in
         on_kind_said part old new held s result Said is which
-        ((λ room. ((counted room).0, holds_kind part new given t (WeighsEach bytes_of number s items weights) new_is which_new (counted room).1)), overflow)
+        ((λ room. ((counted room).0, holds_kind part new given t (WeighsEach number s items weights) new_is which_new (counted room).1)), overflow)
 
 -- a number with a sign is its own number
-pub own_numbers : {I : Type 0} (part : AnySketch → Option CountState) (old new : Option AnySketch) (result : ℤ) (bytes_of : I → List ℕ) (items : List I) (estimates : List ℤ)
-    → EstimatesAll part old new result bytes_of items (map (λ (x : ℤ). x) estimates) → EstimatesAll part old new result bytes_of items estimates
-own_numbers part old new result bytes_of items estimates said = subst (λ (zs : List ℤ). EstimatesAll part old new result bytes_of items zs) (map-id estimates) said
+pub own_numbers : (part : AnySketch → Option CountState) (old new : Option AnySketch) (result : ℤ) (items : List (List ℕ)) (estimates : List ℤ)
+    → EstimatesAll part old new result items (map (λ (x : ℤ). x) estimates) → EstimatesAll part old new result items estimates
+own_numbers part old new result items estimates said = subst (λ (zs : List ℤ). EstimatesAll part old new result items zs) (map-id estimates) said

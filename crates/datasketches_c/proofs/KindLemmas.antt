@@ -1,6 +1,6 @@
 -- What is said of a handle's sketch of a kind.
 use Rattle.std.proofs.Common.{◌≡◌, List, length, ℕ, Option, None, Some, ℤ, pos, negsuc, refl, sym, ap, ◌∙◌, subst}
-use Rattle.datasketches_c.specs.Kinds.{OnPart, OnKind, OfPart, HoldsKind, WritesDown, WritesDownEach}
+use Rattle.datasketches_c.specs.Kinds.{OnPart, OnKind, OfPart, HoldsKind, WritesDown}
 use Rattle.datasketches_c.specs.Numbers.{OnRefused, ok, no_sketch, wrong_kind}
 use Rattle.datasketches_c.specs.Sharing.{reads}
 use Rattle.datasketches_c.specs.declared.any_sketch.AnySketch.{AnySketch}
@@ -82,12 +82,6 @@ module _ {S : Type 0} (part : AnySketch → Option S) where
       → WritesDown part old new wrong_kind there there Said
   other_written old new held there Said is which now =
       record { kept = now ∙ sym is; told = on_other_said old new held wrong_kind (λ a. (wrong_kind ≡ ok) × Said a) is which now refl; untouched = refl }
-
-  -- the same of many items, where there is a place for each
-  pub each_written : {P : Type 0} (items : ℕ) (old new : Option AnySketch) (result : ℤ) (before now : List P) (Said : S → Type 0) → length before ≡ items
-      → WritesDown part old new result before now Said → WritesDownEach items old new result before now (OnKind part old new result (λ s. (result ≡ ok) × Said s))
-  each_written items old new result before now Said same written =
-      record { kept = written.kept; other_length = λ other. absurd (other same); told = λ _. written.told; untouched = written.untouched }
 
 -- of one whose sketch another handle's was joined to, what holds of the three
 pub was_joined : {S : Type 0} (part : AnySketch → Option S) (R : S → S → S → Type 0) (old new other_old other_new : Option AnySketch) (held given : AnySketch) (s t : S) (result : ℤ) → old ≡ Some held → part held ≡ Some s

@@ -18,10 +18,10 @@ pub record WeighsAll (old : CountState) (items : List (List ℕ)) (new : CountSt
 
 -- new is old with each weight counted for its item, in order, and stands for the history with these updates
 pub record WeighsEach
-    {I W : Type 0} (bytes_of : I → List ℕ) (number : W → ℤ) (old : CountState) (items : List I) (weights : List W) (new : CountState)
+    {W : Type 0} (number : W → ℤ) (old : CountState) (items : List (List ℕ)) (weights : List W) (new : CountState)
     : Type 0 where
-  pub counted : CountsEach old (zip (map bytes_of items) (map number weights)) new
-  pub stands : Extends old new (λ h. each_updated h (zip (map bytes_of items) (map number weights)))
+  pub counted : CountsEach old (zip items (map number weights)) new
+  pub stands : Extends old new (λ h. each_updated h (zip items (map number weights)))
 
 -- new is old with the other's cells and total added, and stands for the merge of both histories
 pub record Merges (old other new : CountState) : Type 0 where

@@ -1,5 +1,5 @@
 -- Estimates of weights in a Count-Min sketch.
-use Rattle.std.specs.Prelude.{ℕ, ◌<◌, List, [], length, map, slice_index_or, ℤ, pos, ◌-ℤ◌, ◌≤ℤ◌}
+use Rattle.std.specs.Prelude.{ℕ, ◌<◌, List, [], length, slice_index_or, ℤ, pos, ◌-ℤ◌, ◌≤ℤ◌}
 use Rattle.sketch_countmin.specs.History.{CountHistory, IsExact, IsNonnegative, own_value, others_share}
 use Rattle.sketch_countmin.specs.Stands.{StandsFor}
 use Rattle.sketch_countmin.specs.State.{CountState, IsMin, IsMinCell}
@@ -16,6 +16,6 @@ pub record IsEstimate (s : CountState) (bytes : List ℕ) (estimate : ℤ) : Typ
       IsMin s.hashes (others_share s.buckets s.seed h bytes) (estimate -ℤ own_value h bytes)
 
 -- each item's estimate is at the item's index
-pub record AreEstimates {A : Type 0} (s : CountState) (bytes_of : A → List ℕ) (items : List A) (estimates : List ℤ) : Type 0 where
+pub record AreEstimates (s : CountState) (items : List (List ℕ)) (estimates : List ℤ) : Type 0 where
   pub each : (i : ℕ) → i < length items
-      → IsEstimate s (slice_index_or (map bytes_of items) i []) (slice_index_or estimates i (pos 0))
+      → IsEstimate s (slice_index_or items i []) (slice_index_or estimates i (pos 0))

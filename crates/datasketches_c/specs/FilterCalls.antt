@@ -1,7 +1,5 @@
 -- Results and effects of calls on filters.
-use Rattle.std.specs.Prelude.{◌≡◌, ℤ, Bool, List, ℕ, Option, Some, map, if◌then◌else◌}
-use Rattle.std.specs.Hash as fed
-use Rattle.sketch_base.specs.Hashes.{fed_bytes}
+use Rattle.std.specs.Prelude.{◌≡◌, ℤ, Bool, List, ℕ, Option, Some, if◌then◌else◌}
 use Rattle.sketch_bloom.specs.History.{all_inserted_after}
 use Rattle.sketch_bloom.specs.History.BloomHistory.{Insert}
 use Rattle.sketch_bloom.specs.Stands.{Extends}
@@ -12,12 +10,11 @@ use Rattle.datasketches_c.specs.declared.any_sketch.AnySketch.{AnySketch}
 use Rattle.datasketches_c.specs.declared.any_sketch.Held.TheVariants.{Own}
 use Rattle.datasketches_c.specs.declared.any_sketch.AnySketch.TheVariants.{Filter}
 
--- the strings were inserted into the handle's filter, one after another
-abbrev pub InsertsStrings : (old new : Option AnySketch) → ℤ → List (List ℕ) → Type 0
-InsertsStrings old new result strings =
+-- the items were inserted into the handle's filter, one after another
+abbrev pub InsertsAll : (old new : Option AnySketch) → ℤ → List (List ℕ) → Type 0
+InsertsAll old new result items =
     OnFilter old new result (λ s.
-    (result ≡ ok) × (new ≡ Some (Filter (Own (all_inserted s (map (fed_bytes fed.str) strings)))))
-    × Extends s (all_inserted s (map (fed_bytes fed.str) strings)) (λ h. all_inserted_after h (map (fed_bytes fed.str) strings)))
+    (result ≡ ok) × (new ≡ Some (Filter (Own (all_inserted s items)))) × Extends s (all_inserted s items) (λ h. all_inserted_after h items))
 
 -- the item was inserted into the handle's filter, and the result tells whether it was there
 abbrev pub TellsAndInserts : (old new : Option AnySketch) → ℤ → List ℕ → Type 0

@@ -1,18 +1,22 @@
 -- Results and effects of calls on frequent items sketches, for any item type. Items are compared by `eq` alone.
-use Rattle.std.specs.Prelude.{◌≡◌, ℕ, ℤ, ◌+◌, ◌<◌, Bool, false, List, None, sum}
+use Rattle.std.specs.Prelude.{◌≡◌, ℕ, ℤ, ◌+◌, ◌<◌, Bool, false, true, List, None, sum}
 use Rattle.sketch_base.specs.Errors.{ErrorValue}
 use Rattle.sketch_base.specs.declared.fault.Fault.TheVariants.{BadSampleSize, NoMemory, WeightOverflow}
 use Rattle.counter_table.specs.Tables.{count_of}
-use Rattle.sketch_frequencies.specs.Batches.{UpdatesAll, StopsAt}
+use Rattle.sketch_frequencies.specs.KeyedBatches.{UpdatesKeys, StopsAtKey, UpdatesWeighedKeys, StopsAtWeighedKey}
 use Rattle.sketch_frequencies.specs.History.{FrequentHistory}
 use Rattle.sketch_frequencies.specs.History.FrequentHistory.{New, Update, Merge, Reset}
 use Rattle.sketch_frequencies.specs.Sizes.{sample_fault}
 use Rattle.sketch_frequencies.specs.Stands.{Extends, ExtendsBudget, ExtendsBoth, ExtendsBothBudgets, KeepsTailBudget, IsLowerBound, IsUpperBound, IsExactOfFew}
-use Rattle.sketch_frequencies.specs.State.{FrequentState, Overflows, TotalHasRoom, empty_state, estimate_of, must_double}
+use Rattle.sketch_frequencies.specs.State.{FrequentState, Overflows, TotalHasRoom, empty_state, estimate_of, must_double, must_grow}
 use Rattle.sketch_frequencies.specs.Steps.{Steps, JoinsEqual}
-use Rattle.sketch_frequencies.specs.WeightedBatches.{weighed, UpdatesWeighed, StopsAtDoubling}
+use Rattle.sketch_frequencies.specs.WeightedBatches.{weighed}
 use Rattle.datasketches_c.specs.Numbers.{OnDone, OnRefused, ok, refusal_number}
 use Rattle.sketch_frequencies.specs.declared.item_bounds.ItemBounds.{ItemBounds}
+
+-- if the total has room for all weights, the batch stops only where the table must double
+abbrev pub StopsOnlyToGrow : {T : Type 0} → (old : FrequentState T) (weights : List ℕ) (new : FrequentState T) (result : ℤ) → Type 0
+StopsOnlyToGrow old weights new result = TotalHasRoom old (sum weights) → OnRefused result (must_grow new ≡ true)
 
 module _ {T : Type 0} (eq : T → T → Bool) where
   -- new is old with a weight above 0 added to the item. It stands for the history with that update, and keeps its tail budget
@@ -54,24 +58,25 @@ module _ {T : Type 0} (eq : T → T → Bool) where
     pub at_most : IsUpperBound eq s item bounds.upper_bound
     pub exact : IsExactOfFew eq s item bounds.estimate
 
-  -- the items before one were added, and that one was rejected with this error, as a call of its own would reject it
-  pub record StopsShort (old : FrequentState T) (items : List T) (new : FrequentState T) (result : ℤ) : Type 0 where
+  -- the items of the keys before one were added, and that one's was rejected with this error, as an update of its own would reject it
+  pub record StopsShort (old : FrequentState T) (keys : List (T → Bool)) (new : FrequentState T) (result : ℤ) : Type 0 where
     pub error : ErrorValue
     pub number : result ≡ refusal_number error.fault
-    pub stops : StopsAt eq old items error new
+    pub stops : StopsAtKey eq old keys error new
 
-  -- the result and effect of a batch of updates of weight 1
-  pub record UpdatesMany (old : FrequentState T) (items : List T) (new : FrequentState T) (result : ℤ) : Type 0 where
-    pub done : OnDone result ((result ≡ ok) × UpdatesAll eq old items new)
-    pub stopped : OnRefused result (StopsShort old items new result)
+  -- the result and effect of adding 1 for the item of each key, in order
+  pub record UpdatesMany (old : FrequentState T) (keys : List (T → Bool)) (new : FrequentState T) (result : ℤ) : Type 0 where
+    pub done : OnDone result ((result ≡ ok) × UpdatesKeys eq old keys new)
+    pub stopped : OnRefused result (StopsShort old keys new result)
 
-  -- the result and effect of a batch of updates, each with a weight. If the total has no room for all, nothing is added. Otherwise
-  -- the batch stops only at an item before which the table must double
-  pub record WeighsMany (old : FrequentState T) (items : List T) (weights : List ℕ) (new : FrequentState T) (result : ℤ) : Type 0 where
-    pub done : OnDone result ((result ≡ ok) × UpdatesWeighed eq old (weighed items weights) new)
+  -- the result and effect of adding a weight for the item of each key, in order. If the total has no room for all, nothing is added.
+  -- Otherwise the batch stops only at an item that is not tracked, for which an allocation fails
+  pub record WeighsMany
+      (old : FrequentState T) (keys : List (T → Bool)) (weights : List ℕ) (new : FrequentState T) (result : ℤ) : Type 0 where
+    pub done : OnDone result ((result ≡ ok) × UpdatesWeighedKeys eq old (weighed keys weights) new)
     pub overflow : Overflows old (sum weights) → (result ≡ refusal_number WeightOverflow) × (new ≡ old)
     pub memory : TotalHasRoom old (sum weights) → OnRefused result (result ≡ refusal_number NoMemory)
-    pub stopped : TotalHasRoom old (sum weights) → OnRefused result (StopsAtDoubling eq old (weighed items weights) new)
+    pub stopped : TotalHasRoom old (sum weights) → OnRefused result (StopsAtWeighedKey eq old (weighed keys weights) new)
 
   -- the result and effect of changing the sample size. The sketch then stands for its history merged into a new sketch
   pub record Resamples (old : FrequentState T) (n : ℕ) (new : FrequentState T) (result : ℤ) : Type 0 where

@@ -39,16 +39,6 @@ pub record WritesDown
   pub told : OnKind part old new result (λ s. (result ≡ ok) × said s)
   pub untouched : OnRefused result (place_new ≡ place_old)
 
--- the call wrote an output for each item, and the handle is unchanged. If the numbers of items and outputs differ, the result is
--- `no_room`. If it failed, the outputs are unchanged too
-pub record WritesDownEach
-    {P : Type 0} (items : ℕ) (old new : Option AnySketch) (result : ℤ) (places_old places_new : List P) (Told : Type 0)
-    : Type 0 where
-  pub kept : new ≡ old
-  pub other_length : length places_old ≢ items → result ≡ no_room
-  pub told : length places_old ≡ items → Told
-  pub untouched : OnRefused result (places_new ≡ places_old)
-
 -- the filter, if the sketch is one
 abbrev pub filter_of : AnySketch → Option FilterState
 filter_of (Filter (Own s)) = Some s
@@ -83,9 +73,6 @@ frequent_strings_of held = None
 abbrev pub OnFilter : (old new : Option AnySketch) → ℤ → (FilterState → Type 0) → Type 0
 OnFilter = OnKind filter_of
 
-abbrev pub OnCountI64 : (old new : Option AnySketch) → ℤ → (CountState → Type 0) → Type 0
-OnCountI64 = OnKind count_i64_of
-
 abbrev pub OnCountU64 : (old new : Option AnySketch) → ℤ → (CountState → Type 0) → Type 0
 OnCountU64 = OnKind count_u64_of
 
@@ -101,12 +88,6 @@ OnFrequentStrings = OnKind frequent_strings_of
 -- `HoldsKind` for filters; below, for the other kinds
 abbrev pub HoldsFilter : Option AnySketch → (FilterState → Type 0) → Type 0
 HoldsFilter = HoldsKind filter_of
-
-abbrev pub HoldsCountI64 : Option AnySketch → (CountState → Type 0) → Type 0
-HoldsCountI64 = HoldsKind count_i64_of
-
-abbrev pub HoldsCountU64 : Option AnySketch → (CountState → Type 0) → Type 0
-HoldsCountU64 = HoldsKind count_u64_of
 
 abbrev pub HoldsFrequentI64 : Option AnySketch → (FrequentState ℤ → Type 0) → Type 0
 HoldsFrequentI64 = HoldsKind frequent_i64_of

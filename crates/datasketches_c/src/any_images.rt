@@ -27,8 +27,8 @@ use crate::making::put_read;
 use crate::sketch_kind::{SketchKind, kind_numbered};
 use crate::status_code::{NO_SKETCH, WRONG_KIND};
 use sketch_bloom::BloomFilter;
-use sketch_countmin::{CountMinSketch, CountMinValue};
-use sketch_frequencies::{FrequentItemsSketch, HashKey, TableKey};
+use sketch_countmin::{CountMinImageOptions, CountMinSketch, CountMinValue};
+use sketch_frequencies::{FrequentItemsImageOptions, FrequentItemsSketch, HashKey, TableKey};
 use std::alloc::Global;
 
 /// Writes a sketch's image to the front of the caller's buffer. Returns the result's number.
@@ -157,7 +157,8 @@ where
         (counts.first_fault_within V.least V.greatest V.SIZE max_bytes seed image.now) result) }
     ensures untouched { OnRefused result (used.new ≡ used.old) }
 {
-    let read = CountMinSketch::<V>::deserialize_prefix(alloc, image, seed, max_bytes);
+    let options = CountMinImageOptions { seed, max_bytes };
+    let read = CountMinSketch::<V>::deserialize_prefix(alloc, image, options);
     put_read(alloc, handle, read, used)
 }
 
@@ -179,7 +180,8 @@ fn read_frequent_u64(
         (frequent.first_fault_within u64_row max_bytes u64_codec image.now) result) }
     ensures untouched { OnRefused result (used.new ≡ used.old) }
 {
-    let read = FrequentItemsSketch::<u64>::deserialize_prefix(alloc, image, max_bytes, key);
+    let options = FrequentItemsImageOptions { max_bytes, key };
+    let read = FrequentItemsSketch::<u64>::deserialize_prefix(alloc, image, options);
     put_read(alloc, handle, read, used)
 }
 
@@ -201,7 +203,8 @@ fn read_frequent_i64(
         (frequent.first_fault_within i64_row max_bytes i64_codec image.now) result) }
     ensures untouched { OnRefused result (used.new ≡ used.old) }
 {
-    let read = FrequentItemsSketch::<i64>::deserialize_prefix(alloc, image, max_bytes, key);
+    let options = FrequentItemsImageOptions { max_bytes, key };
+    let read = FrequentItemsSketch::<i64>::deserialize_prefix(alloc, image, options);
     put_read(alloc, handle, read, used)
 }
 
@@ -223,7 +226,8 @@ fn read_frequent_strings(
         (frequent.first_fault_within string_row max_bytes text_codec image.now) result) }
     ensures untouched { OnRefused result (used.new ≡ used.old) }
 {
-    let read = FrequentItemsSketch::<String>::deserialize_prefix(alloc, image, max_bytes, key);
+    let options = FrequentItemsImageOptions { max_bytes, key };
+    let read = FrequentItemsSketch::<String>::deserialize_prefix(alloc, image, options);
     put_read(alloc, handle, read, used)
 }
 

@@ -11,6 +11,7 @@ ghost use Rattle.datasketches_c.specs.Sharing.{reads};
 
 use crate::count;
 use crate::handle::SketchHandle;
+use crate::status_code::NO_ROOM;
 use crate::strings::on_string;
 use sketch_base::Fault;
 use std::alloc::Global;
@@ -30,7 +31,7 @@ pub extern "C" fn ds_count_min_u64_estimate_u64(
     ensures estimate { Estimates (reads count_u64_of) handle.old.value handle.new.value result (fed_bytes fed.u64 item) (pos estimate.new) }
     ensures untouched { OnRefused result (estimate.new ≡ estimate.old) }
 {
-    count::estimate(alloc, handle, item, estimate)
+    count::estimate(alloc, handle, &item, estimate)
 }
 
 /// Writes the estimate of a string's weight: the minimum of its cells.
@@ -70,7 +71,7 @@ pub extern "C" fn ds_count_min_i64_estimate_u64(
     ensures estimate { Estimates (reads count_i64_of) handle.old.value handle.new.value result (fed_bytes fed.u64 item) estimate.new }
     ensures untouched { OnRefused result (estimate.new ≡ estimate.old) }
 {
-    count::estimate(alloc, handle, item, estimate)
+    count::estimate(alloc, handle, &item, estimate)
 }
 
 /// Writes the estimate of a string's weight: the minimum of its cells.
@@ -113,9 +114,12 @@ pub extern "C" fn ds_count_min_u64_estimate_all_u64(
     ensures no_room { length estimates.old ≢ length items.now
         → (result ≡ no_room) × (estimates.new ≡ estimates.old) }
     ensures estimates { length estimates.old ≡ length items.now
-        → EstimatesAll (reads count_u64_of) handle.old.value handle.new.value result (fed_bytes fed.u64) items.now (map pos estimates.new) }
+        → EstimatesAll (reads count_u64_of) handle.old.value handle.new.value result (map (fed_bytes fed.u64) items.now) (map pos estimates.new) }
     ensures untouched { OnRefused result (estimates.new ≡ estimates.old) }
 {
+    if estimates.len() != items.len() {
+        return NO_ROOM;
+    }
     count::estimate_all(alloc, handle, items, estimates)
 }
 
@@ -137,9 +141,12 @@ pub extern "C" fn ds_count_min_i64_estimate_all_u64(
     ensures no_room { length estimates.old ≢ length items.now
         → (result ≡ no_room) × (estimates.new ≡ estimates.old) }
     ensures estimates { length estimates.old ≡ length items.now
-        → EstimatesAll (reads count_i64_of) handle.old.value handle.new.value result (fed_bytes fed.u64) items.now estimates.new }
+        → EstimatesAll (reads count_i64_of) handle.old.value handle.new.value result (map (fed_bytes fed.u64) items.now) estimates.new }
     ensures untouched { OnRefused result (estimates.new ≡ estimates.old) }
 {
+    if estimates.len() != items.len() {
+        return NO_ROOM;
+    }
     count::estimate_all(alloc, handle, items, estimates)
 }
 

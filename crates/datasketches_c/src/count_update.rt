@@ -1,7 +1,7 @@
 //! Calls that add weights to Count-Min sketches, for one item or for many. The calls that add 1 for each of many
 //! strings are in `many_strings`.
 ghost use Rattle.std.specs.Hash as fed;
-ghost use Rattle.std.specs.Prelude.{All, length, pos, sum, sum_by, unsigned_abs, ◌+◌, ◌≡◌, ◌≢◌};
+ghost use Rattle.std.specs.Prelude.{All, length, map, pos, sum, sum_by, unsigned_abs, ◌+◌, ◌≡◌, ◌≢◌};
 ghost use Rattle.std.specs.Str.{IsUtf8};
 ghost use Rattle.sketch_base.specs.Hashes.{fed_bytes};
 ghost use Rattle.datasketches_c.specs.CountCalls.{AddsEach, AddsWeight, AddsWeights};
@@ -11,6 +11,7 @@ ghost use Rattle.sketch_base.specs.Strings.{AreOffsets, AreStrings, strings_of};
 
 use crate::count;
 use crate::handle::SketchHandle;
+use crate::status_code::NO_ROOM;
 use crate::strings::{on_string, on_strings, strings_for};
 use sketch_base::Fault;
 use std::alloc::Global;
@@ -31,7 +32,7 @@ pub extern "C" fn ds_count_min_u64_update_u64(
     ensures call { AddsWeight count_u64_of max_u64 handle.old.value handle.new.value result (fed_bytes fed.u64 item) (pos weight) }
     ensures refused { OnRefused result (handle.new.value ≡ handle.old.value) }
 {
-    count::update(alloc, handle, item, weight)
+    count::update(alloc, handle, &item, weight)
 }
 
 /// Adds a weight to a string's.
@@ -72,7 +73,7 @@ pub extern "C" fn ds_count_min_i64_update_u64(
     ensures call { AddsWeight count_i64_of max_i64 handle.old.value handle.new.value result (fed_bytes fed.u64 item) weight }
     ensures refused { OnRefused result (handle.new.value ≡ handle.old.value) }
 {
-    count::update(alloc, handle, item, weight)
+    count::update(alloc, handle, &item, weight)
 }
 
 /// Adds a weight to a string's, and the weight's distance from 0 to the total.
@@ -110,9 +111,9 @@ pub extern "C" fn ds_count_min_u64_update_all_u64(
     handle: &mut SketchHandle,
     items: &[u64],
 ) -> i32
-    ensures { AddsEach count_u64_of max_u64 handle.old.value handle.new.value result (fed_bytes fed.u64) items.now }
+    ensures { AddsEach count_u64_of max_u64 handle.old.value handle.new.value result (map (fed_bytes fed.u64) items.now) }
 {
-    count::update_all::<u64, u64>(alloc, handle, items)
+    count::update_all::<u64, &[u64]>(alloc, handle, items)
 }
 
 /// Adds 1 to the weight of each number, in order.
@@ -128,9 +129,9 @@ pub extern "C" fn ds_count_min_i64_update_all_u64(
     handle: &mut SketchHandle,
     items: &[u64],
 ) -> i32
-    ensures { AddsEach count_i64_of max_i64 handle.old.value handle.new.value result (fed_bytes fed.u64) items.now }
+    ensures { AddsEach count_i64_of max_i64 handle.old.value handle.new.value result (map (fed_bytes fed.u64) items.now) }
 {
-    count::update_all::<i64, u64>(alloc, handle, items)
+    count::update_all::<i64, &[u64]>(alloc, handle, items)
 }
 
 /// Adds a weight to each number's, in order.
@@ -149,9 +150,12 @@ pub extern "C" fn ds_count_min_u64_update_all_weighted_u64(
 ) -> i32
     ensures no_room { length weights.now ≢ length items.now → result ≡ no_room }
     ensures call { length weights.now ≡ length items.now
-        → AddsWeights count_u64_of max_u64 handle.old.value handle.new.value result (fed_bytes fed.u64) pos items.now weights.now (sum weights.now) }
+        → AddsWeights count_u64_of max_u64 handle.old.value handle.new.value result pos (map (fed_bytes fed.u64) items.now) weights.now (sum weights.now) }
     ensures refused { OnRefused result (handle.new.value ≡ handle.old.value) }
 {
+    if weights.len() != items.len() {
+        return NO_ROOM;
+    }
     count::update_all_weighted(alloc, handle, items, weights)
 }
 
@@ -179,11 +183,11 @@ pub extern "C" fn ds_count_min_u64_update_all_weighted_string(
     ensures invalid_utf8 { AreOffsets bytes.now offsets.now → length weights.now + 1 ≡ length offsets.now
         → ¬ All IsUtf8 (strings_of bytes.now offsets.now) → result ≡ refusal_number Fault.InvalidUtf8 }
     ensures call { AreStrings bytes.now offsets.now → length weights.now + 1 ≡ length offsets.now
-        → AddsWeights count_u64_of max_u64 handle.old.value handle.new.value result (fed_bytes fed.str) pos (strings_of bytes.now offsets.now) weights.now (sum weights.now) }
+        → AddsWeights count_u64_of max_u64 handle.old.value handle.new.value result pos (map (fed_bytes fed.str) (strings_of bytes.now offsets.now)) weights.now (sum weights.now) }
     ensures refused { OnRefused result (handle.new.value ≡ handle.old.value) }
 {
     on_strings!(strings_for(weights.len(), bytes, offsets), strings => {
-        count::update_all_weighted_strings(alloc, handle, &strings, weights)
+        count::update_all_weighted(alloc, handle, strings, weights)
     })
 }
 
@@ -203,9 +207,12 @@ pub extern "C" fn ds_count_min_i64_update_all_weighted_u64(
 ) -> i32
     ensures no_room { length weights.now ≢ length items.now → result ≡ no_room }
     ensures call { length weights.now ≡ length items.now
-        → AddsWeights count_i64_of max_i64 handle.old.value handle.new.value result (fed_bytes fed.u64) (λ weight. weight) items.now weights.now (sum_by unsigned_abs weights.now) }
+        → AddsWeights count_i64_of max_i64 handle.old.value handle.new.value result (λ weight. weight) (map (fed_bytes fed.u64) items.now) weights.now (sum_by unsigned_abs weights.now) }
     ensures refused { OnRefused result (handle.new.value ≡ handle.old.value) }
 {
+    if weights.len() != items.len() {
+        return NO_ROOM;
+    }
     count::update_all_weighted(alloc, handle, items, weights)
 }
 
@@ -233,10 +240,10 @@ pub extern "C" fn ds_count_min_i64_update_all_weighted_string(
     ensures invalid_utf8 { AreOffsets bytes.now offsets.now → length weights.now + 1 ≡ length offsets.now
         → ¬ All IsUtf8 (strings_of bytes.now offsets.now) → result ≡ refusal_number Fault.InvalidUtf8 }
     ensures call { AreStrings bytes.now offsets.now → length weights.now + 1 ≡ length offsets.now
-        → AddsWeights count_i64_of max_i64 handle.old.value handle.new.value result (fed_bytes fed.str) (λ weight. weight) (strings_of bytes.now offsets.now) weights.now (sum_by unsigned_abs weights.now) }
+        → AddsWeights count_i64_of max_i64 handle.old.value handle.new.value result (λ weight. weight) (map (fed_bytes fed.str) (strings_of bytes.now offsets.now)) weights.now (sum_by unsigned_abs weights.now) }
     ensures refused { OnRefused result (handle.new.value ≡ handle.old.value) }
 {
     on_strings!(strings_for(weights.len(), bytes, offsets), strings => {
-        count::update_all_weighted_strings(alloc, handle, &strings, weights)
+        count::update_all_weighted(alloc, handle, strings, weights)
     })
 }

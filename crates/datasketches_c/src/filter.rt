@@ -1,6 +1,6 @@
 //! Calls on filters: create, insert, look up and combine.
 ghost use Rattle.std.specs.Hash as fed;
-ghost use Rattle.std.specs.Prelude.{◌≡◌, ◌≢◌, ◌≤◌, Some, None, length, map, if◌then◌else◌};
+ghost use Rattle.std.specs.Prelude.{◌≡◌, ◌≢◌, Some, None, length, map, if◌then◌else◌};
 ghost use Rattle.std.specs.Str.{IsUtf8};
 ghost use Rattle.sketch_base.specs.Errors.{refusal_of};
 ghost use Rattle.sketch_base.specs.Hashes.{fed_bytes};
@@ -10,6 +10,7 @@ ghost use Rattle.sketch_bloom.specs.History.BloomHistory.{Difference, Insert, In
 ghost use Rattle.sketch_bloom.specs.Image.{IsSpelled, image_bytes};
 ghost use Rattle.sketch_bloom.specs.Stands.{Extends, ExtendsBoth, StandsFor};
 ghost use Rattle.sketch_bloom.specs.State.{empty_state, contains_item, inserted, all_inserted, IsCompatible, intersected, subtracted};
+ghost use Rattle.datasketches_c.specs.FilterCalls.{InsertsAll};
 ghost use Rattle.datasketches_c.specs.Images.{WritesSizedImage};
 ghost use Rattle.datasketches_c.specs.Joining.{IsCombined};
 ghost use Rattle.datasketches_c.specs.Kinds.{OnFilter, ReadsFilter};
@@ -24,10 +25,9 @@ use crate::kind::{on_kind, reading_kind};
 use crate::making::put_made;
 use crate::status_code::{NO, NO_ROOM, NO_SKETCH, OK, WRONG_KIND, YES, on_done};
 use crate::strings::on_string;
-use sketch_base::Fault;
+use sketch_base::{Fault, Item, Items};
 use sketch_bloom::{BloomFilter, BloomFilterBuilder};
 use std::alloc::Global;
-use std::hash::Hash;
 
 /// Puts an empty filter into the handle, and frees what the handle had. The filter has at least `num_bits` bits,
 /// rounded up to words of 64.
@@ -60,26 +60,13 @@ pub extern "C" fn ds_bloom_new(
 
 /// Inserts an item, for the calls below.
 #[inline]
-fn insert<I: Hash + Drop>(alloc: Global, handle: &mut SketchHandle, item: I) -> i32
+fn insert<X: Item + Drop>(alloc: Global, handle: &mut SketchHandle, item: X) -> i32
     ensures { OnFilter handle.old.value handle.new.value result (λ s.
-        (result ≡ ok) × (handle.new.value ≡ Some (Filter (Own (inserted s (fed_bytes I.hash_input item)))))
-        × Extends s (inserted s (fed_bytes I.hash_input item)) (λ h. Insert h (fed_bytes I.hash_input item))) }
+        (result ≡ ok) × (handle.new.value ≡ Some (Filter (Own (inserted s (X.bytes item)))))
+        × Extends s (inserted s (X.bytes item)) (λ h. Insert h (X.bytes item))) }
 {
     on_kind!(alloc, handle, BloomFilter, filter => {
-        filter.insert(item);
-        OK
-    })
-}
-
-/// Inserts a string into the filter of a handle.
-#[inline]
-fn insert_str(alloc: Global, handle: &mut SketchHandle, item: &str) -> i32
-    ensures { OnFilter handle.old.value handle.new.value result (λ s.
-        (result ≡ ok) × (handle.new.value ≡ Some (Filter (Own (inserted s (fed_bytes fed.str item.now)))))
-        × Extends s (inserted s (fed_bytes fed.str item.now)) (λ h. Insert h (fed_bytes fed.str item.now))) }
-{
-    on_kind!(alloc, handle, BloomFilter, filter => {
-        filter.insert_str(item);
+        filter.insert_item(item);
         OK
     })
 }
@@ -94,7 +81,7 @@ pub extern "C" fn ds_bloom_insert_u64(alloc: Global, handle: &mut SketchHandle, 
         (result ≡ ok) × (handle.new.value ≡ Some (Filter (Own (inserted s (fed_bytes fed.u64 item)))))
         × Extends s (inserted s (fed_bytes fed.u64 item)) (λ h. Insert h (fed_bytes fed.u64 item))) }
 {
-    insert(alloc, handle, item)
+    insert(alloc, handle, &item)
 }
 
 /// Inserts a string.
@@ -115,16 +102,14 @@ pub extern "C" fn ds_bloom_insert_string(
     ensures invalid_utf8 { ¬ (IsUtf8 item.now) → (result ≡ refusal_number Fault.InvalidUtf8)
         × (handle.new.value ≡ handle.old.value) }
 {
-    on_string!(item => insert_str(alloc, handle, item))
+    on_string!(item => insert(alloc, handle, item))
 }
 
-/// Inserts many items, for the calls below.
+/// Inserts many items, as one after another.
 #[inline]
-fn insert_all<I: Hash>(alloc: Global, handle: &mut SketchHandle, items: &[I]) -> i32
-    ensures { OnFilter handle.old.value handle.new.value result (λ s.
-        (result ≡ ok) × (handle.new.value ≡ Some (Filter (Own (all_inserted s (map (fed_bytes I.hash_input) items.now)))))
-        × Extends s (all_inserted s (map (fed_bytes I.hash_input) items.now))
-        (λ h. all_inserted_after h (map (fed_bytes I.hash_input) items.now))) }
+pub(crate) fn insert_all<I: Items>(alloc: Global, handle: &mut SketchHandle, items: I) -> i32
+    ensures call { InsertsAll handle.old.value handle.new.value result (I.list items) }
+    ensures refused { OnRefused result (handle.new.value ≡ handle.old.value) }
 {
     on_kind!(alloc, handle, BloomFilter, filter => {
         filter.insert_all(items);
@@ -152,22 +137,12 @@ pub extern "C" fn ds_bloom_insert_all_u64(
 
 /// Returns whether the filter contains an item, as `YES` or `NO`, for the calls below.
 #[inline]
-fn contains<I: Hash>(alloc: Global, handle: &mut SketchHandle, item: &I) -> i32
+fn contains<X: Item + Drop>(alloc: Global, handle: &mut SketchHandle, item: X) -> i32
     ensures kept { handle.new.value ≡ handle.old.value }
     ensures answer { ReadsFilter handle.old.value handle.new.value result (λ s.
-        result ≡ (if contains_item s (fed_bytes I.hash_input item.now) then yes else no)) }
+        result ≡ (if contains_item s (X.bytes item) then yes else no)) }
 {
-    reading_kind!(alloc, handle, BloomFilter, filter => { if filter.contains(item) { YES } else { NO } })
-}
-
-/// Returns whether the filter of a handle contains a string, as `YES` or `NO`.
-#[inline]
-fn contains_str(alloc: Global, handle: &mut SketchHandle, item: &str) -> i32
-    ensures kept { handle.new.value ≡ handle.old.value }
-    ensures answer { ReadsFilter handle.old.value handle.new.value result (λ s.
-        result ≡ (if contains_item s (fed_bytes fed.str item.now) then yes else no)) }
-{
-    reading_kind!(alloc, handle, BloomFilter, filter => { if filter.contains_str(item) { YES } else { NO } })
+    reading_kind!(alloc, handle, BloomFilter, filter => { if filter.contains_item(item) { YES } else { NO } })
 }
 
 /// Returns `YES` if the filter contains a number, and `NO` otherwise.
@@ -200,28 +175,23 @@ pub extern "C" fn ds_bloom_contains_string(
         result ≡ (if contains_item s (fed_bytes fed.str item.now) then yes else no)) }
     ensures invalid_utf8 { ¬ (IsUtf8 item.now) → result ≡ refusal_number Fault.InvalidUtf8 }
 {
-    on_string!(item => contains_str(alloc, handle, item))
+    on_string!(item => contains(alloc, handle, item))
 }
 
-/// Writes for each item whether the filter contains it, for the calls below. Returns `NO_ROOM` if `items` and `answers`
-/// differ in length.
+/// Writes for each item whether the filter contains it.
 #[inline]
-fn contains_all<I: Hash>(
+pub(crate) fn contains_all<I: Items>(
     alloc: Global,
     handle: &mut SketchHandle,
-    items: &[I],
+    items: I,
     answers: &mut [bool],
 ) -> i32
+    requires { length answers.old ≡ length (I.list items) }
     ensures kept { handle.new.value ≡ handle.old.value }
-    ensures no_room { length answers.old ≢ length items.now → (result ≡ no_room) × (answers.new ≡ answers.old) }
-    ensures answers { length answers.old ≡ length items.now
-        → ReadsFilter handle.old.value handle.new.value result (λ s. (result ≡ ok)
-        × (answers.new ≡ map (λ item. contains_item s (fed_bytes I.hash_input item)) items.now)) }
+    ensures answers { ReadsFilter handle.old.value handle.new.value result (λ s. (result ≡ ok)
+        × (answers.new ≡ map (contains_item s) (I.list items))) }
     ensures untouched { OnRefused result (answers.new ≡ answers.old) }
 {
-    if answers.len() != items.len() {
-        return NO_ROOM;
-    }
     reading_kind!(alloc, handle, BloomFilter, filter => {
         filter.contains_all(items, answers);
         OK
@@ -245,9 +215,12 @@ pub extern "C" fn ds_bloom_contains_all_u64(
     ensures no_room { length answers.old ≢ length items.now → (result ≡ no_room) × (answers.new ≡ answers.old) }
     ensures answers { length answers.old ≡ length items.now
         → ReadsFilter handle.old.value handle.new.value result (λ s. (result ≡ ok)
-        × (answers.new ≡ map (λ item. contains_item s (fed_bytes fed.u64 item)) items.now)) }
+        × (answers.new ≡ map (contains_item s) (map (fed_bytes fed.u64) items.now))) }
     ensures untouched { OnRefused result (answers.new ≡ answers.old) }
 {
+    if answers.len() != items.len() {
+        return NO_ROOM;
+    }
     contains_all(alloc, handle, items, answers)
 }
 

@@ -1,6 +1,6 @@
 //! Calls that insert items into filters and tell which of them were there, as for joins and streams without repeats.
 ghost use Rattle.std.specs.Hash as fed;
-ghost use Rattle.std.specs.Prelude.{◌≡◌, ◌≢◌, ◌+◌, All, Some, length, map, if◌then◌else◌};
+ghost use Rattle.std.specs.Prelude.{◌≡◌, ◌≢◌, ◌+◌, All, length, map, if◌then◌else◌};
 ghost use Rattle.std.specs.Str.{IsUtf8};
 ghost use Rattle.sketch_base.specs.Hashes.{fed_bytes};
 ghost use Rattle.sketch_base.specs.Strings.{AreOffsets, AreStrings, strings_at, strings_of};
@@ -11,18 +11,17 @@ use crate::handle::SketchHandle;
 use crate::kind::on_kind;
 use crate::status_code::{NO, NO_ROOM, OK, YES};
 use crate::strings::{on_string, on_strings, strings_for, strings_of_pairs_for};
-use sketch_base::{Fault, Strings};
+use sketch_base::{Fault, Item, Items};
 use sketch_bloom::BloomFilter;
 use std::alloc::Global;
-use std::hash::Hash;
 
 /// Inserts an item and returns whether it was there, for the calls below.
 #[inline]
-fn contains_and_insert<I: Hash>(alloc: Global, handle: &mut SketchHandle, item: &I) -> i32
-    ensures { TellsAndInserts handle.old.value handle.new.value result (fed_bytes I.hash_input item.now) }
+fn contains_and_insert<X: Item + Drop>(alloc: Global, handle: &mut SketchHandle, item: X) -> i32
+    ensures { TellsAndInserts handle.old.value handle.new.value result (X.bytes item) }
 {
     on_kind!(alloc, handle, BloomFilter, filter => {
-        if filter.contains_and_insert(item) {
+        if filter.contains_and_insert_item(item) {
             YES
         } else {
             NO
@@ -59,25 +58,21 @@ pub extern "C" fn ds_bloom_contains_and_insert_string(
     ensures invalid_utf8 { ¬ (IsUtf8 item.now) → (result ≡ refusal_number Fault.InvalidUtf8)
         × (handle.new.value ≡ handle.old.value) }
 {
-    on_string!(item => contains_and_insert(alloc, handle, &item))
+    on_string!(item => contains_and_insert(alloc, handle, item))
 }
 
 /// Inserts many items in order, and writes for each whether it was there, for the calls below.
 #[inline]
-fn contains_and_insert_all<I: Hash>(
+fn contains_and_insert_all<I: Items>(
     alloc: Global,
     handle: &mut SketchHandle,
-    items: &[I],
+    items: I,
     answers: &mut [bool],
 ) -> i32
-    ensures no_room { length answers.old ≢ length items.now → result ≡ no_room }
-    ensures call { length answers.old ≡ length items.now → TellsAndInsertsAll handle.old.value handle.new.value result
-        (map (fed_bytes I.hash_input) items.now) answers.new }
+    requires { length answers.old ≡ length (I.list items) }
+    ensures call { TellsAndInsertsAll handle.old.value handle.new.value result (I.list items) answers.new }
     ensures refused { OnRefused result ((handle.new.value ≡ handle.old.value) × (answers.new ≡ answers.old)) }
 {
-    if answers.len() != items.len() {
-        return NO_ROOM;
-    }
     on_kind!(alloc, handle, BloomFilter, filter => {
         filter.contains_and_insert_all(items, answers);
         OK
@@ -102,25 +97,10 @@ pub extern "C" fn ds_bloom_contains_and_insert_all_u64(
         (map (fed_bytes fed.u64) items.now) answers.new }
     ensures refused { OnRefused result ((handle.new.value ≡ handle.old.value) × (answers.new ≡ answers.old)) }
 {
+    if answers.len() != items.len() {
+        return NO_ROOM;
+    }
     contains_and_insert_all(alloc, handle, items, answers)
-}
-
-/// Inserts each string into the filter of a handle, and writes whether it was there.
-fn contains_and_insert_strings<S: Strings>(
-    alloc: Global,
-    handle: &mut SketchHandle,
-    strings: &S,
-    answers: &mut [bool],
-) -> i32
-    requires { length answers.old ≡ length (S.list strings.now) }
-    ensures call { TellsAndInsertsAll handle.old.value handle.new.value result
-        (map (fed_bytes fed.str) (S.list strings.now)) answers.new }
-    ensures refused { OnRefused result ((handle.new.value ≡ handle.old.value) × (answers.new ≡ answers.old)) }
-{
-    on_kind!(alloc, handle, BloomFilter, filter => {
-        filter.contains_and_insert_strings(strings, answers);
-        OK
-    })
 }
 
 /// Inserts many strings, as one after another, and writes for each whether the filter contained it before. The strings are the
@@ -151,7 +131,7 @@ pub extern "C" fn ds_bloom_contains_and_insert_all_string(
     ensures refused { OnRefused result ((handle.new.value ≡ handle.old.value) × (answers.new ≡ answers.old)) }
 {
     on_strings!(strings_for(answers.len(), bytes, offsets), strings => {
-        contains_and_insert_strings(alloc, handle, &strings, answers)
+        contains_and_insert_all(alloc, handle, strings, answers)
     })
 }
 
@@ -178,6 +158,6 @@ pub extern "C" fn ds_bloom_contains_and_insert_all_string_pairs(
     ensures refused { OnRefused result ((handle.new.value ≡ handle.old.value) × (answers.new ≡ answers.old)) }
 {
     on_strings!(strings_of_pairs_for(answers.len(), items), strings => {
-        contains_and_insert_strings(alloc, handle, &strings, answers)
+        contains_and_insert_all(alloc, handle, strings, answers)
     })
 }

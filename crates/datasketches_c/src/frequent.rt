@@ -1,20 +1,21 @@
 //! Calls on sketches of frequent items in handles, for any type of items.
 ghost use Rattle.std.specs.Ordering.{int_eq};
-ghost use Rattle.std.specs.Prelude.{◌≡◌, ◌≢◌, IsTrue, length, nat_eq};
+ghost use Rattle.std.specs.Prelude.{◌≡◌, length, nat_eq};
 ghost use Rattle.datasketches_c.specs.FrequentBatches.{AreBoundsOfAll};
-ghost use Rattle.datasketches_c.specs.FrequentCalls.{Updates, UpdatesMany, WeighsMany, MergesInto, Resamples, AreBounds};
+ghost use Rattle.datasketches_c.specs.FrequentCalls.{Updates, UpdatesMany, WeighsMany, StopsOnlyToGrow, MergesInto, Resamples, AreBounds};
 ghost use Rattle.datasketches_c.specs.FrequentRows.{LeavesRows, WritesRows, error_type};
 ghost use Rattle.datasketches_c.specs.FrequentStrings.{strings_eq};
-ghost use Rattle.datasketches_c.specs.Kinds.{OnKind, HoldsKind, WritesDown, WritesDownEach};
-ghost use Rattle.datasketches_c.specs.Numbers.{OnRefused, no_room, ok};
+ghost use Rattle.datasketches_c.specs.Kinds.{OnKind, HoldsKind, WritesDown};
+ghost use Rattle.datasketches_c.specs.Numbers.{OnRefused};
 ghost use Rattle.datasketches_c.specs.Sharing.{reads};
 
 use crate::frequent_rows::write_rows;
 use crate::handle::SketchHandle;
 use crate::join::Joins;
 use crate::kind::{Kind, on_kind, reading_kind};
-use crate::status_code::{NO_ROOM, OK, on_done};
-use sketch_frequencies::{FrequentItemsSketch, ItemBounds};
+use crate::status_code::{OK, on_done};
+use counter_table::OwnedKey;
+use sketch_frequencies::{EqualClone, FrequentItemsSketch, ItemBounds, Keys};
 use std::alloc::Global;
 use std::hash::Hash;
 
@@ -42,60 +43,65 @@ where
     on_kind!(alloc, handle, FrequentItemsSketch<T>, sketch => add(sketch, item, weight))
 }
 
-/// Adds 1 to the weight of each item in a sketch, in order. Returns the result's number.
-fn add_all<T: Eq + Hash + Clone + Drop>(sketch: &mut FrequentItemsSketch<T>, items: &[T]) -> i32
-    requires clones { (x y : T) → T.is_clone x y → IsTrue (T.eq x y) }
-    ensures { UpdatesMany T.eq sketch.old items.now sketch.new result }
+/// Adds 1 to the weight of each key's item in a sketch, in order. Returns the result's number.
+fn add_all<T: Eq + Hash + Drop, K: Keys<T>>(sketch: &mut FrequentItemsSketch<T>, keys: K) -> i32
+where
+    K::Key: OwnedKey<T>,
+    ensures { UpdatesMany T.eq sketch.old (K.names keys) sketch.new result }
 {
-    on_done!(sketch.update_all(items))
+    on_done!(sketch.update_all(keys))
 }
 
-/// Adds 1 to the weight of each item, in order.
-pub(crate) fn update_all<T: Eq + Hash + Clone + Drop>(
+/// Adds 1 to the weight of each key's item, in order.
+pub(crate) fn update_all<T: Eq + Hash + Drop, K: Keys<T>>(
     alloc: Global,
     handle: &mut SketchHandle,
-    items: &[T],
+    keys: K,
 ) -> i32
 where
     FrequentItemsSketch<T>: Kind,
-    requires clones { (x y : T) → T.is_clone x y → IsTrue (T.eq x y) }
+    K::Key: OwnedKey<T>,
     ensures { OnKind (⟦<FrequentItemsSketch<T> as Kind>⟧.part) handle.old.value handle.new.value result (λ s.
-        HoldsKind (⟦<FrequentItemsSketch<T> as Kind>⟧.part) handle.new.value (λ t. UpdatesMany T.eq s items.now t result)) }
+        HoldsKind (⟦<FrequentItemsSketch<T> as Kind>⟧.part) handle.new.value (λ t. UpdatesMany T.eq s (K.names keys) t result)) }
 {
-    on_kind!(alloc, handle, FrequentItemsSketch<T>, sketch => add_all(sketch, items))
+    on_kind!(alloc, handle, FrequentItemsSketch<T>, sketch => add_all(sketch, keys))
 }
 
-/// Adds a weight to each item's in a sketch, in order. Returns the result's number.
-fn add_all_weighted<T: Eq + Hash + Copy + Drop>(
+/// Adds a weight to that of each key's item in a sketch, in order. Returns the result's number.
+fn add_all_weighted<T: Eq + Hash + Drop, K: Keys<T>>(
     sketch: &mut FrequentItemsSketch<T>,
-    items: &[T],
+    keys: K,
     weights: &[u64],
 ) -> i32
-    requires { length weights.now ≡ length items.now }
-    ensures { WeighsMany T.eq sketch.old items.now weights.now sketch.new result }
+where
+    K::Key: OwnedKey<T>,
+    requires { length weights.now ≡ length (K.names keys) }
+    ensures weighs { WeighsMany T.eq sketch.old (K.names keys) weights.now sketch.new result }
+    ensures grows { ((key : K.Key) → K.Key.needs_no_memory key) → StopsOnlyToGrow sketch.old weights.now sketch.new result }
 {
-    on_done!(sketch.update_all_weighted_copied(items, weights))
+    on_done!(sketch.update_all_with_counts(keys, weights))
 }
 
-/// Adds a weight to each item's, in order. Returns `NO_ROOM` if `items` and `weights` differ in length.
-pub(crate) fn update_all_weighted<T: Eq + Hash + Copy + Drop>(
+/// Adds a weight to that of each key's item, in order.
+pub(crate) fn update_all_weighted<T: Eq + Hash + Drop, K: Keys<T>>(
     alloc: Global,
     handle: &mut SketchHandle,
-    items: &[T],
+    keys: K,
     weights: &[u64],
 ) -> i32
 where
     FrequentItemsSketch<T>: Kind,
-    ensures no_room { length weights.now ≢ length items.now
-        → (result ≡ no_room) × (handle.new.value ≡ handle.old.value) }
-    ensures call { length weights.now ≡ length items.now
+    K::Key: OwnedKey<T>,
+    requires { length weights.now ≡ length (K.names keys) }
+    ensures call { OnKind (⟦<FrequentItemsSketch<T> as Kind>⟧.part) handle.old.value handle.new.value result (λ s.
+        HoldsKind (⟦<FrequentItemsSketch<T> as Kind>⟧.part) handle.new.value (λ t.
+        WeighsMany T.eq s (K.names keys) weights.now t result)) }
+    ensures grows { ((key : K.Key) → K.Key.needs_no_memory key)
         → OnKind (⟦<FrequentItemsSketch<T> as Kind>⟧.part) handle.old.value handle.new.value result (λ s.
-        HoldsKind (⟦<FrequentItemsSketch<T> as Kind>⟧.part) handle.new.value (λ t. WeighsMany T.eq s items.now weights.now t result)) }
+        HoldsKind (⟦<FrequentItemsSketch<T> as Kind>⟧.part) handle.new.value (λ t.
+        StopsOnlyToGrow s weights.now t result)) }
 {
-    if weights.len() != items.len() {
-        return NO_ROOM;
-    }
-    on_kind!(alloc, handle, FrequentItemsSketch<T>, sketch => add_all_weighted(sketch, items, weights))
+    on_kind!(alloc, handle, FrequentItemsSketch<T>, sketch => add_all_weighted(sketch, keys, weights))
 }
 
 /// Returns the bounds and the estimate of an item's weight, with one look-up.
@@ -105,7 +111,7 @@ pub(crate) fn bounds_of<T: Eq + Hash + Drop>(
 ) -> ItemBounds
     ensures { AreBounds T.eq sketch.now item.now result }
 {
-    sketch.bounds_by_key(item)
+    sketch.bounds_item(item)
 }
 
 /// Writes the bounds and the estimate of an item's weight.
@@ -126,47 +132,42 @@ where
     })
 }
 
-/// Writes a sketch's bounds and estimate of each item's weight.
-fn bounds_of_all<T: Eq + Hash + Drop>(
+/// Writes a sketch's bounds and estimate of the weight of each key's item.
+fn bounds_of_all<T: Eq + Hash + Drop, K: Keys<T>>(
     sketch: &FrequentItemsSketch<T>,
-    items: &[T],
+    keys: K,
     bounds: &mut [ItemBounds],
 )
-    requires same { length bounds.old ≡ length items.now }
-    ensures { AreBoundsOfAll T.eq sketch.now items.now bounds.new }
+    requires { length bounds.old ≡ length (K.names keys) }
+    ensures { AreBoundsOfAll T.eq sketch.now (K.names keys) bounds.new }
 {
-    sketch.bounds_all(items, bounds);
+    sketch.bounds_all(keys, bounds);
 }
 
-/// Writes the bounds and the estimate of each item's weight. Returns `NO_ROOM` if `items` and `bounds` differ in
-/// length.
-pub(crate) fn bounds_all<T: Eq + Hash + Drop>(
+/// Writes the bounds and the estimate of the weight of each key's item. Does not allocate.
+pub(crate) fn bounds_all<T: Eq + Hash + Drop, K: Keys<T>>(
     alloc: Global,
     handle: &mut SketchHandle,
-    items: &[T],
+    keys: K,
     bounds: &mut [ItemBounds],
 ) -> i32
 where
     FrequentItemsSketch<T>: Kind,
-    ensures { WritesDownEach (length items.now) handle.old.value handle.new.value result bounds.old bounds.new
-        (OnKind (reads (⟦<FrequentItemsSketch<T> as Kind>⟧.part)) handle.old.value handle.new.value result (λ s.
-        (result ≡ ok) × AreBoundsOfAll T.eq s items.now bounds.new)) }
+    requires { length bounds.old ≡ length (K.names keys) }
+    ensures { WritesDown (reads (⟦<FrequentItemsSketch<T> as Kind>⟧.part)) handle.old.value handle.new.value result bounds.old bounds.new (λ s.
+        AreBoundsOfAll T.eq s (K.names keys) bounds.new) }
 {
-    if bounds.len() != items.len() {
-        return NO_ROOM;
-    }
     reading_kind!(alloc, handle, FrequentItemsSketch<T>, sketch => {
-        bounds_of_all(sketch, items, bounds);
+        bounds_of_all(sketch, keys, bounds);
         OK
     })
 }
 
 /// Merges the other sketch into this one. Returns the result's number.
-fn merge<T: Eq + Hash + Clone + Drop>(
+fn merge<T: EqualClone + Hash + Drop>(
     sketch: &mut FrequentItemsSketch<T>,
     other: &FrequentItemsSketch<T>,
 ) -> i32
-    requires clones { (x y : T) → T.is_clone x y → IsTrue (T.eq x y) }
     ensures merges { MergesInto T.eq sketch.old other.now sketch.new result }
     ensures refused { OnRefused result (sketch.new ≡ sketch.old) }
 {
@@ -199,7 +200,7 @@ impl Joins<()> for FrequentItemsSketch<String> {
 
 /// Writes a report's rows to the front of both buffers, and the number of rows to `count`. If a buffer is too short,
 /// only `count` is written.
-pub(crate) fn rows<T: Eq + Hash + Clone + Copy + Drop>(
+pub(crate) fn rows<T: EqualClone + Hash + Copy + Drop>(
     alloc: Global,
     handle: &mut SketchHandle,
     no_false_negatives: bool,
@@ -210,7 +211,6 @@ pub(crate) fn rows<T: Eq + Hash + Clone + Copy + Drop>(
 ) -> i32
 where
     FrequentItemsSketch<T>: Kind,
-    requires clones { (x y : T) → T.is_clone x y → IsTrue (T.eq x y) }
     ensures kept { handle.new.value ≡ handle.old.value }
     ensures left { LeavesRows items.old items.new bounds.old bounds.new count.old count.new result }
     ensures rows { OnKind (reads (⟦<FrequentItemsSketch<T> as Kind>⟧.part)) handle.old.value handle.new.value result (λ s.

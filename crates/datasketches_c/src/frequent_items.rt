@@ -1,9 +1,9 @@
 //! Calls that add weights to sketches of frequent items, or read from them: bounds of items, and reports.
 ghost use Rattle.std.specs.Ordering.{int_eq};
-ghost use Rattle.std.specs.Prelude.{All, length, nat_eq, ◌+◌, ◌≡◌, ◌≢◌};
+ghost use Rattle.std.specs.Prelude.{All, length, map, nat_eq, ◌+◌, ◌≡◌, ◌≢◌};
 ghost use Rattle.std.specs.Str.{IsUtf8};
 ghost use Rattle.datasketches_c.specs.FrequentBatches.{AreBoundsOfAll, AreBoundsOfString};
-ghost use Rattle.datasketches_c.specs.FrequentCalls.{AreBounds, Updates, UpdatesMany, WeighsMany};
+ghost use Rattle.datasketches_c.specs.FrequentCalls.{AreBounds, StopsOnlyToGrow, Updates, UpdatesMany, WeighsMany};
 ghost use Rattle.datasketches_c.specs.FrequentRows.{WritesRows, error_type};
 ghost use Rattle.datasketches_c.specs.FrequentStringRows.{WritesStringRows};
 ghost use Rattle.datasketches_c.specs.FrequentStrings.{UpdatesString, WeighsStrings};
@@ -12,13 +12,12 @@ ghost use Rattle.datasketches_c.specs.Numbers.{OnRefused, bad_offsets, no_room, 
 ghost use Rattle.sketch_base.specs.Strings.{AreOffsets, AreStrings, strings_of};
 
 use crate::frequent;
-use crate::frequent_string::{
-    bounds_of_string, update_all_weighted_strings, update_string, write_rows,
-};
+use crate::frequent_string::{bounds_of_string, update_string, write_rows};
 use crate::handle::SketchHandle;
 use crate::kind::{on_kind, reading_kind};
+use crate::status_code::NO_ROOM;
 use crate::strings::{on_string, on_strings, strings_for};
-use sketch_base::Fault;
+use sketch_base::{Fault, OffsetStrings};
 use sketch_frequencies::{FrequentItemsSketch, ItemBounds};
 use std::alloc::Global;
 
@@ -103,9 +102,9 @@ pub extern "C" fn ds_frequent_items_u64_update_all(
     items: &[u64],
 ) -> i32
     ensures { OnFrequentU64 handle.old.value handle.new.value result (λ s.
-        HoldsFrequentU64 handle.new.value (λ t. UpdatesMany nat_eq s items.now t result)) }
+        HoldsFrequentU64 handle.new.value (λ t. UpdatesMany nat_eq s (map nat_eq items.now) t result)) }
 {
-    frequent::update_all(alloc, handle, items)
+    frequent::update_all::<u64, &[u64]>(alloc, handle, items)
 }
 
 /// Adds 1 to the weight of each number, in order.
@@ -122,9 +121,9 @@ pub extern "C" fn ds_frequent_items_i64_update_all(
     items: &[i64],
 ) -> i32
     ensures { OnFrequentI64 handle.old.value handle.new.value result (λ s.
-        HoldsFrequentI64 handle.new.value (λ t. UpdatesMany int_eq s items.now t result)) }
+        HoldsFrequentI64 handle.new.value (λ t. UpdatesMany int_eq s (map int_eq items.now) t result)) }
 {
-    frequent::update_all(alloc, handle, items)
+    frequent::update_all::<i64, &[i64]>(alloc, handle, items)
 }
 
 /// Adds a weight to each string's, in order. A weight of 0 changes nothing. The strings are the bytes between each
@@ -161,7 +160,7 @@ pub extern "C" fn ds_frequent_items_string_update_all_weighted(
         WeighsStrings s (strings_of bytes.now offsets.now) weights.now t result)) }
 {
     on_strings!(strings_for(weights.len(), bytes, offsets), strings => {
-        update_all_weighted_strings(alloc, handle, &strings, weights)
+        frequent::update_all_weighted::<String, OffsetStrings<&[u64]>>(alloc, handle, strings, weights)
     })
 }
 
@@ -186,9 +185,15 @@ pub extern "C" fn ds_frequent_items_u64_update_all_weighted(
         → (result ≡ no_room) × (handle.new.value ≡ handle.old.value) }
     ensures call { length weights.now ≡ length items.now
         → OnFrequentU64 handle.old.value handle.new.value result (λ s. HoldsFrequentU64 handle.new.value (λ t.
-        WeighsMany nat_eq s items.now weights.now t result)) }
+        WeighsMany nat_eq s (map nat_eq items.now) weights.now t result)) }
+    ensures grows { length weights.now ≡ length items.now
+        → OnFrequentU64 handle.old.value handle.new.value result (λ s. HoldsFrequentU64 handle.new.value (λ t.
+        StopsOnlyToGrow s weights.now t result)) }
 {
-    frequent::update_all_weighted(alloc, handle, items, weights)
+    if weights.len() != items.len() {
+        return NO_ROOM;
+    }
+    frequent::update_all_weighted::<u64, &[u64]>(alloc, handle, items, weights)
 }
 
 /// Adds a weight to each number's, in order. A weight of 0 changes nothing.
@@ -212,9 +217,15 @@ pub extern "C" fn ds_frequent_items_i64_update_all_weighted(
         → (result ≡ no_room) × (handle.new.value ≡ handle.old.value) }
     ensures call { length weights.now ≡ length items.now
         → OnFrequentI64 handle.old.value handle.new.value result (λ s. HoldsFrequentI64 handle.new.value (λ t.
-        WeighsMany int_eq s items.now weights.now t result)) }
+        WeighsMany int_eq s (map int_eq items.now) weights.now t result)) }
+    ensures grows { length weights.now ≡ length items.now
+        → OnFrequentI64 handle.old.value handle.new.value result (λ s. HoldsFrequentI64 handle.new.value (λ t.
+        StopsOnlyToGrow s weights.now t result)) }
 {
-    frequent::update_all_weighted(alloc, handle, items, weights)
+    if weights.len() != items.len() {
+        return NO_ROOM;
+    }
+    frequent::update_all_weighted::<i64, &[i64]>(alloc, handle, items, weights)
 }
 
 /// Writes the bounds and the estimate of a string's weight. Does not allocate.
@@ -296,10 +307,13 @@ pub extern "C" fn ds_frequent_items_u64_bounds_all(
     ensures no_room { length bounds.old ≢ length items.now → result ≡ no_room }
     ensures bounds { length bounds.old ≡ length items.now
         → ReadsFrequentU64 handle.old.value handle.new.value result (λ s.
-        (result ≡ ok) × AreBoundsOfAll nat_eq s items.now bounds.new) }
+        (result ≡ ok) × AreBoundsOfAll nat_eq s (map nat_eq items.now) bounds.new) }
     ensures untouched { OnRefused result (bounds.new ≡ bounds.old) }
 {
-    frequent::bounds_all(alloc, handle, items, bounds)
+    if bounds.len() != items.len() {
+        return NO_ROOM;
+    }
+    frequent::bounds_all::<u64, &[u64]>(alloc, handle, items, bounds)
 }
 
 /// Writes the bounds and the estimate of each number's weight.
@@ -319,10 +333,13 @@ pub extern "C" fn ds_frequent_items_i64_bounds_all(
     ensures no_room { length bounds.old ≢ length items.now → result ≡ no_room }
     ensures bounds { length bounds.old ≡ length items.now
         → ReadsFrequentI64 handle.old.value handle.new.value result (λ s.
-        (result ≡ ok) × AreBoundsOfAll int_eq s items.now bounds.new) }
+        (result ≡ ok) × AreBoundsOfAll int_eq s (map int_eq items.now) bounds.new) }
     ensures untouched { OnRefused result (bounds.new ≡ bounds.old) }
 {
-    frequent::bounds_all(alloc, handle, items, bounds)
+    if bounds.len() != items.len() {
+        return NO_ROOM;
+    }
+    frequent::bounds_all::<i64, &[i64]>(alloc, handle, items, bounds)
 }
 
 /// Writes the tracked strings whose bound exceeds both the threshold and the error, in rows of descending estimates.

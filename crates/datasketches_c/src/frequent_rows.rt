@@ -1,15 +1,15 @@
 //! Reports on frequent items of any type, as rows in the caller's buffers.
-ghost use Rattle.std.specs.Prelude.{◌≡◌, ◌<◌, ◌≤◌, IsTrue, length, map};
+ghost use Rattle.std.specs.Prelude.{◌≡◌, ◌<◌, ◌≤◌, length, map};
 ghost use Rattle.datasketches_c.specs.FrequentRows.{LeavesRows, StandAtFront, WritesRows, bounds_in, error_type};
 ghost use Rattle.datasketches_c.specs.Numbers.{ok, no_room};
 
 use crate::status_code::{NO_ROOM, OK, on_done};
-use sketch_frequencies::{ErrorType, FrequentItemsSketch, ItemBounds, Row};
+use sketch_frequencies::{EqualClone, ErrorType, FrequentItemsSketch, ItemBounds, Row};
 use std::hash::Hash;
 
 /// Writes a report's rows to the front of both buffers, and the number of rows to `count`. If a buffer is too short,
 /// only `count` is written.
-pub(crate) fn write_rows<T: Eq + Hash + Clone + Copy + Drop>(
+pub(crate) fn write_rows<T: EqualClone + Hash + Copy + Drop>(
     sketch: &FrequentItemsSketch<T>,
     no_false_negatives: bool,
     threshold: u64,
@@ -17,7 +17,6 @@ pub(crate) fn write_rows<T: Eq + Hash + Clone + Copy + Drop>(
     bounds: &mut [ItemBounds],
     count: &mut usize,
 ) -> i32
-    requires clones { (x y : T) → T.is_clone x y → IsTrue (T.eq x y) }
     ensures rows { WritesRows T.eq (error_type no_false_negatives) threshold sketch.now items.old items.new
         bounds.old bounds.new count.new result }
     ensures left { LeavesRows items.old items.new bounds.old bounds.new count.old count.new result }

@@ -1,19 +1,16 @@
-//! Sketches of frequent strings: updates and bounds of one string or many, and reports.
+//! Sketches of frequent strings: updates and bounds of one string, and reports.
 ghost use Rattle.std.specs.List.{concat};
-ghost use Rattle.std.specs.Prelude.{◌≡◌, ◌≢◌, ◌+◌, length, ◌≤◌, ◌^◌, MatchOption};
-ghost use Rattle.datasketches_c.specs.FrequentBatches.{AreBoundsOfString, AreBoundsOfStrings};
+ghost use Rattle.std.specs.Prelude.{◌≡◌, ◌+◌, length, ◌≤◌, ◌^◌, MatchOption};
+ghost use Rattle.datasketches_c.specs.FrequentBatches.{AreBoundsOfString};
 ghost use Rattle.datasketches_c.specs.FrequentRows.{error_type};
 ghost use Rattle.datasketches_c.specs.FrequentStringRows.{LeavesStringRows, ReportsStrings, WritesStringRows, row_strings};
-ghost use Rattle.datasketches_c.specs.FrequentStrings.{AddsStrings, UpdatesString, WeighsStrings};
-ghost use Rattle.datasketches_c.specs.Kinds.{HoldsFrequentStrings, OnFrequentStrings, ReadsFrequentStrings};
+ghost use Rattle.datasketches_c.specs.FrequentStrings.{UpdatesString};
 ghost use Rattle.datasketches_c.specs.Numbers.{OnDone, OnRefused, ok, no_room, refusal_number};
 ghost use Rattle.datasketches_c.specs.Strings.{offsets_from};
 
 use crate::frequent_rows::{copy_bounds, error_type_of};
-use crate::handle::SketchHandle;
-use crate::kind::{on_kind, reading_kind};
 use crate::status_code::{NO_ROOM, OK, on_done, refusal_number};
-use sketch_base::{Fault, Strings};
+use sketch_base::Fault;
 use sketch_frequencies::{FrequentItemsSketch, ItemBounds, Row};
 use std::alloc::Global;
 
@@ -28,7 +25,7 @@ pub(crate) fn update_string(
     ensures done { OnDone result (result ≡ ok) }
     ensures refused { OnRefused result (sketch.new ≡ sketch.old) }
 {
-    on_done!(sketch.update_with_count_by_key(item, weight))
+    on_done!(sketch.update_item_with_count(item, weight))
 }
 
 /// Writes the bounds and the estimate of a string's weight. Does not allocate.
@@ -39,85 +36,8 @@ pub(crate) fn bounds_of_string(
 ) -> i32
     ensures { (result ≡ ok) × AreBoundsOfString sketch.now item.now bounds.new }
 {
-    *bounds = sketch.bounds_by_key(item);
+    *bounds = sketch.bounds_item(item);
     OK
-}
-
-/// Adds 1 to the weight of each string, in order. Returns the result's number.
-fn update_strings<S: Strings>(sketch: &mut FrequentItemsSketch<String>, strings: &S) -> i32
-    ensures { AddsStrings sketch.old (S.list strings.now) sketch.new result }
-{
-    on_done!(sketch.update_strings(strings))
-}
-
-/// Adds a weight to each string's, in order. Returns the result's number.
-fn update_strings_weighted<S: Strings>(
-    sketch: &mut FrequentItemsSketch<String>,
-    strings: &S,
-    weights: &[u64],
-) -> i32
-    requires { length weights.now ≡ length (S.list strings.now) }
-    ensures { WeighsStrings sketch.old (S.list strings.now) weights.now sketch.new result }
-{
-    on_done!(sketch.update_strings_weighted(strings, weights))
-}
-
-/// Writes the bounds and the estimate of each string's weight. Does not allocate.
-fn bounds_of_strings<S: Strings>(
-    sketch: &FrequentItemsSketch<String>,
-    strings: &S,
-    bounds: &mut [ItemBounds],
-)
-    requires { length bounds.old ≡ length (S.list strings.now) }
-    ensures { AreBoundsOfStrings sketch.now (S.list strings.now) bounds.new }
-{
-    sketch.bounds_strings(strings, bounds);
-}
-
-/// Adds 1 to the weight of each string in the sketch of a handle, in order.
-pub(crate) fn update_all_strings<S: Strings>(
-    alloc: Global,
-    handle: &mut SketchHandle,
-    strings: &S,
-) -> i32
-    ensures { OnFrequentStrings handle.old.value handle.new.value result (λ s.
-        HoldsFrequentStrings handle.new.value (λ t.
-        AddsStrings s (S.list strings.now) t result)) }
-{
-    on_kind!(alloc, handle, FrequentItemsSketch<String>, sketch => update_strings(sketch, strings))
-}
-
-/// Adds a weight to each string's in the sketch of a handle, in order.
-pub(crate) fn update_all_weighted_strings<S: Strings>(
-    alloc: Global,
-    handle: &mut SketchHandle,
-    strings: &S,
-    weights: &[u64],
-) -> i32
-    requires { length weights.now ≡ length (S.list strings.now) }
-    ensures { OnFrequentStrings handle.old.value handle.new.value result (λ s.
-        HoldsFrequentStrings handle.new.value (λ t. WeighsStrings s (S.list strings.now) weights.now t result)) }
-{
-    on_kind!(alloc, handle, FrequentItemsSketch<String>, sketch => update_strings_weighted(sketch, strings, weights))
-}
-
-/// Writes the bounds and the estimate of each string's weight in the sketch of a handle. Does not allocate.
-pub(crate) fn bounds_all_strings<S: Strings>(
-    alloc: Global,
-    handle: &mut SketchHandle,
-    strings: &S,
-    bounds: &mut [ItemBounds],
-) -> i32
-    requires { length bounds.old ≡ length (S.list strings.now) }
-    ensures kept { handle.new.value ≡ handle.old.value }
-    ensures bounds { ReadsFrequentStrings handle.old.value handle.new.value result (λ s.
-        (result ≡ ok) × AreBoundsOfStrings s (S.list strings.now) bounds.new) }
-    ensures untouched { result ≢ ok → bounds.new ≡ bounds.old }
-{
-    reading_kind!(alloc, handle, FrequentItemsSketch<String>, sketch => {
-        bounds_of_strings(sketch, strings, bounds);
-        OK
-    })
 }
 
 /// Returns the number of bytes of all strings of rows, or `None` if it is 2^64 or more.

@@ -1,6 +1,6 @@
 //! Questions to filters and Count-Min sketches in the bytes of their images, which are not read into memory.
 ghost use Rattle.std.specs.Hash as fed;
-ghost use Rattle.std.specs.Prelude.{◌≡◌, ◌≢◌, ℤ, pos, length, map, if◌then◌else◌};
+ghost use Rattle.std.specs.Prelude.{◌≡◌, ◌≢◌, pos, length, map, if◌then◌else◌};
 ghost use Rattle.std.specs.Str.{IsUtf8};
 ghost use Rattle.sketch_base.specs.Hashes.{fed_bytes};
 ghost use Rattle.sketch_bloom.specs.State.{contains_item};
@@ -10,27 +10,17 @@ ghost use Rattle.datasketches_c.specs.Numbers.{OnRefused, max_i64, max_u64, min_
 
 use crate::status_code::{NO, NO_ROOM, OK, YES, on_done};
 use crate::strings::on_string;
-use sketch_base::Fault;
+use sketch_base::{Fault, Item, Items};
 use sketch_bloom::BloomFilterView;
-use sketch_countmin::{CountMinValue, CountMinView};
-use std::hash::Hash;
+use sketch_countmin::{CountMinValue, CountMinView, RowItem};
 
 /// Returns whether the filter in an image contains an item, for the calls below.
 #[inline]
-fn contains<I: Hash>(image: &[u8], item: &I) -> i32
+fn contains<X: Item + Drop>(image: &[u8], item: X) -> i32
     ensures { AsksFilter image.now (λ s.
-        result ≡ (if contains_item s (fed_bytes I.hash_input item.now) then yes else no)) result }
+        result ≡ (if contains_item s (X.bytes item) then yes else no)) result }
 {
-    on_done!(BloomFilterView::new(image), filter => { if filter.contains(item) { YES } else { NO } })
-}
-
-/// Returns whether the filter in an image contains a string.
-#[inline]
-fn contains_str(image: &[u8], item: &str) -> i32
-    ensures { AsksFilter image.now (λ s.
-        result ≡ (if contains_item s (fed_bytes fed.str item.now) then yes else no)) result }
-{
-    on_done!(BloomFilterView::new(image), filter => { if filter.contains_str(item) { YES } else { NO } })
+    on_done!(BloomFilterView::new(image), filter => { if filter.contains_item(item) { YES } else { NO } })
 }
 
 /// Returns `YES` if the filter in an image contains a number, and `NO` otherwise. Checks the image in constant time: what
@@ -53,20 +43,17 @@ pub extern "C" fn ds_bloom_image_contains_string(image: &[u8], item: &[u8]) -> i
         result ≡ (if contains_item s (fed_bytes fed.str item.now) then yes else no)) result }
     ensures invalid_utf8 { ¬ (IsUtf8 item.now) → result ≡ refusal_number Fault.InvalidUtf8 }
 {
-    on_string!(item => contains_str(image, item))
+    on_string!(item => contains(image, item))
 }
 
 /// Writes for each item whether the filter in an image contains it, for the calls below.
 #[inline]
-fn contains_all<I: Hash>(image: &[u8], items: &[I], answers: &mut [bool]) -> i32
-    ensures no_room { length answers.old ≢ length items.now → result ≡ no_room }
-    ensures answers { length answers.old ≡ length items.now → AsksFilter image.now (λ s. (result ≡ ok)
-        × (answers.new ≡ map (λ item. contains_item s (fed_bytes I.hash_input item)) items.now)) result }
+fn contains_all<I: Items>(image: &[u8], items: I, answers: &mut [bool]) -> i32
+    requires { length answers.old ≡ length (I.list items) }
+    ensures answers { AsksFilter image.now (λ s. (result ≡ ok)
+        × (answers.new ≡ map (contains_item s) (I.list items))) result }
     ensures untouched { OnRefused result (answers.new ≡ answers.old) }
 {
-    if answers.len() != items.len() {
-        return NO_ROOM;
-    }
     on_done!(BloomFilterView::new(image), filter => {
             filter.contains_all(items, answers);
             OK
@@ -85,34 +72,29 @@ pub extern "C" fn ds_bloom_image_contains_all_u64(
 ) -> i32
     ensures no_room { length answers.old ≢ length items.now → result ≡ no_room }
     ensures answers { length answers.old ≡ length items.now → AsksFilter image.now (λ s. (result ≡ ok)
-        × (answers.new ≡ map (λ item. contains_item s (fed_bytes fed.u64 item)) items.now)) result }
+        × (answers.new ≡ map (contains_item s) (map (fed_bytes fed.u64) items.now))) result }
     ensures untouched { OnRefused result (answers.new ≡ answers.old) }
 {
+    if answers.len() != items.len() {
+        return NO_ROOM;
+    }
     contains_all(image, items, answers)
 }
 
 /// Writes the estimate of an item by the Count-Min sketch in an image, for the calls below.
 #[inline]
-fn estimate<V: CountMinValue, I: Hash>(image: &[u8], seed: u64, item: &I, estimate: &mut V) -> i32
+fn estimate<V: CountMinValue, R: RowItem<V> + Drop>(
+    image: &[u8],
+    seed: u64,
+    item: R,
+    estimate: &mut V,
+) -> i32
     ensures estimate { AsksCount V.least V.greatest seed image.now (λ s. (result ≡ ok)
-        × IsEstimate s (fed_bytes I.hash_input item.now) (V.number estimate.new)) result }
+        × IsEstimate s (R.bytes item) (V.number estimate.new)) result }
     ensures untouched { OnRefused result (estimate.new ≡ estimate.old) }
 {
     on_done!(CountMinView::<V>::with_seed(image, seed), counts => {
-            *estimate = counts.estimate(item);
-            OK
-        })
-}
-
-/// Writes the estimate of a string by the Count-Min sketch in an image.
-#[inline]
-fn estimate_str<V: CountMinValue>(image: &[u8], seed: u64, item: &str, estimate: &mut V) -> i32
-    ensures estimate { AsksCount V.least V.greatest seed image.now (λ s. (result ≡ ok)
-        × IsEstimate s (fed_bytes fed.str item.now) (V.number estimate.new)) result }
-    ensures untouched { OnRefused result (estimate.new ≡ estimate.old) }
-{
-    on_done!(CountMinView::<V>::with_seed(image, seed), counts => {
-            *estimate = counts.estimate_str(item);
+            *estimate = counts.estimate_item(item);
             OK
         })
 }
@@ -153,7 +135,7 @@ pub extern "C" fn ds_count_min_u64_image_estimate_string(
     ensures invalid_utf8 { ¬ (IsUtf8 item.now) → result ≡ refusal_number Fault.InvalidUtf8 }
     ensures untouched { OnRefused result (estimate.new ≡ estimate.old) }
 {
-    on_string!(item => estimate_str(image, seed, item, estimate))
+    on_string!(item => self::estimate(image, seed, item, estimate))
 }
 
 /// Writes the estimate of a number by the Count-Min sketch in an image, whose seed is `seed`. Hashes a number for each
@@ -192,5 +174,5 @@ pub extern "C" fn ds_count_min_i64_image_estimate_string(
     ensures invalid_utf8 { ¬ (IsUtf8 item.now) → result ≡ refusal_number Fault.InvalidUtf8 }
     ensures untouched { OnRefused result (estimate.new ≡ estimate.old) }
 {
-    on_string!(item => estimate_str(image, seed, item, estimate))
+    on_string!(item => self::estimate(image, seed, item, estimate))
 }

@@ -1,7 +1,7 @@
 //! Sketches into which those of many handles are combined.
 ghost use Rattle.std.specs.Option.{option_map};
 ghost use Rattle.std.specs.Ordering.{int_eq};
-ghost use Rattle.std.specs.Prelude.{◌≡◌, ℤ, IsTrue, List, map, nat_eq};
+ghost use Rattle.std.specs.Prelude.{◌≡◌, ℤ, List, map, nat_eq};
 ghost use Rattle.datasketches_c.specs.FrequentStrings.{strings_eq};
 ghost use Rattle.datasketches_c.specs.ManyHandles.{OnEachKind, OrNoMemory};
 ghost use Rattle.datasketches_c.specs.ManyJoins.{IsMerged, IsUnited, MergesAllInto};
@@ -16,7 +16,7 @@ use crate::status_code::{OK, on_done, refusal_number};
 use sketch_base::Fault;
 use sketch_bloom::BloomFilter;
 use sketch_countmin::{CountMinSketch, CountMinValue};
-use sketch_frequencies::FrequentItemsSketch;
+use sketch_frequencies::{EqualClone, FrequentItemsSketch};
 use std::alloc::Global;
 use std::hash::Hash;
 
@@ -86,11 +86,10 @@ where
 }
 
 /// Merges the other sketches into this one. Returns the result's number.
-fn merge_frequent<T: Eq + Hash + Clone + Drop>(
+fn merge_frequent<T: EqualClone + Hash + Drop>(
     sketch: &mut FrequentItemsSketch<T>,
     others: &[&FrequentItemsSketch<T>],
 ) -> i32
-    requires clones { (x y : T) → T.is_clone x y → IsTrue (T.eq x y) }
     ensures merges { MergesAllInto T.eq sketch.old (map (λ other. other.now) others.now) sketch.new result }
     ensures refused { OnRefused result (sketch.new ≡ sketch.old) }
 {

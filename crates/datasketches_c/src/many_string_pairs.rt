@@ -17,11 +17,9 @@ ghost use Rattle.datasketches_c.specs.declared.any_sketch.Held.TheVariants.{Own}
 ghost use Rattle.datasketches_c.specs.declared.any_sketch.AnySketch.TheVariants.{Filter};
 ghost use Rattle.datasketches_c.specs.Sharing.{reads};
 
-use crate::count;
-use crate::filter_strings::{contains_all_strings, insert_all_strings};
-use crate::frequent_string::{bounds_all_strings, update_all_strings, update_all_weighted_strings};
 use crate::handle::SketchHandle;
 use crate::strings::{on_strings, strings_of_pairs, strings_of_pairs_for};
+use crate::{count, filter, frequent};
 use sketch_base::{ByteStrings, Fault};
 use sketch_frequencies::ItemBounds;
 use std::alloc::Global;
@@ -45,7 +43,7 @@ pub extern "C" fn ds_bloom_insert_all_string_pairs(
     ensures invalid_utf8 { ¬ All IsUtf8 (strings_at items.now) → result ≡ refusal_number Fault.InvalidUtf8 }
     ensures refused { OnRefused result (handle.new.value ≡ handle.old.value) }
 {
-    on_strings!(strings_of_pairs(items), strings => insert_all_strings(alloc, handle, &strings))
+    on_strings!(strings_of_pairs(items), strings => filter::insert_all(alloc, handle, strings))
 }
 
 /// Writes for each string whether the filter contains it. Each string is a pointer and a length.
@@ -68,11 +66,11 @@ pub extern "C" fn ds_bloom_contains_all_string_pairs(
         → result ≡ refusal_number Fault.InvalidUtf8 }
     ensures answers { length answers.old ≡ length items.now → All IsUtf8 (strings_at items.now)
         → ReadsFilter handle.old.value handle.new.value result (λ s. (result ≡ ok)
-        × (answers.new ≡ map (λ string. contains_item s (fed_bytes fed.str string)) (strings_at items.now))) }
+        × (answers.new ≡ map (contains_item s) (map (fed_bytes fed.str) (strings_at items.now)))) }
     ensures untouched { OnRefused result (answers.new ≡ answers.old) }
 {
     on_strings!(strings_of_pairs_for(answers.len(), items), strings => {
-        contains_all_strings(alloc, handle, &strings, answers)
+        filter::contains_all(alloc, handle, strings, answers)
     })
 }
 
@@ -92,12 +90,12 @@ pub extern "C" fn ds_count_min_u64_update_all_string_pairs(
     items: &[&[u8]],
 ) -> i32
     ensures strings { All IsUtf8 (strings_at items.now)
-        → AddsEach count_u64_of max_u64 handle.old.value handle.new.value result (fed_bytes fed.str) (strings_at items.now) }
+        → AddsEach count_u64_of max_u64 handle.old.value handle.new.value result (map (fed_bytes fed.str) (strings_at items.now)) }
     ensures invalid_utf8 { ¬ All IsUtf8 (strings_at items.now)
         → (result ≡ refusal_number Fault.InvalidUtf8) × (handle.new.value ≡ handle.old.value) }
 {
     on_strings!(strings_of_pairs(items), strings => {
-        count::update_all_strings::<u64, ByteStrings>(alloc, handle, &strings)
+        count::update_all::<u64, ByteStrings>(alloc, handle, strings)
     })
 }
 
@@ -120,11 +118,11 @@ pub extern "C" fn ds_count_min_u64_update_all_weighted_string_pairs(
     ensures invalid_utf8 { length weights.now ≡ length items.now → ¬ All IsUtf8 (strings_at items.now)
         → result ≡ refusal_number Fault.InvalidUtf8 }
     ensures call { length weights.now ≡ length items.now → All IsUtf8 (strings_at items.now)
-        → AddsWeights count_u64_of max_u64 handle.old.value handle.new.value result (fed_bytes fed.str) pos (strings_at items.now) weights.now (sum weights.now) }
+        → AddsWeights count_u64_of max_u64 handle.old.value handle.new.value result pos (map (fed_bytes fed.str) (strings_at items.now)) weights.now (sum weights.now) }
     ensures refused { OnRefused result (handle.new.value ≡ handle.old.value) }
 {
     on_strings!(strings_of_pairs_for(weights.len(), items), strings => {
-        count::update_all_weighted_strings(alloc, handle, &strings, weights)
+        count::update_all_weighted(alloc, handle, strings, weights)
     })
 }
 
@@ -148,11 +146,11 @@ pub extern "C" fn ds_count_min_u64_estimate_all_string_pairs(
     ensures invalid_utf8 { length estimates.old ≡ length items.now → ¬ All IsUtf8 (strings_at items.now)
         → result ≡ refusal_number Fault.InvalidUtf8 }
     ensures estimates { length estimates.old ≡ length items.now → All IsUtf8 (strings_at items.now)
-        → EstimatesAll (reads count_u64_of) handle.old.value handle.new.value result (fed_bytes fed.str) (strings_at items.now) (map pos estimates.new) }
+        → EstimatesAll (reads count_u64_of) handle.old.value handle.new.value result (map (fed_bytes fed.str) (strings_at items.now)) (map pos estimates.new) }
     ensures untouched { OnRefused result (estimates.new ≡ estimates.old) }
 {
     on_strings!(strings_of_pairs_for(estimates.len(), items), strings => {
-        count::estimate_all_strings(alloc, handle, &strings, estimates)
+        count::estimate_all(alloc, handle, strings, estimates)
     })
 }
 
@@ -172,12 +170,12 @@ pub extern "C" fn ds_count_min_i64_update_all_string_pairs(
     items: &[&[u8]],
 ) -> i32
     ensures strings { All IsUtf8 (strings_at items.now)
-        → AddsEach count_i64_of max_i64 handle.old.value handle.new.value result (fed_bytes fed.str) (strings_at items.now) }
+        → AddsEach count_i64_of max_i64 handle.old.value handle.new.value result (map (fed_bytes fed.str) (strings_at items.now)) }
     ensures invalid_utf8 { ¬ All IsUtf8 (strings_at items.now)
         → (result ≡ refusal_number Fault.InvalidUtf8) × (handle.new.value ≡ handle.old.value) }
 {
     on_strings!(strings_of_pairs(items), strings => {
-        count::update_all_strings::<i64, ByteStrings>(alloc, handle, &strings)
+        count::update_all::<i64, ByteStrings>(alloc, handle, strings)
     })
 }
 
@@ -201,11 +199,11 @@ pub extern "C" fn ds_count_min_i64_update_all_weighted_string_pairs(
     ensures invalid_utf8 { length weights.now ≡ length items.now → ¬ All IsUtf8 (strings_at items.now)
         → result ≡ refusal_number Fault.InvalidUtf8 }
     ensures call { length weights.now ≡ length items.now → All IsUtf8 (strings_at items.now)
-        → AddsWeights count_i64_of max_i64 handle.old.value handle.new.value result (fed_bytes fed.str) (λ weight. weight) (strings_at items.now) weights.now (sum_by unsigned_abs weights.now) }
+        → AddsWeights count_i64_of max_i64 handle.old.value handle.new.value result (λ weight. weight) (map (fed_bytes fed.str) (strings_at items.now)) weights.now (sum_by unsigned_abs weights.now) }
     ensures refused { OnRefused result (handle.new.value ≡ handle.old.value) }
 {
     on_strings!(strings_of_pairs_for(weights.len(), items), strings => {
-        count::update_all_weighted_strings(alloc, handle, &strings, weights)
+        count::update_all_weighted(alloc, handle, strings, weights)
     })
 }
 
@@ -229,11 +227,11 @@ pub extern "C" fn ds_count_min_i64_estimate_all_string_pairs(
     ensures invalid_utf8 { length estimates.old ≡ length items.now → ¬ All IsUtf8 (strings_at items.now)
         → result ≡ refusal_number Fault.InvalidUtf8 }
     ensures estimates { length estimates.old ≡ length items.now → All IsUtf8 (strings_at items.now)
-        → EstimatesAll (reads count_i64_of) handle.old.value handle.new.value result (fed_bytes fed.str) (strings_at items.now) estimates.new }
+        → EstimatesAll (reads count_i64_of) handle.old.value handle.new.value result (map (fed_bytes fed.str) (strings_at items.now)) estimates.new }
     ensures untouched { OnRefused result (estimates.new ≡ estimates.old) }
 {
     on_strings!(strings_of_pairs_for(estimates.len(), items), strings => {
-        count::estimate_all_strings(alloc, handle, &strings, estimates)
+        count::estimate_all(alloc, handle, strings, estimates)
     })
 }
 
@@ -258,7 +256,7 @@ pub extern "C" fn ds_frequent_items_string_update_all_pairs(
     ensures invalid_utf8 { ¬ All IsUtf8 (strings_at items.now)
         → (result ≡ refusal_number Fault.InvalidUtf8) × (handle.new.value ≡ handle.old.value) }
 {
-    on_strings!(strings_of_pairs(items), strings => update_all_strings(alloc, handle, &strings))
+    on_strings!(strings_of_pairs(items), strings => frequent::update_all::<String, ByteStrings>(alloc, handle, strings))
 }
 
 /// Adds a weight to each string's, in order. A weight of 0 changes nothing. Each string is a pointer and a length.
@@ -287,7 +285,7 @@ pub extern "C" fn ds_frequent_items_string_update_all_weighted_pairs(
         HoldsFrequentStrings handle.new.value (λ t. WeighsStrings s (strings_at items.now) weights.now t result)) }
 {
     on_strings!(strings_of_pairs_for(weights.len(), items), strings => {
-        update_all_weighted_strings(alloc, handle, &strings, weights)
+        frequent::update_all_weighted::<String, ByteStrings>(alloc, handle, strings, weights)
     })
 }
 
@@ -317,6 +315,6 @@ pub extern "C" fn ds_frequent_items_string_bounds_all_pairs(
     ensures untouched { result ≢ ok → bounds.new ≡ bounds.old }
 {
     on_strings!(strings_of_pairs_for(bounds.len(), items), strings => {
-        bounds_all_strings(alloc, handle, &strings, bounds)
+        frequent::bounds_all::<String, ByteStrings>(alloc, handle, strings, bounds)
     })
 }

@@ -17,11 +17,9 @@ ghost use Rattle.datasketches_c.specs.declared.any_sketch.Held.TheVariants.{Own}
 ghost use Rattle.datasketches_c.specs.declared.any_sketch.AnySketch.TheVariants.{Filter};
 ghost use Rattle.datasketches_c.specs.Sharing.{reads};
 
-use crate::count;
-use crate::filter_strings::{contains_all_strings, insert_all_strings};
-use crate::frequent_string::{bounds_all_strings, update_all_strings};
 use crate::handle::SketchHandle;
 use crate::strings::{on_strings, strings_for, strings_in};
+use crate::{count, filter, frequent};
 use sketch_base::{Fault, OffsetStrings};
 use sketch_frequencies::ItemBounds;
 use std::alloc::Global;
@@ -52,7 +50,7 @@ pub extern "C" fn ds_bloom_insert_all_string(
         → result ≡ refusal_number Fault.InvalidUtf8 }
     ensures refused { OnRefused result (handle.new.value ≡ handle.old.value) }
 {
-    on_strings!(strings_in(bytes, offsets), strings => insert_all_strings(alloc, handle, &strings))
+    on_strings!(strings_in(bytes, offsets), strings => filter::insert_all(alloc, handle, strings))
 }
 
 /// Writes for each string whether the filter contains it. The strings are the bytes between each offset and the next,
@@ -80,11 +78,11 @@ pub extern "C" fn ds_bloom_contains_all_string(
         → ¬ All IsUtf8 (strings_of bytes.now offsets.now) → result ≡ refusal_number Fault.InvalidUtf8 }
     ensures answers { AreStrings bytes.now offsets.now → length answers.old + 1 ≡ length offsets.now
         → ReadsFilter handle.old.value handle.new.value result (λ s. (result ≡ ok)
-        × (answers.new ≡ map (λ string. contains_item s (fed_bytes fed.str string)) (strings_of bytes.now offsets.now))) }
+        × (answers.new ≡ map (contains_item s) (map (fed_bytes fed.str) (strings_of bytes.now offsets.now)))) }
     ensures untouched { OnRefused result (answers.new ≡ answers.old) }
 {
     on_strings!(strings_for(answers.len(), bytes, offsets), strings => {
-        contains_all_strings(alloc, handle, &strings, answers)
+        filter::contains_all(alloc, handle, strings, answers)
     })
 }
 
@@ -108,14 +106,14 @@ pub extern "C" fn ds_count_min_u64_update_all_string(
     offsets: &[u64],
 ) -> i32
     ensures strings { AreStrings bytes.now offsets.now
-        → AddsEach count_u64_of max_u64 handle.old.value handle.new.value result (fed_bytes fed.str) (strings_of bytes.now offsets.now) }
+        → AddsEach count_u64_of max_u64 handle.old.value handle.new.value result (map (fed_bytes fed.str) (strings_of bytes.now offsets.now)) }
     ensures bad_offsets { ¬ AreOffsets bytes.now offsets.now
         → (result ≡ bad_offsets) × (handle.new.value ≡ handle.old.value) }
     ensures invalid_utf8 { AreOffsets bytes.now offsets.now → ¬ All IsUtf8 (strings_of bytes.now offsets.now)
         → (result ≡ refusal_number Fault.InvalidUtf8) × (handle.new.value ≡ handle.old.value) }
 {
     on_strings!(strings_in(bytes, offsets), strings => {
-        count::update_all_strings::<u64, OffsetStrings>(alloc, handle, &strings)
+        count::update_all::<u64, OffsetStrings<&[u64]>>(alloc, handle, strings)
     })
 }
 
@@ -139,14 +137,14 @@ pub extern "C" fn ds_count_min_i64_update_all_string(
     offsets: &[u64],
 ) -> i32
     ensures strings { AreStrings bytes.now offsets.now
-        → AddsEach count_i64_of max_i64 handle.old.value handle.new.value result (fed_bytes fed.str) (strings_of bytes.now offsets.now) }
+        → AddsEach count_i64_of max_i64 handle.old.value handle.new.value result (map (fed_bytes fed.str) (strings_of bytes.now offsets.now)) }
     ensures bad_offsets { ¬ AreOffsets bytes.now offsets.now
         → (result ≡ bad_offsets) × (handle.new.value ≡ handle.old.value) }
     ensures invalid_utf8 { AreOffsets bytes.now offsets.now → ¬ All IsUtf8 (strings_of bytes.now offsets.now)
         → (result ≡ refusal_number Fault.InvalidUtf8) × (handle.new.value ≡ handle.old.value) }
 {
     on_strings!(strings_in(bytes, offsets), strings => {
-        count::update_all_strings::<i64, OffsetStrings>(alloc, handle, &strings)
+        count::update_all::<i64, OffsetStrings<&[u64]>>(alloc, handle, strings)
     })
 }
 
@@ -177,7 +175,7 @@ pub extern "C" fn ds_frequent_items_string_update_all(
     ensures invalid_utf8 { AreOffsets bytes.now offsets.now → ¬ All IsUtf8 (strings_of bytes.now offsets.now)
         → (result ≡ refusal_number Fault.InvalidUtf8) × (handle.new.value ≡ handle.old.value) }
 {
-    on_strings!(strings_in(bytes, offsets), strings => update_all_strings(alloc, handle, &strings))
+    on_strings!(strings_in(bytes, offsets), strings => frequent::update_all::<String, OffsetStrings<&[u64]>>(alloc, handle, strings))
 }
 
 /// Writes the estimate of each string's weight. The strings are the bytes between each offset and the next, so n
@@ -205,11 +203,11 @@ pub extern "C" fn ds_count_min_u64_estimate_all_string(
     ensures invalid_utf8 { AreOffsets bytes.now offsets.now → length estimates.old + 1 ≡ length offsets.now
         → ¬ All IsUtf8 (strings_of bytes.now offsets.now) → result ≡ refusal_number Fault.InvalidUtf8 }
     ensures estimates { AreStrings bytes.now offsets.now → length estimates.old + 1 ≡ length offsets.now
-        → EstimatesAll (reads count_u64_of) handle.old.value handle.new.value result (fed_bytes fed.str) (strings_of bytes.now offsets.now) (map pos estimates.new) }
+        → EstimatesAll (reads count_u64_of) handle.old.value handle.new.value result (map (fed_bytes fed.str) (strings_of bytes.now offsets.now)) (map pos estimates.new) }
     ensures untouched { OnRefused result (estimates.new ≡ estimates.old) }
 {
     on_strings!(strings_for(estimates.len(), bytes, offsets), strings => {
-        count::estimate_all_strings(alloc, handle, &strings, estimates)
+        count::estimate_all(alloc, handle, strings, estimates)
     })
 }
 
@@ -238,11 +236,11 @@ pub extern "C" fn ds_count_min_i64_estimate_all_string(
     ensures invalid_utf8 { AreOffsets bytes.now offsets.now → length estimates.old + 1 ≡ length offsets.now
         → ¬ All IsUtf8 (strings_of bytes.now offsets.now) → result ≡ refusal_number Fault.InvalidUtf8 }
     ensures estimates { AreStrings bytes.now offsets.now → length estimates.old + 1 ≡ length offsets.now
-        → EstimatesAll (reads count_i64_of) handle.old.value handle.new.value result (fed_bytes fed.str) (strings_of bytes.now offsets.now) estimates.new }
+        → EstimatesAll (reads count_i64_of) handle.old.value handle.new.value result (map (fed_bytes fed.str) (strings_of bytes.now offsets.now)) estimates.new }
     ensures untouched { OnRefused result (estimates.new ≡ estimates.old) }
 {
     on_strings!(strings_for(estimates.len(), bytes, offsets), strings => {
-        count::estimate_all_strings(alloc, handle, &strings, estimates)
+        count::estimate_all(alloc, handle, strings, estimates)
     })
 }
 
@@ -279,6 +277,6 @@ pub extern "C" fn ds_frequent_items_string_bounds_all(
     ensures untouched { result ≢ ok → bounds.new ≡ bounds.old }
 {
     on_strings!(strings_for(bounds.len(), bytes, offsets), strings => {
-        bounds_all_strings(alloc, handle, &strings, bounds)
+        frequent::bounds_all::<String, OffsetStrings<&[u64]>>(alloc, handle, strings, bounds)
     })
 }

@@ -9,7 +9,10 @@ use crate::status_code::{NO_ROOM, refusal_number};
 use sketch_base::{ByteStrings, Fault, OffsetStrings, are_offsets};
 
 /// Returns the strings of a buffer with offsets, or the number of the first error: `BadOffsets` or `InvalidUtf8`.
-pub(crate) fn strings_in<'a>(bytes: &'a [u8], offsets: &'a [u64]) -> Result<OffsetStrings<'a>, i32>
+pub(crate) fn strings_in<'a>(
+    bytes: &'a [u8],
+    offsets: &'a [u64],
+) -> Result<OffsetStrings<'a, &'a [u64]>, i32>
     ensures { MatchResult result
         (λ strings. AreStrings bytes.now offsets.now × (strings ≡ strings_of bytes.now offsets.now))
         (AreRefused bytes.now offsets.now) }
@@ -26,7 +29,7 @@ pub(crate) fn strings_for<'a>(
     places: usize,
     bytes: &'a [u8],
     offsets: &'a [u64],
-) -> Result<OffsetStrings<'a>, i32>
+) -> Result<OffsetStrings<'a, &'a [u64]>, i32>
     ensures { MatchResult result
         (λ strings. AreStringsIn places bytes.now offsets.now × (strings ≡ strings_of bytes.now offsets.now)
         × (length strings ≡ places))

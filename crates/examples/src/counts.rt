@@ -1,8 +1,8 @@
 //! Examples of Count-Min sketches: weights in a table of a fixed size.
-use sketch_base::Error;
+use sketch_base::{Error, Strs, Words};
 use sketch_countmin::{
-    CountMinSizes, CountMinSketch, CountMinValue, UnsignedCountMinValue, suggest_num_buckets,
-    suggest_num_hashes,
+    CountMinImageOptions, CountMinItems, CountMinSizes, CountMinSketch, CountMinValue, RowItem,
+    UnsignedCountMinValue, suggest_num_buckets, suggest_num_hashes,
 };
 use std::alloc::Global;
 
@@ -50,18 +50,22 @@ pub fn sent_counts(
     counts: &CountMinSketch<u64>,
 ) -> Result<CountMinSketch<u64>, Error> {
     let image = counts.serialize()?;
-    CountMinSketch::deserialize_with_seed_and_limit(alloc, &image, counts.seed(), 1 << 20)
+    let options = CountMinImageOptions {
+        seed: counts.seed(),
+        max_bytes: 1 << 20,
+    };
+    CountMinSketch::deserialize_with_options(alloc, &image, options)
 }
 
 /// Returns the sum of the sketches of two images that stand one after the other.
 pub fn sum_of_two_images(
     alloc: Global,
     images: &[u8],
-    seed: u64,
+    options: CountMinImageOptions,
 ) -> Result<CountMinSketch<u64>, Error> {
-    let (mut first, used) = CountMinSketch::deserialize_prefix(alloc, images, seed, 1 << 20)?;
+    let (mut first, used) = CountMinSketch::deserialize_prefix(alloc, images, options)?;
     let rest = &images[used..];
-    let (second, _) = CountMinSketch::deserialize_prefix(alloc, rest, seed, 1 << 20)?;
+    let (second, _) = CountMinSketch::deserialize_prefix(alloc, rest, options)?;
     first.merge(&second)?;
     Ok(first)
 }
@@ -84,13 +88,28 @@ pub fn count_batch(visits: &mut CountMinSketch<u32>, users: &[u64]) -> Result<()
     visits.update_all(users)
 }
 
+/// Counts the words of a text.
+pub fn count_text(counts: &mut CountMinSketch<u64>, text: &str) -> Result<(), Error> {
+    counts.update_all(Words::new(text))
+}
+
+/// Counts the items of a day, in any sequence.
+pub fn counts_of_day<I: CountMinItems<u64>>(
+    alloc: Global,
+    visits: I,
+) -> Result<CountMinSketch<u64>, Error> {
+    let mut counts = CountMinSketch::new(alloc, 4, 1024)?;
+    counts.update_all(visits)?;
+    Ok(counts)
+}
+
 /// Counts the bytes that two hosts sent.
 pub fn count_bytes(
     traffic: &mut CountMinSketch<u64>,
-    hosts: [u32; 2],
+    hosts: &[&str; 2],
     bytes: [u64; 2],
 ) -> Result<(), Error> {
-    traffic.update_all_weighted(&hosts, &bytes)
+    traffic.update_all_with_weights(Strs(hosts), &bytes)
 }
 
 /// Adds the traffic of both days of a weekend to that of the week.
@@ -103,9 +122,9 @@ pub fn add_weekend(
 }
 
 /// Returns the visits of two users.
-pub fn visits_of(visits: &CountMinSketch<u32>, users: [u64; 2]) -> [u32; 2] {
+pub fn visits_of(visits: &CountMinSketch<u32>, users: &[u64; 2]) -> [u32; 2] {
     let mut estimates = [0; 2];
-    visits.estimate_all(&users, &mut estimates);
+    visits.estimate_all(users.as_slice(), &mut estimates);
     estimates
 }
 
@@ -114,12 +133,57 @@ pub fn halve<T: UnsignedCountMinValue>(counts: &mut CountMinSketch<T>) {
     counts.halve();
 }
 
-/// Counts the words of a text.
-pub fn count_text(counts: &mut CountMinSketch<u64>, text: &str) -> Result<(), Error> {
-    counts.update_words(text)
+/// Counts a visit of a page.
+pub fn count_page(visits: &mut CountMinSketch<u64>, page: &str) -> Result<(), Error> {
+    visits.update_item(page)
 }
 
-/// Counts the lines of a log.
-pub fn count_queries(counts: &mut CountMinSketch<u64>, log: &str) -> Result<(), Error> {
-    counts.update_lines(log)
+/// Adds pieces of a fruit, or takes them away.
+pub fn sell(stock: &mut CountMinSketch<i64>, fruit: &str, pieces: i64) -> Result<(), Error> {
+    stock.update_item_with_weight(fruit, pieces)
+}
+
+/// Returns the visits of a page.
+pub fn visits_of_page(visits: &CountMinSketch<u64>, page: &str) -> u64 {
+    visits.estimate_item(page)
+}
+
+/// Returns an upper bound of the visits of a page.
+pub fn most_visits_of_page(visits: &CountMinSketch<u64>, page: &str) -> u64 {
+    visits.upper_bound_item(page)
+}
+
+/// Returns the visits of a page today and before.
+pub fn visits_of_both<R: RowItem<u32> + Copy + Drop>(
+    today: &CountMinSketch<u32>,
+    before: &CountMinSketch<u32>,
+    page: R,
+) -> u32 {
+    today
+        .estimate_item(page)
+        .saturating_add(before.estimate_item(page))
+}
+
+/// Counts a visit of each user.
+pub fn count_visits(visits: &mut CountMinSketch<u64>, users: &[u64]) -> Result<(), Error> {
+    visits.update_all(users)
+}
+
+/// Counts each word of a string.
+pub fn count_words(counts: &mut CountMinSketch<u64>, text: &str) -> Result<(), Error> {
+    counts.update_all(Words::new(text))
+}
+
+/// Reads a sketch from an untrusted image, with a limit of a MiB.
+pub fn uploaded_counts(alloc: Global, image: &[u8]) -> Result<CountMinSketch<u64>, Error> {
+    let mut options = CountMinImageOptions::default();
+    options.max_bytes = 1 << 20;
+    CountMinSketch::deserialize_with_options(alloc, image, options)
+}
+
+/// Returns the visits of a day, and sets the sketch to nothing.
+pub fn begin_next_day(visits: &mut CountMinSketch<u64>) -> u64 {
+    let visits_of_day = visits.total_weight();
+    visits.reset();
+    visits_of_day
 }

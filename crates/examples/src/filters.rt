@@ -1,5 +1,5 @@
 //! Examples of filters: which items were seen.
-use sketch_base::Error;
+use sketch_base::{Error, Lines, OffsetStrings, Strs, Words};
 use sketch_bloom::{BloomFilter, BloomFilterBuilder, suggest_num_bits, suggest_num_hashes};
 use std::alloc::Global;
 
@@ -63,17 +63,54 @@ pub fn orders_to_join(alloc: Global, customers: &[u64], orders: &[u64]) -> Resul
     Ok(kept)
 }
 
+/// Inserts numbers.
+pub fn insert_numbers(filter: &mut BloomFilter, numbers: &[u64]) {
+    filter.insert_all(numbers);
+}
+
+/// Inserts the words of a text, and returns whether a word is among them.
+pub fn vocabulary_has(vocabulary: &mut BloomFilter, text: &str, word: &str) -> bool {
+    vocabulary.insert_all(Words::new(text));
+    vocabulary.contains_item(word)
+}
+
+/// Inserts the lines of a list, and returns whether a name is among them.
+pub fn block_list_has(blocked: &mut BloomFilter, list: &str, name: &str) -> bool {
+    blocked.insert_all(Lines::new(list));
+    blocked.contains_item(name)
+}
+
+/// Inserts the names of a buffer.
+pub fn block_names(blocked: &mut BloomFilter, names: &[u8], ends: &[u64]) -> Result<(), Error> {
+    blocked.insert_all(OffsetStrings::new(names, ends)?);
+    Ok(())
+}
+
 /// Returns which of four visitors are known.
 pub fn known_of_four(seen: &BloomFilter, visitors: &[u64; 4]) -> [bool; 4] {
     let mut known = [false; 4];
-    seen.contains_all(visitors, &mut known);
+    seen.contains_all(visitors.as_slice(), &mut known);
     known
+}
+
+/// Returns for each of four names whether it is blocked.
+pub fn are_blocked(blocked: &BloomFilter, names: &[&str; 4]) -> [bool; 4] {
+    let mut answers = [false; 4];
+    blocked.contains_all(Strs(names), &mut answers);
+    answers
 }
 
 /// Inserts four visitors, and returns which of them were seen before.
 pub fn repeated_of_four(seen: &mut BloomFilter, visitors: &[u64; 4]) -> [bool; 4] {
     let mut repeated = [false; 4];
-    seen.contains_and_insert_all(visitors, &mut repeated);
+    seen.contains_and_insert_all(visitors.as_slice(), &mut repeated);
+    repeated
+}
+
+/// Inserts four names, and returns for each whether it was contained before.
+pub fn repeated_names(seen: &mut BloomFilter, names: &[&str; 4]) -> [bool; 4] {
+    let mut repeated = [false; 4];
+    seen.contains_and_insert_all(Strs(names), &mut repeated);
     repeated
 }
 
@@ -86,24 +123,34 @@ pub fn add_visitors_of_weekend(
     week.union_all(&[saturday, sunday])
 }
 
-/// Inserts the words of a text, and returns whether a word is among them.
-pub fn vocabulary_has(vocabulary: &mut BloomFilter, text: &str, word: &str) -> bool {
-    vocabulary.insert_words(text);
-    vocabulary.contains(&word)
+/// Returns whether an apple is in the union of an empty filter and one that contains it.
+pub fn contained_in_union(alloc: Global) -> Result<bool, Error> {
+    let mut all = BloomFilterBuilder::with_size(959, 7).build(alloc)?;
+    let mut new = BloomFilterBuilder::with_size(959, 7).build(alloc)?;
+    new.insert("apple");
+    if all.is_compatible(&new) {
+        all |= &new;
+    }
+    Ok(all.contains(&"apple"))
 }
 
-/// Inserts the lines of a list, and returns whether a name is among them.
-pub fn block_list_has(blocked: &mut BloomFilter, list: &str, name: &str) -> bool {
-    blocked.insert_lines(list);
-    blocked.contains(&name)
+/// Inserts the even numbers.
+pub fn insert_even(filter: &mut BloomFilter, numbers: &[u64]) -> Result<(), Error> {
+    filter.extend(numbers.iter().filter(|n| **n % 2 == 0))?;
+    Ok(())
 }
 
 /// Returns whether a name is blocked.
 pub fn is_blocked(blocked: &BloomFilter, name: &str) -> bool {
-    blocked.contains_str(name)
+    blocked.contains_item(name)
+}
+
+/// Inserts a name, and returns whether it was contained before.
+pub fn is_repeated(seen: &mut BloomFilter, name: &str) -> bool {
+    seen.contains_and_insert_item(name)
 }
 
 /// Blocks a name.
 pub fn block(blocked: &mut BloomFilter, name: &str) {
-    blocked.insert_str(name);
+    blocked.insert_item(name);
 }

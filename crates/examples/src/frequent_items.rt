@@ -1,11 +1,11 @@
 //! Examples of frequent items: the items of the largest weights.
-use counter_table::{ReversePurgeItemHashMap, Slot};
-use sketch_base::SketchBytes;
+use counter_table::{EqualClone, ItemKey, Keys, ReversePurgeItemHashMap, Slot};
+use sketch_base::{SketchBytes, Strs, Words};
 use sketch_frequencies::{
-    Error, ErrorType, FrequentItemValue, FrequentItemsSizes, FrequentItemsSketch, ItemBounds, Row,
-    TableKey, suggest_max_map_size,
+    Error, ErrorType, FrequentItemValue, FrequentItemsImageOptions, FrequentItemsSizes,
+    FrequentItemsSketch, HashKey, ItemBounds, Row, TableKey, suggest_max_map_size,
 };
-use std::alloc::Global;
+use std::alloc::{AllocError, Global};
 
 /// Returns the maximum estimate among the numbers.
 pub fn heaviest(alloc: Global, numbers: &[u64]) -> Result<Option<u64>, Error> {
@@ -27,6 +27,23 @@ pub fn sketch_of_visitors(
     Ok(sketch)
 }
 
+/// Creates a sketch of the words of a line.
+pub fn words_of_line(alloc: Global, line: &str) -> Result<FrequentItemsSketch<String>, Error> {
+    let mut sketch = FrequentItemsSketch::new(alloc, 1024)?;
+    sketch.update_all(Words::new(line))?;
+    Ok(sketch)
+}
+
+/// Adds a word, and allocates only if it is not tracked.
+pub fn add_word(words: &mut FrequentItemsSketch<String>, word: &str) -> Result<(), Error> {
+    words.update_item_with_count(word, 1)
+}
+
+/// Adds the prices of two fruits in one call.
+pub fn add_prices(prices: &mut FrequentItemsSketch<String>) -> Result<(), Error> {
+    prices.update_all_with_counts(Strs(&["apple", "pear"]), &[30, 45])
+}
+
 /// Creates a sketch whose purges are cheap.
 pub fn with_cheap_purges(alloc: Global, key: TableKey) -> Result<FrequentItemsSketch<u64>, Error> {
     let sizes = FrequentItemsSizes {
@@ -34,34 +51,6 @@ pub fn with_cheap_purges(alloc: Global, key: TableKey) -> Result<FrequentItemsSk
         sample_size: 64,
     };
     FrequentItemsSketch::with_sizes(alloc, sizes, key)
-}
-
-/// Adds the bytes of three pages in one call.
-pub fn add_bytes(
-    bytes: &mut FrequentItemsSketch<u64>,
-    pages: &[u64; 3],
-    sizes: &[u64; 3],
-) -> Result<(), Error> {
-    bytes.update_all_weighted(pages, sizes)
-}
-
-/// Adds the visits of three pages in one call.
-pub fn add_visits(
-    visits: &mut FrequentItemsSketch<u64>,
-    pages: &[u64; 3],
-    counts: &[u64; 3],
-) -> Result<(), Error> {
-    visits.update_all_weighted_copied(pages, counts)
-}
-
-/// Adds three words in one call.
-pub fn add_fruit(words: &mut FrequentItemsSketch<String>) -> Result<(), Error> {
-    words.update_all_by_key(&["apple", "pear", "apple"])
-}
-
-/// Adds the prices of two fruits in one call.
-pub fn add_prices(prices: &mut FrequentItemsSketch<String>) -> Result<(), Error> {
-    prices.update_all_weighted_by_key(&["apple", "pear"], &[30, 45])
 }
 
 /// Creates a sketch whose error is at most a hundredth of all visits.
@@ -72,48 +61,20 @@ pub fn visits_within_a_percent(alloc: Global) -> Result<FrequentItemsSketch<u64>
 /// Returns the weights of four pages in one call.
 pub fn weights_of_four(visits: &FrequentItemsSketch<u64>, pages: &[u64; 4]) -> [u64; 4] {
     let mut weights = [0; 4];
-    visits.estimate_all(pages, &mut weights);
+    visits.estimate_all(pages.as_slice(), &mut weights);
     weights
-}
-
-/// Writes the bounds of four pages in one call.
-pub fn bounds_of_pages(
-    visits: &FrequentItemsSketch<u64>,
-    pages: &[u64; 4],
-    bounds: &mut [ItemBounds; 4],
-) {
-    visits.bounds_all(pages, bounds);
 }
 
 /// Writes the bounds of two words in one call.
 pub fn bounds_of_fruit(words: &FrequentItemsSketch<String>, bounds: &mut [ItemBounds; 2]) {
-    words.bounds_all_by_key(&["apple", "pear"], bounds);
-}
-
-/// Creates a sketch of the words of a line.
-pub fn words_of_line(alloc: Global, line: &str) -> Result<FrequentItemsSketch<String>, Error> {
-    let mut sketch = FrequentItemsSketch::new(alloc, 1024)?;
-    sketch.update_words(line)?;
-    Ok(sketch)
-}
-
-/// Creates a sketch of the lines of a log.
-pub fn lines_of_log(alloc: Global, log: &str) -> Result<FrequentItemsSketch<String>, Error> {
-    let mut sketch = FrequentItemsSketch::new(alloc, 1024)?;
-    sketch.update_lines(log)?;
-    Ok(sketch)
-}
-
-/// Adds a word, and allocates only if it is not tracked.
-pub fn add_word(words: &mut FrequentItemsSketch<String>, word: &str) -> Result<(), Error> {
-    words.update_with_count_by_key(word, 1)
+    words.bounds_all(Strs(&["apple", "pear"]), bounds);
 }
 
 /// Returns the upper bound of the number of times that a line has the word 'the'.
 pub fn largest_weight_of_the(alloc: Global, line: &str) -> Result<u64, Error> {
     let mut words: FrequentItemsSketch<String> = FrequentItemsSketch::new(alloc, 1024)?;
-    words.update_words(line)?;
-    Ok(words.upper_bound_by_key("the"))
+    words.update_all(Words::new(line))?;
+    Ok(words.upper_bound_item("the"))
 }
 
 /// Creates a sketch of `apples` apples.
@@ -168,7 +129,11 @@ pub fn sent_pages(
     pages: &FrequentItemsSketch<u64>,
 ) -> Result<FrequentItemsSketch<u64>, Error> {
     let image = pages.serialize()?;
-    FrequentItemsSketch::deserialize_with_limit(alloc, &image, 1 << 20)
+    let options = FrequentItemsImageOptions {
+        max_bytes: 1 << 20,
+        key: TableKey::Plain,
+    };
+    FrequentItemsSketch::deserialize_with_options(alloc, &image, options)
 }
 
 /// Returns whether a sketch takes more bytes than the budget.
@@ -221,4 +186,27 @@ pub fn most_visited(visits: &ReversePurgeItemHashMap<u64>) -> Option<u64> {
         }
     }
     most
+}
+
+/// Returns an item and its clone.
+pub fn twice<T: EqualClone>(item: T) -> Result<(T, T), AllocError> {
+    let clone = item.clone()?;
+    Ok((item, clone))
+}
+
+/// Returns whether a text has a word.
+pub fn has_word(text: &str, word: &String) -> bool {
+    let mut words = Words::new(text);
+    while let Some(key) = words.next_key() {
+        if key.names(word) {
+            return true;
+        }
+    }
+    false
+}
+
+/// Creates a sketch whose table hashes under a random key.
+pub fn senders(alloc: Global, random: &[u8; 16]) -> Result<FrequentItemsSketch<u64>, Error> {
+    let key = TableKey::Keyed(HashKey::from_bytes(random));
+    FrequentItemsSketch::with_key(alloc, 1024, key)
 }

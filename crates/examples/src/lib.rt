@@ -18,8 +18,6 @@ mod images;
 #[cfg(test)]
 mod keys;
 #[cfg(test)]
-mod many_strings;
-#[cfg(test)]
 mod map_keys;
 #[cfg(test)]
 mod session;

@@ -1,18 +1,23 @@
 //! Examples of frequent items that others choose, and the test of these and of the other examples with keys.
+use crate::frequent_items::senders;
 use crate::map_keys::{ages, key_of};
 use crate::session::{keyed_session, session_of_strangers};
 use crate::windows::{keyed_load, load_of_strangers};
 use datasketches::{Command, Reply, Session};
 use heavy_windows::HeavyWindows;
-use sketch_frequencies::{Error, ErrorType, FrequentItemsSketch, HashKey, TableKey};
+use sketch_frequencies::{
+    Error, ErrorType, FrequentItemsImageOptions, FrequentItemsSketch, HashKey, TableKey,
+};
 use std::alloc::Global;
 use std::hash::RandomState;
 use std::test::Fail;
 
-/// Creates a sketch whose table hashes under a random key.
-pub fn senders(alloc: Global, random: &[u8; 16]) -> Result<FrequentItemsSketch<u64>, Error> {
-    let key = TableKey::Keyed(HashKey::from_bytes(random));
-    FrequentItemsSketch::with_key(alloc, 1024, key)
+/// Returns options for untrusted images: a limit of a MiB, and a key.
+pub fn options_for_untrusted(key: TableKey) -> FrequentItemsImageOptions {
+    FrequentItemsImageOptions {
+        max_bytes: 1 << 20,
+        key,
+    }
 }
 
 /// Reads a sketch from an untrusted image. Its table hashes under a key.
@@ -21,7 +26,11 @@ pub fn received(
     image: &[u8],
     key: TableKey,
 ) -> Result<FrequentItemsSketch<u64>, Error> {
-    FrequentItemsSketch::deserialize_with_limit_and_key(alloc, image, 1 << 20, key)
+    let options = FrequentItemsImageOptions {
+        max_bytes: 1 << 20,
+        key,
+    };
+    FrequentItemsSketch::deserialize_with_options(alloc, image, options)
 }
 
 /// Returns the weight of a sender in a sketch that is read from its image.

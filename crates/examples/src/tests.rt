@@ -22,63 +22,60 @@ use crate::counts::bytes_of_apple;
 use crate::counts::bytes_within_a_thousandth;
 use crate::counts::count_batch;
 use crate::counts::count_bytes;
-use crate::counts::count_queries;
+use crate::counts::count_page;
 use crate::counts::count_text;
+use crate::counts::counts_of_day;
 use crate::counts::halve;
+use crate::counts::most_visits_of_page;
+use crate::counts::sell;
 use crate::counts::sent_counts;
 use crate::counts::visits_of;
+use crate::counts::visits_of_both;
+use crate::counts::visits_of_page;
 use crate::counts::weight_of_all;
 use crate::filters::add_visitors_of_weekend;
+use crate::filters::are_blocked;
 use crate::filters::block;
 use crate::filters::block_list_has;
+use crate::filters::block_names;
+use crate::filters::contained_in_union;
 use crate::filters::filter_for;
 use crate::filters::filter_of_visitors;
+use crate::filters::insert_even;
+use crate::filters::insert_numbers;
 use crate::filters::is_blocked;
 use crate::filters::is_first_visit;
+use crate::filters::is_repeated;
 use crate::filters::known_of_four;
 use crate::filters::orders_to_join;
+use crate::filters::repeated_names;
 use crate::filters::repeated_of_four;
 use crate::filters::seen_by_both;
 use crate::filters::still_refused;
 use crate::filters::vocabulary_has;
+use crate::frequent_items::add_prices;
 use crate::frequent_items::add_word;
 use crate::frequent_items::apples_of_both_shops;
+use crate::frequent_items::bounds_of_fruit;
 use crate::frequent_items::bytes_of;
 use crate::frequent_items::counts_visit;
+use crate::frequent_items::has_word;
 use crate::frequent_items::heavier_pages;
 use crate::frequent_items::heaviest;
 use crate::frequent_items::kind_of_report;
 use crate::frequent_items::largest_weight_of_the;
-use crate::frequent_items::lines_of_log;
 use crate::frequent_items::longest_look_up;
 use crate::frequent_items::most_visited;
 use crate::frequent_items::sent_pages;
 use crate::frequent_items::sketch_of_visitors;
 use crate::frequent_items::surely_weighs_more;
 use crate::frequent_items::takes_too_much;
+use crate::frequent_items::twice;
 use crate::frequent_items::visits_of_four;
 use crate::frequent_items::visits_within_a_percent;
 use crate::frequent_items::weights_of_four;
 use crate::frequent_items::words_of_line;
 use crate::images::sent;
-use crate::many_strings::add_fruit_prices;
-use crate::many_strings::add_names;
-use crate::many_strings::are_blocked;
-use crate::many_strings::are_repeated;
-use crate::many_strings::block_names;
-use crate::many_strings::bounds_of_two;
-use crate::many_strings::can_be_cut;
-use crate::many_strings::count_all_names;
-use crate::many_strings::count_host_bytes;
-use crate::many_strings::count_page;
-use crate::many_strings::first_and_count;
-use crate::many_strings::hashes_of_name;
-use crate::many_strings::number_of_fruit;
-use crate::many_strings::number_of_names;
-use crate::many_strings::sell;
-use crate::many_strings::shard_of_name;
-use crate::many_strings::visits_of_both;
-use crate::many_strings::visits_of_page;
 use crate::session::has_seen_seven;
 use crate::session::is_done;
 use crate::session::is_exact;
@@ -87,13 +84,21 @@ use crate::session::refusal_of_an_unknown_name;
 use crate::session::takes_filter;
 use crate::session::visits_by_seven;
 use crate::session::word_for;
+use crate::strings::can_be_cut;
 use crate::strings::complete_lines;
 use crate::strings::complete_words;
 use crate::strings::first_field;
-use crate::strings::first_two;
+use crate::strings::first_line;
+use crate::strings::first_of_three;
+use crate::strings::hashes_of_name;
 use crate::strings::is_pair;
 use crate::strings::is_text;
-use crate::strings::number_of_lines;
+use crate::strings::last_word;
+use crate::strings::longest;
+use crate::strings::number_of_fruit;
+use crate::strings::number_of_names;
+use crate::strings::number_of_words;
+use crate::strings::shard_of_name;
 use crate::windows::load_of_a_customer;
 use crate::windows::weight_of_the_first;
 use counter_table::ReversePurgeItemHashMap;
@@ -105,6 +110,9 @@ use datasketches::Status;
 use datasketches::bloom::BloomFilterBuilder;
 use datasketches::error::Error;
 use sketch_base::Fault;
+use sketch_base::Lines;
+use sketch_base::OffsetStrings;
+use sketch_base::Strs;
 use sketch_base::murmur3_of;
 use sketch_countmin::CountMinSketch;
 use sketch_frequencies::ErrorType;
@@ -147,9 +155,10 @@ fn bytes_are_as_the_docs_say(rt: HostRuntime) {
 #[test]
 fn words_and_lines_are_as_the_docs_say(rt: HostRuntime) {
     assert!(rt; first_field(b"add apple 5") == b"add".as_slice());
-    assert!(rt; first_two("  one\t\ntwo three") == ("one", "two"));
+    assert!(rt; number_of_words("  one\t\ntwo three") == 3 && last_word("one two ") == "two");
     assert!(rt; is_pair(" one  two") && !is_pair("one two three"));
-    assert!(rt; number_of_lines("one\r\n\ntwo") == 3);
+    assert!(rt; first_line("one\r\n\ntwo") == "one" && first_line("") == "");
+    assert!(rt; longest(Lines::new("one\r\n\nthree")) == "three");
     assert!(rt; complete_words(b"one two thr") == b"one two ".as_slice());
     assert!(rt; is_text(b"caf\xC3\xA9") && !is_text(b"caf\xC3"));
     assert!(rt; complete_lines(b"one\ntwo\nthr") == b"one\ntwo\n".as_slice());
@@ -193,7 +202,7 @@ fn counts_come_back(alloc: Global) -> Result<(u64, bool), Error> {
 fn batch_of_visits(alloc: Global) -> Result<[u32; 2], Error> {
     let mut visits = CountMinSketch::new(alloc, 4, 128)?;
     count_batch(&mut visits, &[7, 9, 7])?;
-    Ok(visits_of(&visits, [7, 9]))
+    Ok(visits_of(&visits, &[7, 9]))
 }
 
 /// Returns which of four visits of a Saturday were repeated, and which of four visitors are known in a week with it.
@@ -223,7 +232,7 @@ fn strings_of_a_filter(alloc: Global) -> Result<(bool, bool, bool, bool), Error>
 fn strings_of_counts(alloc: Global) -> Result<(u64, u64), Error> {
     let mut counts = CountMinSketch::new(alloc, 4, 128)?;
     count_text(&mut counts, "be or be")?;
-    count_queries(&mut counts, "be\nor not\n")?;
+    counts.update_all(Lines::new("be\nor not\n"))?;
     Ok((counts.estimate("be"), counts.estimate("or not")))
 }
 
@@ -231,6 +240,23 @@ fn strings_of_counts(alloc: Global) -> Result<(u64, u64), Error> {
 fn strings_are_as_the_docs_say(rt: HostRuntime) {
     assert!(rt; strings_of_a_filter(rt.alloc()) == Ok((true, true, true, false)));
     assert!(rt; strings_of_counts(rt.alloc()) == Ok((3, 1)));
+    assert!(rt; numbers_of_a_filter(rt.alloc()) == Ok(([true, false, true], false, true)));
+    assert!(rt; contained_in_union(rt.alloc()) == Ok(true));
+}
+
+/// Returns whether a filter contains an even number, an odd one and another number, each inserted by its call, and whether
+/// a name was repeated at its first and at its second insertion.
+fn numbers_of_a_filter(alloc: Global) -> Result<([bool; 3], bool, bool), Error> {
+    let mut filter = filter_of_visitors(alloc)?;
+    insert_even(&mut filter, &[1, 2])?;
+    insert_numbers(&mut filter, &[8]);
+    let answers = [
+        filter.contains(&2u64),
+        filter.contains(&1u64),
+        filter.contains(&8u64),
+    ];
+    let first = is_repeated(&mut filter, "ann");
+    Ok((answers, first, is_repeated(&mut filter, "ann")))
 }
 
 /// Returns whether names of a buffer are blocked, and which of four names were seen before.
@@ -240,53 +266,61 @@ fn many_names_of_a_filter(alloc: Global) -> Result<([bool; 4], [bool; 4]), Error
     let blocked = are_blocked(&names, &["bob", "eve", "ann", "annbob"]);
     Ok((
         blocked,
-        are_repeated(&mut names, &["eve", "ann", "eve", "dan"]),
+        repeated_names(&mut names, &["eve", "ann", "eve", "dan"]),
     ))
 }
 
-/// Returns the visits of two pages after three calls, and a count that went below zero.
-fn many_names_of_counts(alloc: Global) -> Result<(u64, u64, i64), Error> {
+/// Returns the visits of two pages after three calls, an upper bound of those of the first, and a count that went below
+/// zero.
+fn many_names_of_counts(alloc: Global) -> Result<(u64, u64, u64, i64), Error> {
     let mut visits = CountMinSketch::new(alloc, 4, 128)?;
     count_page(&mut visits, "ann")?;
-    count_all_names(&mut visits, b"annbob", &[0, 3, 6])?;
-    count_host_bytes(&mut visits, &["bob", "eve"])?;
+    visits.update_all(OffsetStrings::new(b"annbob", [0_u64, 3, 6].as_slice())?)?;
+    count_bytes(&mut visits, &["bob", "eve"], [1500, 40])?;
     let mut stock = CountMinSketch::new(alloc, 4, 128)?;
     sell(&mut stock, "apple", -3)?;
     Ok((
         visits_of_page(&visits, "ann"),
         visits_of_page(&visits, "bob"),
+        most_visits_of_page(&visits, "ann"),
         stock.estimate("apple"),
     ))
 }
 
-/// Returns the estimates of two pages, one of which was counted.
-fn many_pages(alloc: Global) -> Result<[u32; 2], Error> {
+/// Returns the estimates of two pages, one of which was counted, and twice the estimate of that one.
+fn many_pages(alloc: Global) -> Result<([u32; 2], u32), Error> {
     let mut visits = CountMinSketch::new(alloc, 4, 128)?;
     visits.update("home")?;
-    Ok(visits_of_both(&visits, &["home", "help"]))
+    let mut estimates = [0; 2];
+    visits.estimate_all(Strs(&["home", "help"]), &mut estimates);
+    Ok((estimates, visits_of_both(&visits, &visits, "home")))
+}
+
+/// Returns the estimate of a visitor of a day.
+fn visits_of_day(alloc: Global, visitors: &[u64]) -> Result<u64, Error> {
+    Ok(counts_of_day(alloc, visitors)?.estimate(7u64))
 }
 
 /// Returns the lower bounds of two fruits after names and prices.
 fn many_fruits(alloc: Global) -> Result<(u64, u64), Error> {
     let mut sketch = FrequentItemsSketch::new(alloc, 64)?;
-    add_names(&mut sketch, b"pearpear", &[0, 4, 8])?;
-    add_fruit_prices(&mut sketch)?;
+    sketch.update_all(OffsetStrings::new(b"pearpear", [0_u32, 4, 8].as_slice())?)?;
+    add_prices(&mut sketch)?;
     let none = ItemBounds {
         lower_bound: 0,
         estimate: 0,
         upper_bound: 0,
     };
     let mut bounds = [none; 2];
-    bounds_of_two(&sketch, &mut bounds);
+    bounds_of_fruit(&sketch, &mut bounds);
     let [apple, pear] = bounds;
     Ok((apple.lower_bound, pear.upper_bound))
 }
 
 /// Returns whether strings in three forms are those that went in.
 fn strings_in_three_forms() -> bool {
-    let names: &[&str] = &["ann", "bob"];
     let cut = can_be_cut(b"annbob", &[0, 3, 6]) && !can_be_cut(b"annbob", &[0, 7]);
-    cut && first_and_count(&names) == ("ann", 2)
+    cut && first_of_three(&["ann", "bob", "eve"]) == "ann"
         && number_of_fruit() == Ok(2)
         && number_of_names(&[b"ann", b"\xff"]).is_err()
 }
@@ -294,6 +328,7 @@ fn strings_in_three_forms() -> bool {
 /// Returns whether a string's hashes are those of the string as an item.
 fn hashes_of_a_string() -> bool {
     shard_of_name("ann") == shard_of("ann")
+        && crate::strings::shard_of(&"ann") == shard_of("ann")
         && hashes_of_name("a string of more than 16 bytes", (1, 2)).1
             == murmur3_of(&"a string of more than 16 bytes", 2).0
 }
@@ -304,8 +339,9 @@ fn many_strings_are_as_the_docs_say(rt: HostRuntime) {
         many_names_of_a_filter(rt.alloc())
             == Ok(([true, false, true, false], [false, true, true, false]))
     );
-    assert!(rt; many_names_of_counts(rt.alloc()) == Ok((2, 1501, -3)));
-    assert!(rt; many_pages(rt.alloc()) == Ok([1, 0]));
+    assert!(rt; many_names_of_counts(rt.alloc()) == Ok((2, 1501, 34, -3)));
+    assert!(rt; many_pages(rt.alloc()) == Ok(([1, 0], 2)));
+    assert!(rt; visits_of_day(rt.alloc(), &[7, 9, 7]) == Ok(2));
     assert!(rt; many_fruits(rt.alloc()) == Ok((30, 47)));
     assert!(rt; strings_in_three_forms());
     assert!(rt; hashes_of_a_string());
@@ -314,7 +350,7 @@ fn many_strings_are_as_the_docs_say(rt: HostRuntime) {
 /// Returns the bytes of two hosts in a week of three equal days.
 fn bytes_of_week(alloc: Global) -> Result<(u64, u64), Error> {
     let mut week = CountMinSketch::new(alloc, 4, 128)?;
-    count_bytes(&mut week, [7, 9], [5, 6])?;
+    week.update_all_with_weights([7u32, 9].as_slice(), &[5, 6])?;
     let saturday = week.try_clone()?;
     add_weekend(&mut week, &saturday, &saturday)?;
     Ok((week.estimate(7u32), week.estimate(9u32)))
@@ -370,7 +406,8 @@ fn num_words(alloc: Global, line: &str, word: &str) -> Result<(u64, usize), Erro
 
 /// Returns the number of lines of a log, and how many of them are distinct.
 fn num_lines(alloc: Global, log: &str) -> Result<(u64, usize), Error> {
-    let lines = lines_of_log(alloc, log)?;
+    let mut lines: FrequentItemsSketch<String> = FrequentItemsSketch::new(alloc, 1024)?;
+    lines.update_all(Lines::new(log))?;
     Ok((lines.total_weight(), lines.num_active_items()))
 }
 
@@ -423,12 +460,20 @@ fn page_takes_too_much(alloc: Global, budget: usize) -> Result<bool, Error> {
     Ok(takes_too_much(&pages, budget))
 }
 
+/// Returns whether two texts have a word.
+fn has_a_word(alloc: Global, word: &str) -> Result<(bool, bool), Error> {
+    let word = String::from_str(alloc, word)?;
+    Ok((has_word("to be", &word), has_word("to bee", &word)))
+}
+
 #[test]
 fn frequent_items_and_tables_are_as_the_docs_say(rt: HostRuntime) {
     assert!(rt; heavier_than_three(rt.alloc()) == Ok((1, 1)));
     assert!(rt; is_above_itself(rt.alloc()) == Ok(Some(false)));
     assert!(rt; kind_of_report(true) == ErrorType::NoFalsePositives);
     assert!(rt; weights_of_pages(rt.alloc()) == Ok([2, 1, 0, 2]));
+    assert!(rt; twice(7u64) == Ok((7, 7)));
+    assert!(rt; has_a_word(rt.alloc(), "be") == Ok((true, false)));
     assert!(rt; visit(rt.alloc(), 8) == Ok((true, [1, 0, 1, 0], Some(7), 1)));
     // eight slots of 44 bytes, and the two bytes of the page
     assert!(rt; page_takes_too_much(rt.alloc(), 353) == Ok(true));

@@ -11,21 +11,14 @@ pub fn may_have_key(image: &[u8], key: u64) -> Result<bool, Error> {
 
 /// Returns whether a name is blocked.
 pub fn is_blocked(blocked: &BloomFilterView, name: &str) -> bool {
-    blocked.contains_str(name)
+    blocked.contains_item(name)
 }
 
 /// Returns for each of four visitors whether it was seen.
 pub fn known_of_four(seen: &BloomFilterView, visitors: &[u64; 4]) -> [bool; 4] {
     let mut known = [false; 4];
-    seen.contains_all(visitors, &mut known);
+    seen.contains_all(visitors.as_slice(), &mut known);
     known
-}
-
-/// Returns for each of four names whether it is blocked.
-pub fn are_blocked(blocked: &BloomFilterView, names: &[&str; 4]) -> [bool; 4] {
-    let mut answers = [false; 4];
-    blocked.contains_strings(&names.as_slice(), &mut answers);
-    answers
 }
 
 /// Returns the estimate of a user's visits by the sketch in an image.
@@ -36,5 +29,5 @@ pub fn visits_of_user(image: &[u8], user: u64) -> Result<u32, Error> {
 
 /// Returns the estimate of a site's visits.
 pub fn visits_of_site(visits: &CountMinView<u64>, site: &str) -> u64 {
-    visits.estimate_str(site)
+    visits.estimate_item(site)
 }

@@ -1,5 +1,5 @@
 //! The windows of all tenants.
-ghost use Rattle.std.specs.Prelude.{◌≡◌, ℕ, ◌<◌, ◌≤◌, ◌^◌, [], None, IfOk, IfErr, IsOk, IsTrue, OnOk, IsErrOf};
+ghost use Rattle.std.specs.Prelude.{◌≡◌, ℕ, ◌<◌, ◌≤◌, ◌^◌, [], None, IfOk, IfErr, IsOk, OnOk, IsErrOf};
 ghost use Rattle.sketch_base.specs.Errors.{invalid_argument, no_memory, refusal_of};
 ghost use Rattle.counter_table.specs.declared.table_key.TableKey.TheVariants.{Plain};
 ghost use Rattle.heavy_windows.specs.Calls.{IsMade, IsAddition, IsTurn, IsReport};
@@ -11,7 +11,7 @@ ghost use Rattle.heavy_windows.specs.State.{at_tenant, windows_total, IsWindows}
 use crate::report::Report;
 use crate::windows::Windows;
 use sketch_base::{Error, Fault, MapState};
-use sketch_frequencies::{ErrorType, FrequentItemsSketch, TableKey, check_map_size};
+use sketch_frequencies::{EqualClone, ErrorType, FrequentItemsSketch, TableKey, check_map_size};
 use std::alloc::Global;
 use std::collections::HashMap;
 use std::hash::{Hash, RandomState};
@@ -240,8 +240,8 @@ impl<T: Eq + Hash + Drop> HeavyWindows<T> {
     /// The windows are merged into one new sketch, oldest first (mergeable summaries, Agarwal et al. 2012). The report
     /// has the rows that [`frequent_items_with_threshold`](FrequentItemsSketch::frequent_items_with_threshold) returns
     /// for it, its error and its total weight. The rows are those of the items whose bound is above both the threshold
-    /// and the error. For an unknown tenant there are no rows, and error and total are 0. Clones of items have to equal
-    /// the items.
+    /// and the error. For an unknown tenant there are no rows, and error and total are 0. Items are cloned, and their
+    /// clones equal them ([`EqualClone`]).
     ///
     /// It is proved that
     ///
@@ -264,8 +264,7 @@ impl<T: Eq + Hash + Drop> HeavyWindows<T> {
         threshold: u64,
     ) -> Result<Report<T>, Error>
     where
-        T: Clone,
-        requires clones { (x y : T) → T.is_clone x y → IsTrue (T.eq x y) }
+        T: EqualClone,
         ensures call { IsReport T.eq tenant error_type threshold self.now result }
     {
         let merged = self.merged(tenant)?;
@@ -280,8 +279,7 @@ impl<T: Eq + Hash + Drop> HeavyWindows<T> {
     /// Merges the tenant's windows into a new sketch, oldest first.
     fn merged(&self, tenant: u64) -> Result<FrequentItemsSketch<T>, Error>
     where
-        T: Clone,
-        requires clones { (x y : T) → T.is_clone x y → IsTrue (T.eq x y) }
+        T: EqualClone,
         ensures merged { IfOk result (λ merged.
             IsMerged T.eq self.now.max_map_size self.now.key (at_tenant tenant self.now) merged) }
         ensures overflow { 2 ^ 64 ≤ windows_total (at_tenant tenant self.now)

@@ -20,4 +20,4 @@ mod windows;
 pub use heavy_windows::HeavyWindows;
 pub use report::Report;
 pub use sketch_base::{Error, ErrorKind, Fault};
-pub use sketch_frequencies::{ErrorType, HashKey, Row, TableKey};
+pub use sketch_frequencies::{EqualClone, ErrorType, HashKey, Row, TableKey};

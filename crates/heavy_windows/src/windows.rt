@@ -1,5 +1,5 @@
 //! The windows of one tenant.
-ghost use Rattle.std.specs.Prelude.{◌≡◌, ◌<◌, ◌≤◌, ◌^◌, ◌+◌, ℕ, [], ◌∷◌, false, None, IfOk, IfErr, IsOk, IsTrue, OnOk, OnErr, IsErrOf};
+ghost use Rattle.std.specs.Prelude.{◌≡◌, ◌<◌, ◌≤◌, ◌^◌, ◌+◌, ℕ, [], ◌∷◌, false, None, IfOk, IfErr, IsOk, OnOk, OnErr, IsErrOf};
 ghost use Rattle.sketch_base.specs.Errors.{invalid_argument, no_memory};
 ghost use Rattle.sketch_frequencies.specs.Sizes.{size_fault};
 ghost use Rattle.sketch_frequencies.specs.State.{FrequentState, Overflows, TotalHasRoom, must_double};
@@ -11,7 +11,7 @@ ghost use Rattle.heavy_windows.specs.State.{windows_total};
 ghost use Rattle.heavy_windows.specs.Steps.{AddsToNewest};
 
 use sketch_base::{Error, Fault};
-use sketch_frequencies::{FrequentItemsSketch, TableKey};
+use sketch_frequencies::{EqualClone, FrequentItemsSketch, TableKey};
 use std::alloc::Global;
 use std::collections::VecDeque;
 use std::hash::Hash;
@@ -96,7 +96,7 @@ impl<T: Eq + Hash + Drop> Windows<T> {
     }
 }
 
-impl<T: Eq + Hash + Clone + Drop> Windows<T> {
+impl<T: EqualClone + Hash + Drop> Windows<T> {
     /// Merges the windows into a new sketch under `key`, oldest first.
     pub(crate) fn merged(
         &self,
@@ -104,7 +104,6 @@ impl<T: Eq + Hash + Clone + Drop> Windows<T> {
         max_map_size: usize,
         key: TableKey,
     ) -> Result<FrequentItemsSketch<T>, Error>
-        requires clones { (x y : T) → T.is_clone x y → IsTrue (T.eq x y) }
         requires size { size_fault max_map_size ≡ None }
         ensures merged { IfOk result (λ merged. IsMerged T.eq max_map_size key self.now merged) }
         ensures overflow { 2 ^ 64 ≤ windows_total self.now → IsErrOf result (invalid_argument Fault.WeightOverflow) }

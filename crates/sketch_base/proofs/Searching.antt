@@ -1,5 +1,5 @@
 -- The first place of a byte, of which a vector of bytes is seen at a time.
-use Rattle.std.proofs.Common.{◌≡◌, ◌≢◌, ℕ, ◌+◌, ◌-◌, ◌<◌, ◌≤◌, ◌==◌, Bool, true, false, not, cond, w64, List, length, get_or, take, drop, map, ⊎_elim, inl, inr, refl, sym, ◌∙◌, ap, arith}
+use Rattle.std.proofs.Common.{◌≡◌, ◌≢◌, ℕ, ◌+◌, ◌-◌, ◌<◌, ◌≤◌, ◌==◌, Bool, true, false, not, cond, w64, List, length, get_or, take, drop, ⊎_elim, inl, inr, refl, sym, ◌∙◌, ap, arith}
 use Rattle.std.specs.Int.{trailing_zeros}
 use Rattle.std.specs.List.{position_or_len, prefix_len, slice_range}
 use Rattle.std.proofs.lemmas.Bool.{cases_lt}
@@ -7,7 +7,7 @@ use Rattle.std.proofs.lemmas.Bool.Decides.{eqb_tells}
 use Rattle.std.proofs.lemmas.List.Sums.{position_or_len_is}
 use Rattle.std.proofs.lemmas.Simd.{first_set_mask_l, run_in_chunk_fails, run_in_chunk_stops}
 use Rattle.sketch_base.specs.Split.{IsFirstMarked}
-use lib.Lanes.{mask_l, chunk}
+use lib.Lanes.{chunk}
 
 -- the lowest mark is that of the first place that passes
 lowest_is_first : (b : Bool) (marks len at : ℕ) → (marks == 0) ≡ b → at ≡ cond b len (trailing_zeros w64 marks) → IsFirstMarked marks len at

@@ -1,11 +1,14 @@
 //! Many strings as slices of bytes.
-ghost use Rattle.std.specs.Prelude.{◌≡◌, ◌↔◌, All, IfOk, IsErrOf, IsOk, IsTrue};
+ghost use Rattle.std.specs.Hash as fed;
+ghost use Rattle.std.specs.Prelude.{◌≡◌, ◌↔◌, [], ◌∷◌, length, map, All, IfOk, IsErrOf, IsOk, IsTrue};
 ghost use Rattle.std.specs.Str.{IsUtf8};
 ghost use Rattle.sketch_base.specs.Errors.{invalid_argument};
+ghost use Rattle.sketch_base.specs.Hashes.{fed_bytes};
 ghost use Rattle.sketch_base.specs.Strings.{strings_at};
 
 use crate::error::Error;
 use crate::fault::Fault;
+use crate::items::Items;
 use crate::strings::Strings;
 use crate::utf8::from_utf8;
 use std::marker::Model;
@@ -50,11 +53,11 @@ impl<'a> ByteStrings<'a> {
     /// # Examples
     ///
     /// ```
-    /// use sketch_base::{ByteStrings, Error, Strings};
+    /// use sketch_base::{ByteStrings, Error};
     ///
     /// fn number_of_names(names: &[&[u8]]) -> Result<usize, Error> {
     ///     let names = ByteStrings::new(names)?;
-    ///     Ok(names.count())
+    ///     Ok(names.len())
     /// }
     /// ```
     pub fn new(items: &'a [&'a [u8]]) -> Result<Self, Error>
@@ -69,18 +72,42 @@ impl<'a> ByteStrings<'a> {
         }
         Ok(ByteStrings { items })
     }
-}
 
-impl<'a> Strings for ByteStrings<'a> {
-    ghost list = { λ s. s };
-
+    /// Returns the number of strings.
     #[inline(always)]
-    fn count(&self) -> usize {
+    pub fn len(&self) -> usize
+        ensures { result ≡ length self.now }
+    {
         self.items.len()
     }
 
+    /// Returns whether there are no strings.
     #[inline(always)]
-    fn at(&self, i: usize) -> &str {
-        unsafe { str::from_utf8_unchecked(self.items[i]) }
+    pub fn is_empty(&self) -> bool
+        ensures { IsTrue result ↔ (self.now ≡ []) }
+    {
+        self.items.is_empty()
+    }
+}
+
+impl<'a> Strings<'a> for ByteStrings<'a> {
+    ghost strings = { λ s. s };
+
+    #[inline(always)]
+    fn next_str(&mut self) -> Option<&'a str> {
+        let (first, items) = self.items.split_first()?;
+        *self = ByteStrings { items };
+        Some(unsafe { str::from_utf8_unchecked(*first) })
+    }
+}
+
+impl<'a> Items for ByteStrings<'a> {
+    type Each = &'a str;
+
+    ghost list = { map (fed_bytes fed.str) };
+
+    #[inline(always)]
+    fn next(&mut self) -> Option<&'a str> {
+        self.next_str()
     }
 }

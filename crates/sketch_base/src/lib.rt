@@ -10,7 +10,9 @@
 //! - [`RehashableItem`] hashes one item under several seeds. It feeds an item of few bytes once, and keeps them as
 //!   [`ShortBytes`]. [`RehashableStr`] does so for a string. Both kinds of bytes are [`Rehashable`].
 //! - [`from_utf8`] returns the string of bytes, fast for short ones.
-//! - [`Strings`] are many strings in order: `&[&str]`, [`OffsetStrings`] of one buffer, or [`ByteStrings`].
+//! - An [`Item`] is what a sketch takes: `&T` for each `T` that can be hashed, or `&str`. [`Items`] are many in order:
+//!   slices, and [`Strings`], which are [`Words`] and [`Lines`] of a string, [`Strs`], [`OffsetStrings`] of one buffer, and
+//!   [`ByteStrings`].
 //! - [`compute_seed_hash`] hashes a seed, and [`check_seed_hash`] compares two such hashes.
 //! - [`SketchSlice`] reads numbers from bytes, and [`SketchBytes`] writes them. Contracts see the bytes that are
 //!   unread, and those that are written.
@@ -18,8 +20,8 @@
 //! - [`Family`] names a kind of sketch in an image. An [`Error`] has a kind and a [`Fault`], its cause.
 //! - [`laws`] states the values of the constants.
 //! - [`Divisor`] computes remainders by a precomputed number without a division.
-//! - [`next_word`], [`first_words`] and [`next_line`] split strings. [`finished_words`] and [`finished_lines`] tell
-//!   where a chunk of a stream can be split.
+//! - [`first_words`] splits a string into an array. [`finished_words`] and [`finished_lines`] return where a chunk of a
+//!   stream can be split.
 #![tactic(auto)]
 
 mod byte_strings;
@@ -29,9 +31,11 @@ mod family;
 mod fault;
 pub mod image;
 mod item_hash;
+mod items;
 pub mod laws;
+mod lines;
+mod machine_words;
 mod map_state;
-mod marked_text;
 mod murmurhash;
 mod offset_strings;
 mod rehashable_item;
@@ -57,9 +61,11 @@ pub use error::{Error, ErrorKind};
 pub use family::Family;
 pub use fault::Fault;
 pub use item_hash::{keyed_hash_of, murmur3_of, murmur3_of_u64, xxh64_of};
+pub use items::{Item, Items};
+pub use lines::Lines;
 pub use map_state::{MapHasher, MapState};
 pub use murmurhash::{DEFAULT_UPDATE_SEED, MurmurHash3X64128};
-pub use offset_strings::{OffsetStrings, are_offsets};
+pub use offset_strings::{OffsetStrings, Offsets, are_offsets};
 pub use rehashable_item::{Rehashable, RehashableItem};
 pub use rehashable_str::RehashableStr;
 pub use seed_hash::{check_seed_hash, compute_seed_hash};
@@ -68,8 +74,9 @@ pub use short_bytes::ShortBytes;
 pub use sip_hash::{HashKey, keyed_hash};
 pub use sketch_bytes::SketchBytes;
 pub use sketch_slice::SketchSlice;
-pub use split::{finished_lines, finished_words, first_words, next_line, next_word};
+pub use split::{finished_lines, finished_words, first_words};
 pub use str_hash::{keyed_hash_of_str, murmur3_of_str, xxh64_of_str};
-pub use strings::Strings;
+pub use strings::{Strings, Strs};
 pub use utf8::from_utf8;
+pub use words::Words;
 pub use xxhash::XxHash64;

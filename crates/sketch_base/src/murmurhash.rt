@@ -3,8 +3,8 @@ ghost use Rattle.std.specs.Prelude.{◌≡◌, ℕ, ◌+◌, ◌/◌, ◌≤◌,
 ghost use Rattle.sketch_base.specs.Murmur3 as spec;
 ghost use Rattle.sketch_base.specs.Murmur3State as pieces;
 
+use crate::machine_words::{rotate_left, word_at};
 use crate::short_copy::copy_short;
-use crate::words::{rotate_left, word_at};
 use std::hash::Hasher;
 use std::marker::Model;
 

@@ -4,10 +4,10 @@ ghost use Rattle.sketch_base.specs.Murmur3.{murmur3_x64_128};
 ghost use Rattle.sketch_base.specs.ShortBytes as short;
 ghost use Rattle.sketch_base.specs.SipHash.{sip_hash_1_3};
 
+use crate::machine_words::word_at;
 use crate::murmurhash::finalization;
 use crate::short_copy::copy_short;
 use crate::sip_hash::{HashKey, begun_word, hash_of_two_words, hash_of_word};
-use crate::words::word_at;
 use std::hash::Hasher;
 use std::marker::Model;
 

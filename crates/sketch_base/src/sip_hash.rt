@@ -9,8 +9,8 @@ ghost use Rattle.sketch_base.specs.SipHash as spec;
 ghost use Rattle.sketch_base.specs.SipHash.{sip_hash_1_3};
 
 use crate::image::u64_at;
+use crate::machine_words::word_at;
 use crate::str_hash::word_end;
-use crate::words::word_at;
 use std::marker::Model;
 
 /// A secret key of 128 bits for [`keyed_hash`].

@@ -5,24 +5,12 @@ ghost use Rattle.sketch_base.specs.Split.{CutsUtf8, EndsWith, IsBehindLast, Spli
 ghost use Rattle.sketch_base.specs.Strings.{strings_at};
 ghost use Rattle.sketch_base.specs.declared.separator.Separator.TheVariants.{LineFeed};
 
-use crate::marked_text::MarkedText;
 use crate::separator::{Separator, first_separator};
+use crate::words::Words;
 
 /// Returns the first word of a string and the string after it. Both are empty if there is no word.
-///
-/// # Examples
-///
-/// ```
-/// use sketch_base::{Separator, next_word};
-///
-/// fn first_two(text: &str) -> (&str, &str) {
-///     let (first, rest) = next_word(text, Separator::AsciiWhitespace);
-///     let (second, _) = next_word(rest, Separator::AsciiWhitespace);
-///     (first, second)
-/// }
-/// ```
 #[inline(always)]
-pub fn next_word(text: &str, separator: Separator) -> (&str, &str)
+pub(crate) fn next_word(text: &str, separator: Separator) -> (&str, &str)
     ensures words { words_by separator text.now ≡ with_word result.0.now (words_by separator result.1.now) }
     ensures shorter { length result.0.now + length result.1.now ≤ length text.now }
     ensures rest { EndsWith text.now result.1.now }
@@ -57,7 +45,7 @@ pub fn first_words<'a>(text: &'a str, separator: Separator, words: &mut [&'a str
         ≡ take (length words.old) (words_by separator text.now) }
     ensures others { drop result words.new ≡ drop result words.old }
 {
-    let mut rest = MarkedText::new(text, separator);
+    let mut rest = Words::between(text, separator);
     let mut count = 0;
     while count < words.len() {
         let word = rest.next_word();
@@ -74,24 +62,8 @@ pub fn first_words<'a>(text: &'a str, separator: Separator, words: &mut [&'a str
 ///
 /// A line ends at a line feed or at the end of the string. It has neither the line feed nor a carriage return before
 /// it.
-///
-/// # Examples
-///
-/// ```
-/// use sketch_base::next_line;
-///
-/// fn number_of_lines(text: &str) -> u64 {
-///     let mut count: u64 = 0;
-///     let mut rest = text;
-///     while let Some((_, after)) = next_line(rest) {
-///         count = count.saturating_add(1);
-///         rest = after;
-///     }
-///     count
-/// }
-/// ```
 #[inline(always)]
-pub fn next_line(text: &str) -> Option<(&str, &str)>
+pub(crate) fn next_line(text: &str) -> Option<(&str, &str)>
     ensures { TakesLine text.now result }
 {
     if text.is_empty() {

@@ -14,9 +14,9 @@ ghost use Rattle.sketch_base.specs.Xxh64 as spec;
 ghost use Rattle.sketch_base.specs.Xxh64.{xxh64};
 
 use crate::image::{u32_at, u64_at};
+use crate::machine_words::word_at;
 use crate::murmurhash::{block_of_words, body, finish_words};
 use crate::sip_hash::{HashKey, compress_words, compression, finalization, initialization};
-use crate::words::word_at;
 use crate::xxhash::{
     PRIME64_5, avalanche, consume_byte, consume_half_word, consume_word, consume_words,
     convergence, initial_accumulators, stripe_of_words, stripes,

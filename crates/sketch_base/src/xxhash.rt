@@ -6,8 +6,8 @@ ghost use Rattle.sketch_base.specs.MachineWords.{wrapping_mul};
 ghost use Rattle.sketch_base.specs.Xxh64 as spec;
 ghost use Rattle.sketch_base.specs.Xxh64State as pieces;
 
+use crate::machine_words::{half_word_at, rotate_left, word_at};
 use crate::short_copy::copy_short;
-use crate::words::{half_word_at, rotate_left, word_at};
 use std::hash::Hasher;
 use std::marker::Model;
 

@@ -1,4 +1,4 @@
--- The pairs of hashes of items. A batch computes many before the first item is looked up or inserted.
+-- The pairs of hashes of items. Those of many are computed before the first item is looked up or inserted.
 use Rattle.std.specs.Prelude.{ℕ, Bool, List, [], ◌∷◌}
 use Rattle.std.specs.FinSet as set
 use Rattle.sketch_base.specs.Xxh64.{xxh64}

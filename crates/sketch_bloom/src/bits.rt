@@ -1,8 +1,6 @@
 //! The bits of a filter: in memory, or in the bytes of an image.
 ghost use Rattle.std.specs.Prelude.{◌≡◌, ◌+◌, ◌^◌, ◌<◌, ◌≤◌, ◌==◌, ◌↔◌, true, IsTrue, map, length};
 ghost use Rattle.std.specs.FinSet as set;
-ghost use Rattle.std.specs.Hash as fed;
-ghost use Rattle.sketch_base.specs.Hashes.{fed_bytes};
 ghost use Rattle.sketch_bloom.specs.Image.{AreWordsOf};
 ghost use Rattle.sketch_bloom.specs.Fields.{state_of};
 ghost use Rattle.sketch_bloom.specs.Operations.{on_sets};
@@ -11,13 +9,12 @@ ghost use Rattle.sketch_bloom.specs.Positions.{position, positions};
 ghost use Rattle.sketch_bloom.specs.State.{IsFilterState, capacity_of, contains_item, cleared};
 
 use crate::bit_set;
-use crate::hashes::{BLOCK, Batch, hash_block, hashes_of, hashes_of_str};
+use crate::hashes::{BLOCK, hashes_of, next_pairs};
 use crate::limits::{MAX_NUM_HASHES, MAX_NUM_WORDS};
 use crate::set_operation::SetOperation;
 use crate::words::Words;
-use sketch_base::Divisor;
+use sketch_base::{Divisor, Item, Items};
 use std::alloc::{AllocError, Global};
-use std::hash::Hash;
 use std::marker::Model;
 
 /// A set of positions as bits, and the number of hashes and the seed that the positions of items come from.
@@ -94,18 +91,10 @@ impl<W: Words + Drop> Bits<W> {
 
     /// Returns whether all positions of the item are in the set.
     #[inline(always)]
-    pub fn contains<T: Hash>(&self, item: &T) -> bool
-        ensures { result ≡ contains_item self.now (fed_bytes T.hash_input item.now) }
+    pub fn contains_item<X: Item>(&self, item: &X) -> bool
+        ensures { result ≡ contains_item self.now (X.bytes item.now) }
     {
         self.contains_pair(hashes_of(item, self.seed))
-    }
-
-    /// Returns whether all positions of the string are in the set.
-    #[inline(always)]
-    pub fn contains_str(&self, item: &str) -> bool
-        ensures { result ≡ contains_item self.now (fed_bytes fed.str item.now) }
-    {
-        self.contains_pair(hashes_of_str(item, self.seed))
     }
 
     /// Returns whether all positions of two hashes are in the set.
@@ -176,23 +165,23 @@ impl<W: Words + Drop> Bits<W> {
         }
     }
 
-    /// Writes for each item of a batch whether all its positions are in the set.
+    /// Writes for each item whether all its positions are in the set.
     #[inline(always)]
-    pub fn contains_batch<B: Batch>(&self, batch: &B, answers: &mut [bool])
-        requires { length answers.old ≡ length (B.inputs batch.now) }
-        ensures { answers.new ≡ map (contains_item self.now) (B.inputs batch.now) }
+    pub fn contains_all<I: Items>(&self, mut items: I, answers: &mut [bool])
+        requires { length answers.old ≡ length (I.list items) }
+        ensures { answers.new ≡ map (contains_item self.now) (I.list items) }
     {
         let seed = self.seed;
-        let count = batch.count();
-        let blocks = count.div_ceil(BLOCK);
         let mut pairs = [(0, 0); BLOCK];
+        let mut from = 0;
         // The label is for the prover.
-        'each: for b in 0..blocks {
-            let from = BLOCK * b;
-            let to = from + BLOCK.min(count - from);
-            let block = &mut pairs[..to - from];
-            hash_block(batch, from, seed, block);
-            self.contains_pairs(block, &mut answers[from..to]);
+        'each: loop {
+            let count = next_pairs(&mut items, seed, &mut pairs);
+            self.contains_pairs(&pairs[..count], &mut answers[from..from + count]);
+            from += count;
+            if count < BLOCK {
+                return;
+            }
         }
     }
 }

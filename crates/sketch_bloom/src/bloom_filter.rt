@@ -1,7 +1,6 @@
 //! The Bloom filter.
 ghost use Rattle.std.specs.Prelude.{◌≡◌, ◌*◌, ◌≤◌, ◌↔◌, IfOk, IfErr, IsOk, IsTrue, OnOk, OnErr};
 ghost use Rattle.std.specs.FinSet as set;
-ghost use Rattle.std.specs.Hash as fed;
 ghost use Rattle.sketch_base.specs.Errors.{invalid_argument, no_memory};
 ghost use Rattle.sketch_base.specs.Hashes.{fed_bytes};
 ghost use Rattle.sketch_bloom.specs.History.BloomHistory.{New, Insert, Union, Intersection, Difference, Reset};
@@ -12,14 +11,13 @@ ghost use Rattle.sketch_bloom.specs.State.{IsFilterState, IsCompatible, capacity
 
 mod batches;
 mod images;
-mod strings;
-mod words_and_lines;
+mod operators;
 
 use crate::bits::Bits;
-use crate::hashes::{hashes_of, hashes_of_str};
+use crate::hashes::hashes_of;
 use crate::limits::{MAX_NUM_HASHES, MAX_NUM_WORDS};
 use crate::set_operation::SetOperation;
-use sketch_base::{Error, Fault};
+use sketch_base::{Error, Fault, Item};
 use std::alloc::{AllocError, Global};
 use std::fmt;
 use std::hash::Hash;
@@ -104,7 +102,7 @@ impl BloomFilter {
     pub fn contains<T: Hash>(&self, item: &T) -> bool
         ensures { result ≡ contains_item self.now (fed_bytes T.hash_input item.now) }
     {
-        self.bits.contains(item)
+        self.contains_item(item)
     }
 
     /// Inserts the item's positions, and returns whether all of them were in the set before. Does not allocate.
@@ -125,8 +123,88 @@ impl BloomFilter {
         ensures state { IsFilterState self.new }
         ensures stands { Extends self.old self.new (λ h. Insert h (fed_bytes T.hash_input item.now)) }
     {
+        self.contains_and_insert_item(item)
+    }
+
+    /// Inserts the item's positions. Does not allocate.
+    #[inline]
+    pub fn insert<T: Hash + Drop>(&mut self, item: T)
+        ensures insertion { self.new ≡ inserted self.old (fed_bytes T.hash_input item) }
+        ensures state { IsFilterState self.new }
+        ensures stands { Extends self.old self.new (λ h. Insert h (fed_bytes T.hash_input item)) }
+    {
+        self.insert_item(&item);
+    }
+
+    /// Returns whether all positions of the item are in the set, as [`contains`](Self::contains) does. Does not
+    /// allocate.
+    ///
+    /// It takes any [`Item`]. A string passed as `&str` is hashed straight from its bytes, which is faster than
+    /// `contains`.
+    ///
+    /// # Examples
+    ///
+    /// ```
+    /// use sketch_bloom::BloomFilter;
+    ///
+    /// fn is_blocked(blocked: &BloomFilter, name: &str) -> bool {
+    ///     blocked.contains_item(name)
+    /// }
+    /// ```
+    #[inline]
+    pub fn contains_item<X: Item + Drop>(&self, item: X) -> bool
+        ensures { result ≡ contains_item self.now (X.bytes item) }
+    {
+        self.bits.contains_item(&item)
+    }
+
+    /// Inserts the item's positions, and returns whether all of them were in the set before, as
+    /// [`contains_and_insert`](Self::contains_and_insert) does. Does not allocate.
+    ///
+    /// It takes any [`Item`]. A string passed as `&str` is hashed straight from its bytes, which is faster than
+    /// `contains_and_insert`.
+    ///
+    /// # Examples
+    ///
+    /// ```
+    /// use sketch_bloom::BloomFilter;
+    ///
+    /// fn is_repeated(seen: &mut BloomFilter, name: &str) -> bool {
+    ///     seen.contains_and_insert_item(name)
+    /// }
+    /// ```
+    #[inline]
+    pub fn contains_and_insert_item<X: Item + Drop>(&mut self, item: X) -> bool
+        ensures answer { result ≡ contains_item self.old (X.bytes item) }
+        ensures insertion { self.new ≡ inserted self.old (X.bytes item) }
+        ensures state { IsFilterState self.new }
+        ensures stands { Extends self.old self.new (λ h. Insert h (X.bytes item)) }
+    {
         let seed = self.bits.seed();
-        self.insert_pair(hashes_of(item, seed))
+        self.insert_pair(hashes_of(&item, seed))
+    }
+
+    /// Inserts the item's positions, as [`insert`](Self::insert) does. Does not allocate.
+    ///
+    /// It takes any [`Item`]. A string passed as `&str` is hashed straight from its bytes, which is faster than
+    /// `insert`.
+    ///
+    /// # Examples
+    ///
+    /// ```
+    /// use sketch_bloom::BloomFilter;
+    ///
+    /// fn block(blocked: &mut BloomFilter, name: &str) {
+    ///     blocked.insert_item(name);
+    /// }
+    /// ```
+    #[inline]
+    pub fn insert_item<X: Item + Drop>(&mut self, item: X)
+        ensures insertion { self.new ≡ inserted self.old (X.bytes item) }
+        ensures state { IsFilterState self.new }
+        ensures stands { Extends self.old self.new (λ h. Insert h (X.bytes item)) }
+    {
+        self.contains_and_insert_item(item);
     }
 
     /// Inserts the positions of two hashes, and returns whether all of them were in the set before.
@@ -139,55 +217,6 @@ impl BloomFilter {
         let added = self.bits.insert_pair(pair);
         self.bits_used += added;
         added == 0
-    }
-
-    /// Inserts the item's positions. Does not allocate.
-    #[inline]
-    pub fn insert<T: Hash + Drop>(&mut self, item: T)
-        ensures insertion { self.new ≡ inserted self.old (fed_bytes T.hash_input item) }
-        ensures state { IsFilterState self.new }
-        ensures stands { Extends self.old self.new (λ h. Insert h (fed_bytes T.hash_input item)) }
-    {
-        self.contains_and_insert(&item);
-    }
-
-    /// Returns whether all positions of the string are in the set, as [`contains`](Self::contains) does, in less time.
-    ///
-    /// # Examples
-    ///
-    /// ```
-    /// use sketch_bloom::BloomFilter;
-    ///
-    /// fn is_blocked(blocked: &BloomFilter, name: &str) -> bool {
-    ///     blocked.contains_str(name)
-    /// }
-    /// ```
-    #[inline]
-    pub fn contains_str(&self, item: &str) -> bool
-        ensures { result ≡ contains_item self.now (fed_bytes fed.str item.now) }
-    {
-        self.bits.contains_str(item)
-    }
-
-    /// Inserts the string's positions, as [`insert`](Self::insert) does, in less time. Does not allocate.
-    ///
-    /// # Examples
-    ///
-    /// ```
-    /// use sketch_bloom::BloomFilter;
-    ///
-    /// fn block(blocked: &mut BloomFilter, name: &str) {
-    ///     blocked.insert_str(name);
-    /// }
-    /// ```
-    #[inline]
-    pub fn insert_str(&mut self, item: &str)
-        ensures insertion { self.new ≡ inserted self.old (fed_bytes fed.str item.now) }
-        ensures state { IsFilterState self.new }
-        ensures stands { Extends self.old self.new (λ h. Insert h (fed_bytes fed.str item.now)) }
-    {
-        let seed = self.bits.seed();
-        self.insert_pair(hashes_of_str(item, seed));
     }
 
     /// Removes all positions from the set. Shape, seed and memory are kept.

@@ -1,5 +1,4 @@
 //! A Bloom filter in the bytes of its image.
-ghost use Rattle.std.specs.Hash as fed;
 ghost use Rattle.std.specs.Prelude.{◌≡◌, ◌+◌, ◌*◌, ◌≤◌, None, Some, false, if◌then◌else◌, length, map, take, drop, replicate, IfOk, IfErr, OnOk};
 ghost use Rattle.sketch_base.specs.Errors.{invalid_data};
 ghost use Rattle.sketch_base.specs.Hashes.{fed_bytes};
@@ -7,10 +6,11 @@ ghost use Rattle.sketch_bloom.specs.Image.{IsImage, Restores, early_fault, value
 ghost use Rattle.sketch_bloom.specs.State.{FilterState, IsFilterState, capacity_of, contains_item};
 
 use crate::bits::Bits;
-use crate::hashes::{Batch, ItemBatch, StringBatch};
 use crate::image::read_preamble;
 use crate::limits::MAX_NUM_WORDS;
-use sketch_base::{Error, Strings};
+use sketch_base::{Error, Item, Items};
+use std::alloc::AllocError;
+use std::fmt;
 use std::hash::Hash;
 use std::marker::Model;
 
@@ -98,10 +98,14 @@ impl<'a> BloomFilterView<'a> {
     pub fn contains<T: Hash>(&self, item: &T) -> bool
         ensures { result ≡ contains_item self.now (fed_bytes T.hash_input item.now) }
     {
-        self.bits.contains(item)
+        self.contains_item(item)
     }
 
-    /// Returns whether all positions of the string are in the set, as [`contains`](Self::contains) does, in less time.
+    /// Returns whether all positions of the item are in the set, as [`contains`](Self::contains) does. Does not
+    /// allocate.
+    ///
+    /// It takes any [`Item`]. A string passed as `&str` is hashed straight from its bytes, which is faster than
+    /// `contains`.
     ///
     /// # Examples
     ///
@@ -109,20 +113,21 @@ impl<'a> BloomFilterView<'a> {
     /// use sketch_bloom::BloomFilterView;
     ///
     /// fn is_blocked(blocked: &BloomFilterView, name: &str) -> bool {
-    ///     blocked.contains_str(name)
+    ///     blocked.contains_item(name)
     /// }
     /// ```
     #[inline]
-    pub fn contains_str(&self, item: &str) -> bool
-        ensures { result ≡ contains_item self.now (fed_bytes fed.str item.now) }
+    pub fn contains_item<X: Item + Drop>(&self, item: X) -> bool
+        ensures { result ≡ contains_item self.now (X.bytes item) }
     {
-        self.bits.contains_str(item)
+        self.bits.contains_item(&item)
     }
 
-    /// Writes for each item to `answers` whether all its positions are in the set, as [`contains`](Self::contains)
-    /// returns it. `answers` is as long as `items`. Does not allocate.
+    /// Writes for each item to `answers` whether all its positions are in the set, as
+    /// [`contains_item`](Self::contains_item) returns it. There is one answer for each item. Does not allocate.
     ///
-    /// It is faster than a call for each item: the hashes of several items are computed before their words are needed.
+    /// It takes any [`Items`]. It is faster than a call for each item: the hashes of several items are computed before
+    /// their words are needed.
     ///
     /// # Examples
     ///
@@ -131,46 +136,15 @@ impl<'a> BloomFilterView<'a> {
     ///
     /// fn known_of_four(seen: &BloomFilterView, visitors: &[u64; 4]) -> [bool; 4] {
     ///     let mut known = [false; 4];
-    ///     seen.contains_all(visitors, &mut known);
+    ///     seen.contains_all(visitors.as_slice(), &mut known);
     ///     known
     /// }
     /// ```
-    pub fn contains_all<T: Hash>(&self, items: &[T], answers: &mut [bool])
-        requires { length answers.old ≡ length items.now }
-        ensures { answers.new ≡ map (λ item. contains_item self.now (fed_bytes T.hash_input item)) items.now }
+    pub fn contains_all<I: Items>(&self, items: I, answers: &mut [bool])
+        requires { length answers.old ≡ length (I.list items) }
+        ensures { answers.new ≡ map (contains_item self.now) (I.list items) }
     {
-        self.contains_batch(&ItemBatch { items }, answers);
-    }
-
-    /// Writes for each string to `answers` whether all its positions are in the set, as
-    /// [`contains_str`](Self::contains_str) returns it. There are as many `answers` as strings. Does not allocate.
-    ///
-    /// # Examples
-    ///
-    /// ```
-    /// use sketch_bloom::BloomFilterView;
-    ///
-    /// fn are_blocked(blocked: &BloomFilterView, names: &[&str; 4]) -> [bool; 4] {
-    ///     let mut answers = [false; 4];
-    ///     blocked.contains_strings(&names.as_slice(), &mut answers);
-    ///     answers
-    /// }
-    /// ```
-    pub fn contains_strings<S: Strings>(&self, strings: &S, answers: &mut [bool])
-        requires { length answers.old ≡ length (S.list strings.now) }
-        ensures { answers.new
-            ≡ map (λ string. contains_item self.now (fed_bytes fed.str string)) (S.list strings.now) }
-    {
-        self.contains_batch(&StringBatch { strings }, answers);
-    }
-
-    /// Writes for each item of a batch whether all its positions are in the set.
-    #[inline(always)]
-    fn contains_batch<B: Batch>(&self, batch: &B, answers: &mut [bool])
-        requires { length answers.old ≡ length (B.inputs batch.now) }
-        ensures { answers.new ≡ map (contains_item self.now) (B.inputs batch.now) }
-    {
-        self.bits.copied().contains_batch(batch, answers);
+        self.bits.copied().contains_all(items, answers);
     }
 
     /// Returns the capacity, which is the number of positions: 64 for each word.
@@ -195,5 +169,27 @@ impl<'a> BloomFilterView<'a> {
         ensures { result ≡ self.now.seed }
     {
         self.bits.seed()
+    }
+}
+
+/// Clones the view, but not the image. Does not allocate.
+impl<'a> Clone for BloomFilterView<'a> {
+    ghost is_clone = { λ view copy. copy ≡ view };
+
+    fn clone(&self) -> Result<Self, AllocError> {
+        Ok(BloomFilterView {
+            bits: self.bits.copied(),
+            num_words: self.num_words,
+        })
+    }
+}
+
+impl<'a> fmt::Debug for BloomFilterView<'a> {
+    fn fmt<W: fmt::Write>(&self, f: &mut fmt::Formatter<W>) -> fmt::Result {
+        f.debug_struct("BloomFilterView")
+            .field("capacity", &self.capacity())
+            .field("num_hashes", &self.num_hashes())
+            .field("seed", &self.seed())
+            .finish_non_exhaustive()
     }
 }

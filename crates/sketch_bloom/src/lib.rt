@@ -3,6 +3,8 @@
 //! A filter is a set of positions. Inserting an item adds the positions that its hashes give. An item is contained if
 //! all its positions are in the set. Filters with one shape and one seed can be united, intersected and subtracted. A
 //! filter is written as an image, a list of bytes, and read from one.
+//!
+//! A filter needs its sizes and an allocator, so it implements neither `Default` nor `FromIterator`.
 #![tactic(auto)]
 
 mod bit_set;

@@ -1,5 +1,5 @@
 -- What one function of each cell leaves.
-use Rattle.std.proofs.Common.{◌≡◌, ℕ, ◌+◌, ◌<◌, ◌≤◌, ◌++◌, List, [], ◌∷◌, length, get_or, set, take, drop, map, ℤ, pos, refl, sym, ap, ◌∙◌, arith, zero, suc}
+use Rattle.std.proofs.Common.{◌≡◌, ℕ, ◌+◌, ◌<◌, ◌≤◌, ◌++◌, List, [], ◌∷◌, length, get_or, set, take, drop, map, replicate, ℤ, pos, refl, sym, ap, ◌∙◌, arith, zero, suc}
 use Rattle.std.proofs.lemmas.List.{map-set, length-map, take_all, drop_all, append-nil}
 use Rattle.sketch_countmin.proofs.RowSteps.{read_cell}
 
@@ -32,3 +32,8 @@ mapped_all number f initial i end =
     let old : List ℤ = map number initial in
     let long : length old ≤ i = omega (arith, length-map initial number, end) in
     ap (λ (rest : List ℤ). map f (take i old) ++ rest) (drop_all i old long) ∙ (append-nil (map f (take i old)) ∙ ap (map f) (take_all i old long))
+
+-- cells that are all mapped to one number
+pub mapped_to_one : {T : Type 0} (number : T → ℤ) (z : ℤ) (initial : List T) → map (λ (x : ℤ). z) (map number initial) ≡ replicate (length initial) z
+mapped_to_one number z [] = refl
+mapped_to_one number z (x ∷ xs) = ap (λ (l : List ℤ). z ∷ l) (mapped_to_one number z xs)

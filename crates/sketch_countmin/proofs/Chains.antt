@@ -24,31 +24,29 @@ counts_each_more : (old : CountState) (pairs : List (List ℕ × ℤ)) (mid : Co
 counts_each_more old [] mid bytes w new all one = (new, subst (λ (s : CountState). Counts s bytes w new) all one, refl)
 counts_each_more old (pair ∷ pairs) mid bytes w new all one = (all.0, all.1, counts_each_more all.0 pairs mid bytes w new all.2 one)
 
-module _ {I W : Type 0} (fed : I → List ℕ) (number : W → ℤ) (items : List I) (weights : List W) (same : length weights ≡ length items) where
-  -- the items' bytes beside their weights
+module _ {W : Type 0} (number : W → ℤ) (items : List (List ℕ)) (weights : List W) (same : length weights ≡ length items) where
+  -- the items beside their weights
   abbrev pub pairs : List (List ℕ × ℤ)
-  pairs = zip (map fed items) (map number weights)
+  pairs = zip items (map number weights)
 
   long : length pairs ≡ length items
-  long = length-zip (map fed items) (map number weights) ∙ omega (arith, same, length-map items fed, length-map weights number)
+  long = length-zip items (map number weights) ∙ omega (arith, same, length-map weights number)
 
   -- the pair at an index
-  pair_at : (i : ℕ) (x : I) (w : W) → i < length items → x ≡ get_or items i x → w ≡ get_or weights i w → get_or pairs i (fed x, number w) ≡ (fed x, number w)
-  pair_at i x w there is_x is_w =
-      let first : i < length (map fed items) = omega (arith, there, length-map items fed) in
+  pair_at : (i : ℕ) (bytes : List ℕ) (w : W) → i < length items → bytes ≡ get_or items i bytes → w ≡ get_or weights i w → get_or pairs i (bytes, number w) ≡ (bytes, number w)
+  pair_at i bytes w there is_bytes is_w =
       let second : i < length (map number weights) = omega (arith, there, same, length-map weights number) in
       let other : i < length weights = omega (arith, there, same) in
-      let bytes : get_or (map fed items) i (fed x) ≡ fed x = get_or-map fed items i x (fed x) there ∙ ap fed (sym is_x) in
       let weight : get_or (map number weights) i (number w) ≡ number w = get_or-map number weights i w (number w) other ∙ ap number (sym is_w) in
-      get_or-zip (map fed items) (map number weights) i (fed x, number w) first second ∙ (λ k. (bytes k, weight k))
+      get_or-zip items (map number weights) i (bytes, number w) there second ∙ (λ k. (sym is_bytes k, weight k))
 
   -- one more of the items is counted
-  pub counts_next : (i : ℕ) (x : I) (w : W) (old mid new : CountState) → i < length items → x ≡ get_or items i x → w ≡ get_or weights i w
-      → CountsEach old (take i pairs) mid → Counts mid (fed x) (number w) new → CountsEach old (take (i + 1) pairs) new
-  counts_next i x w old mid new there is_x is_w all one =
+  pub counts_next : (i : ℕ) (bytes : List ℕ) (w : W) (old mid new : CountState) → i < length items → bytes ≡ get_or items i bytes → w ≡ get_or weights i w
+      → CountsEach old (take i pairs) mid → Counts mid bytes (number w) new → CountsEach old (take (i + 1) pairs) new
+  counts_next i bytes w old mid new there is_bytes is_w all one =
       let within : i < length pairs = omega (arith, there, long) in
-      let more : take (i + 1) pairs ≡ take i pairs ++ (fed x, number w) ∷ [] = take_more pairs i (fed x, number w) within ∙ ap (λ p. take i pairs ++ p ∷ []) (pair_at i x w there is_x is_w) in
-      subst (λ ps. CountsEach old ps new) (sym more) (counts_each_more old (take i pairs) mid (fed x) (number w) new all one)
+      let more : take (i + 1) pairs ≡ take i pairs ++ (bytes, number w) ∷ [] = take_more pairs i (bytes, number w) within ∙ ap (λ p. take i pairs ++ p ∷ []) (pair_at i bytes w there is_bytes is_w) in
+      subst (λ ps. CountsEach old ps new) (sym more) (counts_each_more old (take i pairs) mid bytes (number w) new all one)
 
   -- all of them are
   pub counts_whole : (i : ℕ) (old new : CountState) → length items ≤ i → CountsEach old (take i pairs) new → CountsEach old pairs new

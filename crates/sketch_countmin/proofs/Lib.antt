@@ -1,4 +1,3 @@
-mod PartUpdates
 pub mod Places
 mod Grids
 pub mod Numbers
@@ -28,6 +27,6 @@ pub mod Histories
 pub mod States
 pub mod Streams
 pub mod SeriesOfE
-pub mod StringUpdates
+pub mod ItemSequences
 pub mod SuggestedBuckets
 pub mod SuggestedHashes

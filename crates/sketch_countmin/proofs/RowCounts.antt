@@ -66,9 +66,6 @@ room_in_row d n greatest bucket items i old mid b k h lt p index room =
 
 -- ---- row after row
 
-pub rows_start : (d : ℕ) (bucket : ℕ → List ℕ → ℕ) (items : List (List ℕ)) (old : List ℤ) → RowsCounted d bucket items 0 old old
-rows_start d bucket items old = record { done = λ r h _ _. absurd (omega arith); rest = λ k _. refl }
-
 -- one row more
 pub rows_counted : (d : ℕ) (bucket : ℕ → List ℕ → ℕ) (items : List (List ℕ)) (n : ℕ) (old mid new : List ℤ) → RowsCounted d bucket items n old mid → RowCounted d (bucket n) items n mid new → RowsCounted d bucket items (n + 1) old new
 rows_counted d bucket items n old mid new h row = record {

@@ -8,7 +8,6 @@ pub mod Image
 pub mod Items
 pub mod View
 pub mod Laws
-pub mod Parts
 pub mod Preamble
 pub mod Rows
 pub mod Shapes

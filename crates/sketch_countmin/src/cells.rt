@@ -44,6 +44,15 @@ pub fn add_all<T: CountMinValue>(counts: &mut [T], other: &[T])
     }
 }
 
+/// Sets each cell to zero.
+pub fn clear_all<T: CountMinValue>(counts: &mut [T])
+    ensures { map T.number counts.new ≡ replicate (length counts.old) (pos 0) }
+{
+    for value in counts.iter_mut() {
+        *value = T::ZERO;
+    }
+}
+
 /// Halves each cell, rounded down.
 pub fn halve_all<T: UnsignedCountMinValue>(counts: &mut [T])
     ensures { map T.number counts.new ≡ map halved (map T.number counts.old) }

@@ -11,16 +11,14 @@ ghost use Rattle.sketch_countmin.specs.State.{IsCountState, SameShape, Counts, J
 
 mod batches;
 mod images;
-mod strings;
-mod words_and_lines;
 
 use crate::cells::zeros;
 use crate::count_min_sizes::CountMinSizes;
 use crate::count_min_value::CountMinValue;
 use crate::grid::Grid;
-use crate::item_cells::{HashItem, RowItem};
 use crate::limits::{MAX_TABLE_ENTRIES, MIN_NUM_BUCKETS};
 use crate::margin::with_margin;
+use crate::row_item::RowItem;
 use crate::unsigned_count_min_value::UnsignedCountMinValue;
 use sketch_base::{DEFAULT_UPDATE_SEED, Error, ErrorKind, Fault, compute_seed_hash};
 use std::alloc::{AllocError, Global};
@@ -205,7 +203,7 @@ impl<T: CountMinValue> CountMinSketch<T> {
         ensures overflow { T.greatest < self.old.total + 1 → IsErrOf result (invalid_argument Fault.WeightOverflow) }
         ensures succeeds { self.old.total + 1 ≤ T.greatest → IsOk result }
     {
-        self.add_one(&HashItem { item: &item })
+        self.update_item(&item)
     }
 
     /// Adds `weight` to the item's cell in each row, and its absolute value to the total. Does not allocate.
@@ -230,29 +228,67 @@ impl<T: CountMinValue> CountMinSketch<T> {
             → IsErrOf result (invalid_argument Fault.WeightOverflow) }
         ensures succeeds { self.old.total + unsigned_abs (T.number weight) ≤ T.greatest → IsOk result }
     {
-        self.add(&HashItem { item: &item }, weight)
+        self.update_item_with_weight(&item, weight)
     }
 
-    /// Adds 1 to the item's cell in each row, and to the total.
+    /// Counts the item with weight 1, as [`update`](Self::update) does. For `&str` it takes less time. Does not allocate.
+    ///
+    /// # Errors
+    ///
+    /// `WeightOverflow` if the total would exceed the maximum of `T`. The sketch is then unchanged.
+    ///
+    /// # Examples
+    ///
+    /// ```
+    /// use sketch_base::Error;
+    /// use sketch_countmin::CountMinSketch;
+    ///
+    /// fn count_page(visits: &mut CountMinSketch<u64>, page: &str) -> Result<(), Error> {
+    ///     visits.update_item(page)
+    /// }
+    /// ```
     #[inline(always)]
-    fn add_one<R: RowItem<T>>(&mut self, item: &R) -> Result<(), Error>
-        ensures counted { OnOk result (Counts self.old (R.input item.now) (pos 1) self.new) }
+    pub fn update_item<R: RowItem<T> + Drop>(&mut self, item: R) -> Result<(), Error>
+        ensures counted { OnOk result (Counts self.old (R.bytes item) (pos 1) self.new) }
         ensures state { IsCountState T.greatest self.new }
-        ensures stands { OnOk result (Extends self.old self.new (λ h. Update h (R.input item.now) (pos 1))) }
+        ensures stands { OnOk result (Extends self.old self.new (λ h. Update h (R.bytes item) (pos 1))) }
         ensures err { OnErr result (self.new ≡ self.old) }
         ensures overflow { T.greatest < self.old.total + 1 → IsErrOf result (invalid_argument Fault.WeightOverflow) }
         ensures succeeds { self.old.total + 1 ≤ T.greatest → IsOk result }
     {
-        self.add(item, T::ONE)
+        self.update_item_with_weight(item, T::ONE)
     }
 
-    /// Adds `weight` to the item's cell in each row, and its absolute value to the total.
+    /// Adds `weight` to the item's cell in each row, as [`update_with_weight`](Self::update_with_weight) does. For
+    /// `&str` it takes less time. Does not allocate.
+    ///
+    /// # Errors
+    ///
+    /// `WeightOverflow` if the absolute value is not in the range of `T`, or if the total would exceed the maximum of
+    /// `T`. The sketch is then unchanged.
+    ///
+    /// # Examples
+    ///
+    /// ```
+    /// use sketch_base::Error;
+    /// use sketch_countmin::CountMinSketch;
+    ///
+    /// fn sell(stock: &mut CountMinSketch<i64>, fruit: &str, pieces: i64) -> Result<(), Error> {
+    ///     stock.update_item_with_weight(fruit, pieces)
+    /// }
+    /// ```
     #[inline(always)]
-    fn add<R: RowItem<T>>(&mut self, item: &R, weight: T) -> Result<(), Error>
+    pub fn update_item_with_weight<R: RowItem<T> + Drop>(
+        &mut self,
+        item: R,
+        weight: T,
+    ) -> Result<(), Error>
         ensures zero { T.number weight ≡ pos 0 → IsOk result × (self.new ≡ self.old) }
-        ensures counted { OnOk result (Counts self.old (R.input item.now) (T.number weight) self.new) }
+        ensures counted { OnOk result (Counts self.old (R.bytes item) (T.number weight) self.new) }
         ensures state { IsCountState T.greatest self.new }
-        ensures stands { OnOk result (Extends self.old self.new (λ h. Update h (R.input item.now) (T.number weight))) }
+        ensures stands { OnOk result (Extends self.old self.new (λ h. Update h (R.bytes item) (T.number weight))) }
+
+        // The error comes exactly if the total would exceed the maximum, and leaves the sketch unchanged.
         ensures err { OnErr result (self.new ≡ self.old) }
         ensures overflow { T.greatest < self.old.total + unsigned_abs (T.number weight)
             → IsErrOf result (invalid_argument Fault.WeightOverflow) }
@@ -311,20 +347,31 @@ impl<T: CountMinValue> CountMinSketch<T> {
             IsMin self.now.hashes (others_share self.now.buckets self.now.seed h bytes)
             (T.number result -ℤ own_value h bytes) }
     {
-        self.least(&HashItem { item: &item })
+        self.estimate_item(&item)
     }
 
-    /// Returns the minimum of the item's cells.
+    /// Returns the estimate of the item's weight, as [`estimate`](Self::estimate) does. For `&str` it takes less time.
+    /// Does not allocate.
+    ///
+    /// # Examples
+    ///
+    /// ```
+    /// use sketch_countmin::CountMinSketch;
+    ///
+    /// fn visits_of_page(visits: &CountMinSketch<u64>, page: &str) -> u64 {
+    ///     visits.estimate_item(page)
+    /// }
+    /// ```
     #[inline(always)]
-    fn least<R: RowItem<T>>(&self, item: &R) -> T
-        ensures least { IsMinCell self.now (R.input item.now) (T.number result) }
+    pub fn estimate_item<R: RowItem<T> + Drop>(&self, item: R) -> T
+        ensures least { IsMinCell self.now (R.bytes item) (T.number result) }
         ensures encloses { (h : CountHistory) → StandsFor self.now h → IsNonnegative h
-            → (own_value h (R.input item.now) ≤ℤ T.number result) × (T.number result ≤ℤ pos self.now.total) }
+            → (own_value h (R.bytes item) ≤ℤ T.number result) × (T.number result ≤ℤ pos self.now.total) }
         ensures raised { (h : CountHistory) → StandsFor self.now h → IsExact h
-            → IsMin self.now.hashes (others_share self.now.buckets self.now.seed h (R.input item.now))
-            (T.number result -ℤ own_value h (R.input item.now)) }
+            → IsMin self.now.hashes (others_share self.now.buckets self.now.seed h (R.bytes item))
+            (T.number result -ℤ own_value h (R.bytes item)) }
     {
-        self.grid.min_cell(item)
+        self.grid.min_cell(&item)
     }
 
     /// Returns the estimate. It is no lower bound of the item's true weight: collisions can raise it above that.
@@ -343,7 +390,27 @@ impl<T: CountMinValue> CountMinSketch<T> {
         ensures { (estimate : ℤ) → IsMinCell self.now (fed_bytes I.hash_input item) estimate
             → T.number result ≡ upper_bound_of T.greatest self.now estimate }
     {
-        with_margin(self.estimate(item), self.total, self.grid.buckets())
+        self.upper_bound_item(&item)
+    }
+
+    /// Returns the estimate plus a margin, as [`upper_bound`](Self::upper_bound) does. For `&str` it takes less time.
+    /// Does not allocate.
+    ///
+    /// # Examples
+    ///
+    /// ```
+    /// use sketch_countmin::CountMinSketch;
+    ///
+    /// fn most_visits_of_page(visits: &CountMinSketch<u64>, page: &str) -> u64 {
+    ///     visits.upper_bound_item(page)
+    /// }
+    /// ```
+    #[inline(always)]
+    pub fn upper_bound_item<R: RowItem<T> + Drop>(&self, item: R) -> T
+        ensures { (estimate : ℤ) → IsMinCell self.now (R.bytes item) estimate
+            → T.number result ≡ upper_bound_of T.greatest self.now estimate }
+    {
+        with_margin(self.estimate_item(item), self.total, self.grid.buckets())
     }
 
     /// Adds the cells and the total of another sketch of the same shape and seed. Does not allocate.
@@ -404,6 +471,28 @@ impl<T: CountMinValue> CountMinSketch<T> {
         self.grid.num_rows() == other.grid.num_rows()
             && self.grid.buckets().divisor() == other.grid.buckets().divisor()
             && self.seed == other.seed
+    }
+
+    /// Sets all cells and the total to 0. The sizes and the seed are unchanged. Does not allocate.
+    ///
+    /// # Examples
+    ///
+    /// ```
+    /// use sketch_countmin::CountMinSketch;
+    ///
+    /// fn begin_next_day(visits: &mut CountMinSketch<u64>) -> u64 {
+    ///     let visits_of_day = visits.total_weight();
+    ///     visits.reset();
+    ///     visits_of_day
+    /// }
+    /// ```
+    pub fn reset(&mut self)
+        ensures cleared { self.new ≡ empty_state self.old.hashes self.old.buckets self.old.seed }
+        ensures state { IsCountState T.greatest self.new }
+        ensures stands { StandsFor self.new (New self.old.hashes self.old.buckets self.old.seed) }
+    {
+        self.grid.clear();
+        self.total = T::ZERO;
     }
 
     /// Returns an estimate of the sketch's size in bytes: hashes times buckets times the size of `T`, and 8 for each

@@ -1,5 +1,4 @@
 //! A Count-Min sketch in the bytes of its image.
-ghost use Rattle.std.specs.Hash as fed;
 ghost use Rattle.std.specs.Prelude.{◌≡◌, ℕ, ◌+◌, ◌*◌, ◌<◌, ◌≤◌, [], None, Some, false, if◌then◌else◌, length, take, drop, slice_index, ℤ, pos, ◌≤ℤ◌, ◌-ℤ◌, unsigned_abs, IfOk, IfErr, OnOk};
 ghost use Rattle.sketch_base.specs.Checks.{first_failing};
 ghost use Rattle.sketch_base.specs.Errors.{invalid_data};
@@ -14,10 +13,10 @@ ghost use Rattle.sketch_countmin.specs.View.{view_at, view_fault};
 use crate::cell_list::ByteCells;
 use crate::count_min_value::CountMinValue;
 use crate::image::{read_preamble, read_total};
-use crate::item_cells::{HashItem, RowItem, StrItem};
 use crate::limits::MAX_TABLE_ENTRIES;
 use crate::margin::with_margin;
 use crate::row_cells::RowCells;
+use crate::row_item::RowItem;
 use crate::rows::bucket_count;
 use sketch_base::{DEFAULT_UPDATE_SEED, Divisor, Error, murmur3_of_u64};
 use std::hash::Hash;
@@ -186,11 +185,11 @@ impl<'a, T: CountMinValue> CountMinView<'a, T> {
             IsMin self.now.hashes (others_share self.now.buckets self.now.seed h bytes)
             (T.number result -ℤ own_value h bytes) }
     {
-        self.least(&HashItem { item: &item })
+        self.estimate_item(&item)
     }
 
-    /// Returns the estimate of the string's weight, as [`estimate`](Self::estimate) does, in less time. Does not
-    /// allocate.
+    /// Returns the estimate of the item's weight, as [`estimate`](Self::estimate) does. For `&str` it takes less time.
+    /// Does not allocate.
     ///
     /// # Examples
     ///
@@ -198,39 +197,25 @@ impl<'a, T: CountMinValue> CountMinView<'a, T> {
     /// use sketch_countmin::CountMinView;
     ///
     /// fn visits_of_site(visits: &CountMinView<u64>, site: &str) -> u64 {
-    ///     visits.estimate_str(site)
+    ///     visits.estimate_item(site)
     /// }
     /// ```
     #[inline(always)]
-    pub fn estimate_str(&self, item: &str) -> T
-        ensures least { IsMinCell self.now (fed_bytes fed.str item.now) (T.number result) }
+    pub fn estimate_item<R: RowItem<T> + Drop>(&self, item: R) -> T
+        ensures least { IsMinCell self.now (R.bytes item) (T.number result) }
         ensures encloses { (h : CountHistory) → StandsFor self.now h → IsNonnegative h
-            → (own_value h (fed_bytes fed.str item.now) ≤ℤ T.number result) × (T.number result ≤ℤ pos self.now.total) }
+            → (own_value h (R.bytes item) ≤ℤ T.number result) × (T.number result ≤ℤ pos self.now.total) }
         ensures raised { (h : CountHistory) → StandsFor self.now h → IsExact h
-            → let bytes = fed_bytes fed.str item.now in
-            IsMin self.now.hashes (others_share self.now.buckets self.now.seed h bytes)
-            (T.number result -ℤ own_value h bytes) }
+            → IsMin self.now.hashes (others_share self.now.buckets self.now.seed h (R.bytes item))
+            (T.number result -ℤ own_value h (R.bytes item)) }
     {
-        self.least(&StrItem { item })
-    }
-
-    /// Returns the minimum of the item's cells.
-    #[inline(always)]
-    fn least<R: RowItem<T>>(&self, item: &R) -> T
-        ensures least { IsMinCell self.now (R.input item.now) (T.number result) }
-        ensures encloses { (h : CountHistory) → StandsFor self.now h → IsNonnegative h
-            → (own_value h (R.input item.now) ≤ℤ T.number result) × (T.number result ≤ℤ pos self.now.total) }
-        ensures raised { (h : CountHistory) → StandsFor self.now h → IsExact h
-            → IsMin self.now.hashes (others_share self.now.buckets self.now.seed h (R.input item.now))
-            (T.number result -ℤ own_value h (R.input item.now)) }
-    {
-        self.min_cell(item)
+        self.min_cell(&item)
     }
 
     /// Returns the minimum of the item's cells.
     #[inline(always)]
     fn min_cell<R: RowItem<T>>(&self, item: &R) -> T
-        ensures least { IsMinCell self.now (R.input item.now) (T.number result) }
+        ensures least { IsMinCell self.now (R.bytes item.now) (T.number result) }
 
         // What holds of every view.
         ensures state { IsCountState T.greatest self.now }

@@ -1,16 +1,16 @@
 //! The grid of a sketch: a row of cells for each hash.
-ghost use Rattle.std.specs.Prelude.{◌≡◌, ℕ, ◌+◌, ◌*◌, ◌<◌, ◌≤◌, ◌↔◌, [], IsTrue, IfOk, length, map, pos, ◌+ℤ◌, ◌≤ℤ◌, unsigned_abs, slice_index_or};
+ghost use Rattle.std.specs.Prelude.{◌≡◌, ℕ, ◌+◌, ◌*◌, ◌<◌, ◌≤◌, ◌↔◌, [], IsTrue, IfOk, length, map, replicate, pos, ◌+ℤ◌, ◌≤ℤ◌, unsigned_abs, slice_index_or};
 ghost use Rattle.std.specs.Int.{is_power_of_two};
 ghost use Rattle.sketch_base.specs.Hashes.{fed_bytes};
 ghost use Rattle.sketch_countmin.specs.Cells.{cell_in, flat_at};
 ghost use Rattle.sketch_countmin.specs.Grid.{IsGridOf, IsMinIn, KeepsShape, AddsItem, CountsInRow, CountsInRows};
 ghost use Rattle.sketch_countmin.specs.Values.{scaled, halved};
 
-use crate::cells::{add_all, add_at, halve_all, same_cells, scale_all};
+use crate::cells::{add_all, add_at, clear_all, halve_all, same_cells, scale_all};
 use crate::count_min_value::CountMinValue;
-use crate::item_cells::{HashItem, RowItem};
 use crate::limits::{MAX_TABLE_ENTRIES, MIN_NUM_BUCKETS};
 use crate::row_cells::RowCells;
+use crate::row_item::{FedAgain, RowItem};
 use crate::rows::{Rows, bucket_count, row_seeds};
 use crate::unsigned_count_min_value::UnsignedCountMinValue;
 use sketch_base::{Divisor, Rehashable};
@@ -168,7 +168,7 @@ impl<T: CountMinValue> Grid<T> {
         let seed = rows.seeds[row];
         let counts = self.counts.as_mut_slice();
         for item in items {
-            let index = rows.index_by_seed(masked, &HashItem { item }, row, seed);
+            let index = rows.index_by_seed(masked, &FedAgain { item }, row, seed);
             add_at(counts, index, T::ONE);
         }
     }
@@ -176,7 +176,7 @@ impl<T: CountMinValue> Grid<T> {
     /// Returns the minimum of the item's cells.
     #[inline(always)]
     pub fn min_cell<R: RowItem<T>>(&self, item: &R) -> T
-        ensures { IsMinIn self.now (R.input item.now) (T.number result) }
+        ensures { IsMinIn self.now (R.bytes item.now) (T.number result) }
     {
         let cells = RowCells::new(self.counts.as_slice(), self.buckets, &self.row_seeds);
         item.min_cell(cells)
@@ -205,6 +205,14 @@ impl<T: CountMinValue> Grid<T> {
         ensures shape { KeepsShape self.old self.new }
     {
         add_all(&mut self.counts, &other.counts);
+    }
+
+    /// Sets each cell to zero.
+    #[inline(always)]
+    pub fn clear(&mut self)
+        ensures { self.new ≡ record self.old { cells = replicate (length self.old.cells) (pos 0) } }
+    {
+        clear_all(&mut self.counts);
     }
 
     /// Returns whether two grids have the same cells.

@@ -11,7 +11,7 @@ ghost use Rattle.sketch_countmin.specs.Items.{IsItemMin};
 
 use crate::cell_list::CellList;
 use crate::count_min_value::CountMinValue;
-use crate::item_cells::HashItem;
+use crate::row_item::FedAgain;
 use crate::rows::Rows;
 use sketch_base::{Divisor, Rehashable};
 use std::hash::Hash;
@@ -132,7 +132,7 @@ impl<'a, T: CountMinValue, C: CellList<T> + Drop> RowCells<'a, T, C> {
     {
         let index = self
             .rows
-            .index_by_seed(masked, &HashItem { item }, row, seed);
+            .index_by_seed(masked, &FedAgain { item }, row, seed);
         self.cells.cell(index)
     }
 }

@@ -13,6 +13,7 @@ pub mod ImageSizes
 pub mod ImageWeights
 pub mod Images
 pub mod Joins
+pub mod KeyedBatches
 pub mod Lookups
 pub mod ManyBounds
 pub mod ManyMerges
@@ -36,7 +37,6 @@ pub mod SpelledSizes
 pub mod Spellings
 pub mod StepsByKey
 pub mod Streams
-pub mod StringUpdates
 pub mod SuggestedSizes
 pub mod Tail
 pub mod Texts

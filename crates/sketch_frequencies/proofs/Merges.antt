@@ -52,7 +52,7 @@ module _ {T : Type 0} {eq : T → T → Bool} (laws : IsEquivalence eq) where
       record {
         whole = rw (append_assoc given (e ∷ []) rest') (subst (λ l. IsPermutation other.counters (given ++ l)) is so_far.whole);
         done = so_far.done ++ (step.item, e.1) ∷ [];
-        same = AllZip-push (IsSameEntry eq) given so_far.done e (step.item, e.1) so_far.same (step.equal, refl);
+        same = AllZip-push (IsSameEntry eq) given so_far.done e (step.item, e.1) so_far.same (step.named, refl);
         steps = steps_more eq old now new so_far.done (step.item, e.1) so_far.steps step.step;
         total = omega (arith, step.step.total, so_far.total, sum_by-append num given (e ∷ []), sum_by-cons num e []);
       }

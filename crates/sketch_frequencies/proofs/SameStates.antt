@@ -105,7 +105,7 @@ module _ {T : Type 0} {eq : T → T → Bool} (laws : IsEquivalence eq) where
 
   -- so a step of an equal item is one of the item
   pub stands_step : (old new : FrequentState T) (x : T) (w : ℕ) → 0 < w → IsState eq old → StepsEqual eq old x w new → (h : FrequentHistory T) → StandsFor eq old h → StandsFor eq new (Update h x w)
-  stands_step old new x w pos ok step h s = stands_equal new h x step.item w step.equal (stands_after laws old new step.item w pos ok step.step h s)
+  stands_step old new x w pos ok step h s = stands_equal new h x step.item w step.named (stands_after laws old new step.item w pos ok step.step h s)
 
   pub budget_step_equal : (old new : FrequentState T) (x : T) (w : ℕ) → IsState eq old → StepsEqual eq old x w new → (h : FrequentHistory T) → StandsFor eq old h → KeepsTailBudget eq old h → KeepsTailBudget eq new (Update h x w)
-  budget_step_equal old new x w ok step h s keeps = budget_equal new h x step.item w step.equal (budget_after laws old new step.item w ok step.step h s keeps)
+  budget_step_equal old new x w ok step h s keeps = budget_equal new h x step.item w step.named (budget_after laws old new step.item w ok step.step h s keeps)

@@ -1,22 +1,19 @@
 -- Many updates, one after another, each with a weight.
 use Rattle.std.proofs.Common.{◌≡◌, ℕ, ◌+◌, ◌^◌, ◌<◌, ◌≤◌, Bool, true, false, List, [], ◌∷◌, ◌++◌, length, take, drop, get_or, refl, sym, ap, ◌∙◌, subst, arith}
-use Rattle.std.proofs.lemmas.Bool.{false≢true, ltb-true}
+use Rattle.std.proofs.lemmas.Bool.{ltb-true}
 use Rattle.std.proofs.lemmas.Bool.Decides.{nat_tests}
 use Rattle.std.proofs.lemmas.List.{append-nil, take_more, take_all, drop_more, take-append-drop}
 use Rattle.std.proofs.lemmas.List.Elements.{filter-append}
 use Rattle.std.proofs.lemmas.List.Sums.{sum_by_more, sum_by_more_le}
 use Rattle.std.proofs.lemmas.Slice.Zip.{length-zip, get_or-zip}
-use Rattle.std.specs.Cmp.{IsEquivalence}
-use Rattle.std.specs.List.{AllZip, zip}
-use Rattle.std.specs.Prelude.{IsTrue, filter, nat_lt, not, ◌&&◌, sum}
+use Rattle.std.specs.List.{zip}
+use Rattle.std.specs.Prelude.{filter, nat_lt, sum}
 use Rattle.sketch_frequencies.specs.History.{FrequentHistory}
 use Rattle.sketch_frequencies.specs.History.FrequentHistory.{Update}
-use Rattle.sketch_frequencies.specs.KeyedBatches.{UpdatesKeys, UpdatesWeighedKeys}
 use Rattle.sketch_frequencies.specs.Stands.{StandsFor, KeepsTailBudget, Extends, ExtendsBudget}
 use Rattle.sketch_frequencies.specs.State.{FrequentState}
-use Rattle.sketch_frequencies.specs.Steps.{StepsEqual, StepsByKey}
+use Rattle.sketch_frequencies.specs.Steps.{StepsEqual}
 use Rattle.sketch_frequencies.specs.WeightedBatches.{all_weighed, StepsEqualWeighed, UpdatesWeighed}
-use Rattle.sketch_frequencies.proofs.Batches.{updates_none, updates_more}
 use Rattle.sketch_frequencies.proofs.Cases.{by_test}
 
 -- ---- the pairs of an item and its weight
@@ -26,7 +23,7 @@ abbrev pub has_weight : {I : Type 0} → I × ℕ → Bool
 has_weight pair = nat_lt 0 pair.1
 
 -- a weight that is not above 0 is 0
-zero_from : (n : ℕ) → nat_lt 0 n ≡ false → n ≡ 0
+pub zero_from : (n : ℕ) → nat_lt 0 n ≡ false → n ≡ 0
 zero_from n none = grind (arith, nat_tests)
 
 -- one more pair
@@ -57,11 +54,6 @@ weighed_all xs ws i same le = take_all i (zip xs ws) (omega (arith, length-zip x
 pub some_from : (w : ℕ) → ¬ (w ≡ 0) → nat_lt 0 w ≡ true
 some_from w other = by_test (nat_lt 0 w) (λ b. b ≡ true) (λ _. refl) (λ none. absurd (other (zero_from w none)))
 
--- an item for which the table must double is not tracked
-pub untracked_from_due : (tracked grow : Bool) → not tracked && grow ≡ true → tracked ≡ false
-untracked_from_due true grow due = absurd (false≢true due)
-untracked_from_due false grow due = refl
-
 -- ---- the room for all weights
 
 pub one_fits : (ws : List ℕ) (i start now : ℕ) → i < length ws → start + sum ws < 2 ^ 64 → now ≡ start + sum (take i ws) → now + get_or ws i 0 < 2 ^ 64
@@ -91,7 +83,7 @@ pub weights_none : {T : Type 0} (eq : T → T → Bool) (old : FrequentState T) 
 weights_none eq old = record { steps = refl; stands = λ h s. s; budget = λ h s k. k }
 
 -- one more is
-weights_push : {T : Type 0} (eq : T → T → Bool) (old mid new : FrequentState T) (ps : List (T × ℕ)) (p : T × ℕ) → UpdatesWeighed eq old ps mid → StepsEqual eq mid p.0 p.1 new → Extends eq mid new (λ h. Update h p.0 p.1) → ExtendsBudget eq mid new (λ h. Update h p.0 p.1) → UpdatesWeighed eq old (ps ++ p ∷ []) new
+pub weights_push : {T : Type 0} (eq : T → T → Bool) (old mid new : FrequentState T) (ps : List (T × ℕ)) (p : T × ℕ) → UpdatesWeighed eq old ps mid → StepsEqual eq mid p.0 p.1 new → Extends eq mid new (λ h. Update h p.0 p.1) → ExtendsBudget eq mid new (λ h. Update h p.0 p.1) → UpdatesWeighed eq old (ps ++ p ∷ []) new
 weights_push {T} eq old mid new ps p before step stands budget = record {
   steps = steps_more eq old mid new ps p before.steps step;
   stands = λ h s. subst (λ (g : FrequentHistory T). StandsFor eq new g) (sym (history_more h ps p)) (stands (all_weighed h ps) (before.stands h s));
@@ -99,23 +91,15 @@ weights_push {T} eq old mid new ps p before step stands budget = record {
 }
 
 -- a pair behind others is kept if its weight is above 0, and left out if it is 0
-filter_some : {I : Type 0} (ps : List (I × ℕ)) (p : I × ℕ) → nat_lt 0 p.1 ≡ true → filter has_weight (ps ++ p ∷ []) ≡ filter has_weight ps ++ p ∷ []
+pub filter_some : {I : Type 0} (ps : List (I × ℕ)) (p : I × ℕ) → nat_lt 0 p.1 ≡ true → filter has_weight (ps ++ p ∷ []) ≡ filter has_weight ps ++ p ∷ []
 filter_some {I} ps p some =
     let one : filter has_weight (p ∷ []) ≡ p ∷ [] = rw some refl in
     filter-append has_weight ps (p ∷ []) ∙ ap (λ ys. filter has_weight ps ++ ys) one
 
-filter_none : {I : Type 0} (ps : List (I × ℕ)) (p : I × ℕ) → nat_lt 0 p.1 ≡ false → filter has_weight (ps ++ p ∷ []) ≡ filter has_weight ps
+pub filter_none : {I : Type 0} (ps : List (I × ℕ)) (p : I × ℕ) → nat_lt 0 p.1 ≡ false → filter has_weight (ps ++ p ∷ []) ≡ filter has_weight ps
 filter_none {I} ps p none =
     let nothing : filter has_weight (p ∷ []) ≡ [] = rw none refl in
     filter-append has_weight ps (p ∷ []) ∙ (ap (λ ys. filter has_weight ps ++ ys) nothing ∙ append-nil (filter has_weight ps))
-
--- one more weight, which may be 0
-pub weights_more : {T : Type 0} (eq : T → T → Bool) (old mid new : FrequentState T) (ps : List (T × ℕ)) (p : T × ℕ) → UpdatesWeighed eq old (filter has_weight ps) mid → (p.1 ≡ 0 → new ≡ mid) → (0 < p.1 → StepsEqual eq mid p.0 p.1 new)
-    → (0 < p.1 → Extends eq mid new (λ h. Update h p.0 p.1)) → (0 < p.1 → ExtendsBudget eq mid new (λ h. Update h p.0 p.1)) → UpdatesWeighed eq old (filter has_weight (ps ++ p ∷ [])) new
-weights_more {T} eq old mid new ps p before same step stands budget =
-    by_test (nat_lt 0 p.1) (λ b. UpdatesWeighed eq old (filter has_weight (ps ++ p ∷ [])) new)
-    (λ some. let pos : 0 < p.1 = ltb-true 0 p.1 some in subst (λ ys. UpdatesWeighed eq old ys new) (sym (filter_some ps p some)) (weights_push eq old mid new (filter has_weight ps) p before (step pos) (stands pos) (budget pos)))
-    (λ none. subst (λ ys. UpdatesWeighed eq old ys new) (sym (filter_none ps p none)) (subst (λ (s : FrequentState T). UpdatesWeighed eq old (filter has_weight ps) s) (sym (same (zero_from p.1 none))) before))
 
 -- what one more weight adds to the total
 pub total_after : {T : Type 0} (mid new : FrequentState T) (w : ℕ) → (w ≡ 0 → new ≡ mid) → (0 < w → new.total ≡ mid.total + w) → new.total ≡ mid.total + w
@@ -123,46 +107,3 @@ total_after mid new w same step =
     by_test (nat_lt 0 w) (λ b. new.total ≡ mid.total + w)
     (λ some. step (ltb-true 0 w some))
     (λ none. let z : w ≡ 0 = zero_from w none in ap (λ s. s.total) (same z) ∙ omega arith)
-
--- ---- by keys
-
-all_zip_push : {A B : Type 0} (R : A → B → Type 0) (xs : List A) (ys : List B) (x : A) (y : B) → AllZip R xs ys → R x y → AllZip R (xs ++ x ∷ []) (ys ++ y ∷ [])
-all_zip_push R [] [] x y all one = (one, tt)
-all_zip_push R [] (b ∷ ys) x y all one = absurd all
-all_zip_push R (a ∷ xs) [] x y all one = absurd all
-all_zip_push R (a ∷ xs) (b ∷ ys) x y all one = (all.0, all_zip_push R xs ys x y all.1 one)
-
--- no key yet
-pub keys_none : {K T : Type 0} (eq : T → T → Bool) (names : K → T → Bool) (old : FrequentState T) → UpdatesKeys eq names old [] old
-keys_none eq names old = record { items = []; named = tt; updates = updates_none eq old }
-
--- one more
-pub keys_more : {K T : Type 0} {eq : T → T → Bool} → IsEquivalence eq → (names : K → T → Bool) (old mid new : FrequentState T) (keys : List K) (key : K) → UpdatesKeys eq names old keys mid → StepsByKey eq mid (names key) 1 new
-    → ((x : T) → IsTrue (names key x) → Extends eq mid new (λ h. Update h x 1)) → ((x : T) → IsTrue (names key x) → ExtendsBudget eq mid new (λ h. Update h x 1)) → UpdatesKeys eq names old (keys ++ key ∷ []) new
-keys_more {eq = eq} laws names old mid new keys key before step stands budget = record {
-  items = before.items ++ step.item ∷ [];
-  named = all_zip_push (λ k x. IsTrue (names k x)) keys before.items key step.item before.named step.named;
-  updates = updates_more eq old mid new before.items step.item before.updates (record { item = step.item; equal = laws.refl step.item; step = step.step }) (stands step.item step.named) (budget step.item step.named);
-}
-
--- no weight of a key yet
-pub weighed_keys_none : {K T : Type 0} (eq : T → T → Bool) (names : K → T → Bool) (old : FrequentState T) → UpdatesWeighedKeys eq names old [] old
-weighed_keys_none eq names old = record { items = []; named = tt; updates = weights_none eq old }
-
-weighed_keys_push : {K T : Type 0} {eq : T → T → Bool} → IsEquivalence eq → (names : K → T → Bool) (old mid new : FrequentState T) (ps : List (K × ℕ)) (p : K × ℕ) → UpdatesWeighedKeys eq names old ps mid → StepsByKey eq mid (names p.0) p.1 new
-    → ((x : T) → IsTrue (names p.0 x) → Extends eq mid new (λ h. Update h x p.1)) → ((x : T) → IsTrue (names p.0 x) → ExtendsBudget eq mid new (λ h. Update h x p.1)) → UpdatesWeighedKeys eq names old (ps ++ p ∷ []) new
-weighed_keys_push {K} {T} {eq} laws names old mid new ps p before step stands budget =
-    let R : K × ℕ → T × ℕ → Type 0 = λ pair item. IsTrue (names pair.0 item.0) × (item.1 ≡ pair.1) in
-    record {
-      items = before.items ++ (step.item, p.1) ∷ [];
-      named = all_zip_push R ps before.items p (step.item, p.1) before.named (step.named, refl);
-      updates = weights_push eq old mid new before.items (step.item, p.1) before.updates (record { item = step.item; equal = laws.refl step.item; step = step.step }) (stands step.item step.named) (budget step.item step.named);
-    }
-
--- one more, whose weight may be 0
-pub weighed_keys_more : {K T : Type 0} {eq : T → T → Bool} → IsEquivalence eq → (names : K → T → Bool) (old mid new : FrequentState T) (ps : List (K × ℕ)) (p : K × ℕ) → UpdatesWeighedKeys eq names old (filter has_weight ps) mid → (p.1 ≡ 0 → new ≡ mid) → (0 < p.1 → StepsByKey eq mid (names p.0) p.1 new)
-    → (0 < p.1 → (x : T) → IsTrue (names p.0 x) → Extends eq mid new (λ h. Update h x p.1)) → (0 < p.1 → (x : T) → IsTrue (names p.0 x) → ExtendsBudget eq mid new (λ h. Update h x p.1)) → UpdatesWeighedKeys eq names old (filter has_weight (ps ++ p ∷ [])) new
-weighed_keys_more {K} {T} {eq} laws names old mid new ps p before same step stands budget =
-    by_test (nat_lt 0 p.1) (λ b. UpdatesWeighedKeys eq names old (filter has_weight (ps ++ p ∷ [])) new)
-    (λ some. let pos : 0 < p.1 = ltb-true 0 p.1 some in subst (λ ys. UpdatesWeighedKeys eq names old ys new) (sym (filter_some ps p some)) (weighed_keys_push laws names old mid new (filter has_weight ps) p before (step pos) (stands pos) (budget pos)))
-    (λ none. subst (λ ys. UpdatesWeighedKeys eq names old ys new) (sym (filter_none ps p none)) (subst (λ (s : FrequentState T). UpdatesWeighedKeys eq names old (filter has_weight ps) s) (sym (same (zero_from p.1 none))) before))

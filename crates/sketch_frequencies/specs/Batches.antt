@@ -1,12 +1,9 @@
 -- Many updates of weight 1 in one call, each as in a call of its own.
-use Rattle.std.specs.Prelude.{◌≡◌, Bool, false, List, [], ◌∷◌, ◌++◌}
-use Rattle.sketch_base.specs.Errors.{ErrorValue, invalid_argument, no_memory}
-use Rattle.sketch_base.specs.declared.fault.Fault.TheVariants.{WeightOverflow}
-use Rattle.counter_table.specs.Tables.{is_tracked}
+use Rattle.std.specs.Prelude.{◌≡◌, Bool, List, [], ◌∷◌}
 use Rattle.sketch_frequencies.specs.History.{FrequentHistory}
 use Rattle.sketch_frequencies.specs.History.FrequentHistory.{Update}
 use Rattle.sketch_frequencies.specs.Stands.{Extends, ExtendsBudget}
-use Rattle.sketch_frequencies.specs.State.{FrequentState, Overflows, TotalHasRoom}
+use Rattle.sketch_frequencies.specs.State.{FrequentState}
 use Rattle.sketch_frequencies.specs.Steps.{StepsEqual}
 
 module _ {T : Type 0} where
@@ -26,13 +23,3 @@ module _ {T : Type 0} (eq : T → T → Bool) where
     pub steps : StepsEqualAlong old items new
     pub stands : Extends eq old new (λ h. all_updated h items)
     pub budget : ExtendsBudget eq old new (λ h. all_updated h items)
-
-  -- new is old after the items before one were added, and the update of that one fails with e
-  pub record StopsAt (old : FrequentState T) (items : List T) (e : ErrorValue) (new : FrequentState T) : Type 0 where
-    pub before : List T
-    pub refused : T
-    pub behind : List T
-    pub parts : items ≡ before ++ refused ∷ behind
-    pub added : UpdatesAll old before new
-    pub overflow : Overflows new 1 → e ≡ invalid_argument WeightOverflow
-    pub memory : TotalHasRoom new 1 → (e ≡ no_memory) × (is_tracked eq new.counters refused ≡ false)

@@ -18,7 +18,6 @@ pub mod Stands
 pub mod State
 pub mod Steps
 pub mod Streams
-pub mod Strings
 pub mod SuggestedSizes
 pub mod WeightedBatches
 pub mod Writing

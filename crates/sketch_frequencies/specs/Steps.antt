@@ -1,5 +1,5 @@
 -- What an update and a merge do to a sketch. The counters that a purge samples and the order of a merge are unspecified.
-use Rattle.std.specs.Prelude.{◌≡◌, ℕ, ◌+◌, ◌*◌, ◌<◌, ◌≤◌, Bool, true, List, [], ◌∷◌, length, IsPermutation, IsTrue}
+use Rattle.std.specs.Prelude.{◌≡◌, ℕ, ◌+◌, ◌*◌, ◌<◌, ◌≤◌, Bool, List, [], ◌∷◌, length, IsPermutation, IsTrue}
 use Rattle.counter_table.specs.Tables.{put, purged, IsSampleMiddle, IsSameMap}
 use Rattle.sketch_frequencies.specs.State.{FrequentState, capacity}
 
@@ -36,17 +36,15 @@ module _ {T : Type 0} (eq : T → T → Bool) where
         capacity old.size < length (put eq old.counters x w) → old.size ≡ old.max_size →
         Purges old (put eq old.counters x w) new
 
-  -- w was added at an item equal to x
-  pub record StepsEqual (old : FrequentState T) (x : T) (w : ℕ) (new : FrequentState T) : Type 0 where
-    pub item : T
-    pub equal : eq x item ≡ true
-    pub step : Steps old item w new
-
   -- w was added at an item that a key names
   pub record StepsByKey (old : FrequentState T) (names : T → Bool) (w : ℕ) (new : FrequentState T) : Type 0 where
     pub item : T
     pub named : IsTrue (names item)
     pub step : Steps old item w new
+
+  -- w was added at an item equal to x
+  abbrev pub StepsEqual : (old : FrequentState T) → (x : T) → (w : ℕ) → (new : FrequentState T) → Type 0
+  StepsEqual old x w new = StepsByKey old (eq x) w new
 
   -- a step for each pair, in order
   abbrev pub StepsAlong : FrequentState T → List (T × ℕ) → FrequentState T → Type 0

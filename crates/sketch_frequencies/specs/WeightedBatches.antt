@@ -1,11 +1,10 @@
 -- Many updates in one call, each with a weight. Weights of 0 are left out.
-use Rattle.std.specs.Prelude.{◌≡◌, ℕ, Bool, true, false, nat_lt, List, [], ◌∷◌, ◌++◌, filter}
+use Rattle.std.specs.Prelude.{◌≡◌, ℕ, Bool, nat_lt, List, [], ◌∷◌, filter}
 use Rattle.std.specs.List.{zip}
-use Rattle.counter_table.specs.Tables.{is_tracked}
 use Rattle.sketch_frequencies.specs.History.{FrequentHistory}
 use Rattle.sketch_frequencies.specs.History.FrequentHistory.{Update}
 use Rattle.sketch_frequencies.specs.Stands.{Extends, ExtendsBudget}
-use Rattle.sketch_frequencies.specs.State.{FrequentState, must_double}
+use Rattle.sketch_frequencies.specs.State.{FrequentState}
 use Rattle.sketch_frequencies.specs.Steps.{StepsEqual}
 
 -- each item with its weight, in order, without those of weight 0
@@ -30,17 +29,3 @@ module _ {T : Type 0} (eq : T → T → Bool) where
     pub steps : StepsEqualWeighed old pairs new
     pub stands : Extends eq old new (λ h. all_weighed h pairs)
     pub budget : ExtendsBudget eq old new (λ h. all_weighed h pairs)
-
-  -- new is old after the weights before one were added, and the item of that one is not tracked
-  pub record StopsAtWeight (old : FrequentState T) (pairs : List (T × ℕ)) (new : FrequentState T) : Type 0 where
-    pub before : List (T × ℕ)
-    pub refused : T × ℕ
-    pub behind : List (T × ℕ)
-    pub parts : pairs ≡ before ++ refused ∷ behind
-    pub added : UpdatesWeighed old before new
-    pub untracked : is_tracked eq new.counters refused.0 ≡ false
-
-  -- the same, and the table must double before the item of that one is added
-  pub record StopsAtDoubling (old : FrequentState T) (pairs : List (T × ℕ)) (new : FrequentState T) : Type 0 where
-    pub stops : StopsAtWeight old pairs new
-    pub due : must_double eq new stops.refused.0 ≡ true

@@ -93,7 +93,7 @@ pub trait FrequentItemValue: Sized + Eq + Hash {
     /// Returns whether items own memory outside of themselves, as strings do.
     ///
     /// A limit for reading an image counts the bytes of such items: see
-    /// [`deserialize_with_limit`](crate::FrequentItemsSketch::deserialize_with_limit).
+    /// [`deserialize_with_options`](crate::FrequentItemsSketch::deserialize_with_options).
     fn owns_memory() -> bool
         ensures { result ≡ codec.owns };
 

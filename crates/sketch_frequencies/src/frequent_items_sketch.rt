@@ -14,15 +14,13 @@ mod batches;
 mod images;
 mod merging;
 mod reports;
-mod strings;
 mod updates;
-mod words_and_lines;
 
 use crate::frequent_items_sizes::FrequentItemsSizes;
-use crate::sizes::{MIN_MAP_SIZE, check_map_size, check_sample_size, max_sample_of};
-use counter_table::{ReversePurgeItemHashMap, TableKey, capacity_of, lg_of};
+use crate::sizes::{MIN_MAP_SIZE, check_map_size, check_sample_size};
+use counter_table::{EqualClone, ReversePurgeItemHashMap, TableKey, capacity_of, lg_of};
 use sketch_base::{Error, Fault};
-use std::alloc::Global;
+use std::alloc::{AllocError, Global};
 use std::hash::Hash;
 use std::marker::Model;
 
@@ -41,7 +39,7 @@ use std::marker::Model;
 ///
 /// ```
 /// use sketch_frequencies::{Error, ErrorType, FrequentItemsSketch};
-/// use std::alloc::Global;
+/// use std::alloc::{AllocError, Global};
 ///
 /// fn heaviest(alloc: Global, numbers: &[u64]) -> Result<Option<u64>, Error> {
 ///     let mut sketch = FrequentItemsSketch::new(alloc, 64)?;
@@ -91,7 +89,7 @@ impl<T: Eq + Hash + Drop> FrequentItemsSketch<T> {
         ensures accepted { IsOk result → size_fault max_map_size ≡ None }
         ensures refused { IfErr result (λ e. e ≡ refusal_of (size_fault max_map_size)) }
     {
-        Self::with_sample_size(alloc, max_map_size, max_sample_of(max_map_size))
+        Self::with_key(alloc, max_map_size, TableKey::Plain)
     }
 
     /// Creates an empty sketch whose table has 8 slots and may grow to `max_map_size`, a power of two from 8 to 2^30.
@@ -116,7 +114,11 @@ impl<T: Eq + Hash + Drop> FrequentItemsSketch<T> {
         ensures accepted { IsOk result → sizes_fault max_map_size sample_size ≡ None }
         ensures refused { IfErr result (λ e. e ≡ refusal_of (sizes_fault max_map_size sample_size)) }
     {
-        Self::with_sample_size_and_key(alloc, max_map_size, sample_size, TableKey::Plain)
+        let sizes = FrequentItemsSizes {
+            max_map_size,
+            sample_size,
+        };
+        Self::with_sizes(alloc, sizes, TableKey::Plain)
     }
 
     /// Creates an empty sketch as [`new`](Self::new) does, whose table hashes under `key`.
@@ -133,7 +135,7 @@ impl<T: Eq + Hash + Drop> FrequentItemsSketch<T> {
     ///
     /// ```
     /// use sketch_frequencies::{Error, FrequentItemsSketch, HashKey, TableKey};
-    /// use std::alloc::Global;
+    /// use std::alloc::{AllocError, Global};
     ///
     /// fn senders(alloc: Global, random: &[u8; 16]) -> Result<FrequentItemsSketch<u64>, Error> {
     ///     let key = TableKey::Keyed(HashKey::from_bytes(random));
@@ -150,33 +152,7 @@ impl<T: Eq + Hash + Drop> FrequentItemsSketch<T> {
         ensures accepted { IsOk result → size_fault max_map_size ≡ None }
         ensures refused { IfErr result (λ e. e ≡ refusal_of (size_fault max_map_size)) }
     {
-        Self::with_sample_size_and_key(alloc, max_map_size, max_sample_of(max_map_size), key)
-    }
-
-    /// Creates an empty sketch as [`with_sample_size`](Self::with_sample_size) does, whose table hashes under `key`, as that of
-    /// [`with_key`](Self::with_key).
-    ///
-    /// # Errors
-    ///
-    /// Returns those of `with_sample_size`.
-    pub fn with_sample_size_and_key(
-        alloc: Global,
-        max_map_size: usize,
-        sample_size: usize,
-        key: TableKey,
-    ) -> Result<Self, Error>
-        ensures ok { IfOk result (λ sketch. sketch ≡ empty_state max_map_size sample_size key) }
-        ensures state { IfOk result (λ sketch. IsState T.eq sketch) }
-        ensures stands { IfOk result (λ sketch. StandsFor T.eq sketch (New max_map_size sample_size)) }
-        ensures budget { IfOk result (λ sketch. KeepsTailBudget T.eq sketch (New max_map_size sample_size)) }
-        ensures accepted { IsOk result → sizes_fault max_map_size sample_size ≡ None }
-        ensures refused { IfErr result (λ e. e ≡ refusal_of (sizes_fault max_map_size sample_size)) }
-    {
-        let sizes = FrequentItemsSizes {
-            max_map_size,
-            sample_size,
-        };
-        Self::with_sizes(alloc, sizes, key)
+        Self::with_sizes(alloc, FrequentItemsSizes::new(max_map_size), key)
     }
 
     /// Creates an empty sketch of these sizes, whose table hashes under `key`, as that of [`with_key`](Self::with_key).
@@ -337,7 +313,7 @@ impl<T: Eq + Hash + Drop> FrequentItemsSketch<T> {
         self.map.estimated_size()
     }
 
-    /// Returns the same sketch with clones of the items. Clones have to equal their originals.
+    /// Returns the same sketch with clones of the items.
     ///
     /// Allocates a table of the same size and the clones.
     ///
@@ -346,8 +322,7 @@ impl<T: Eq + Hash + Drop> FrequentItemsSketch<T> {
     /// Returns `NoMemory` if the table or a clone cannot be allocated.
     pub fn try_clone(&self) -> Result<Self, Error>
     where
-        T: Clone,
-        requires clones { (x y : T) → T.is_clone x y → IsTrue (T.eq x y) }
+        T: EqualClone,
         ensures same { IfOk result (λ sketch. IsSameState T.eq self.now sketch) }
         ensures state { IfOk result (λ sketch. IsState T.eq sketch) }
         ensures stands { IfOk result (λ sketch. Extends T.eq self.now sketch (λ h. h)) }
@@ -363,5 +338,17 @@ impl<T: Eq + Hash + Drop> FrequentItemsSketch<T> {
             max_size: self.max_size,
             sample_size: self.sample_size,
         })
+    }
+}
+
+impl<T: EqualClone + Hash> Clone for FrequentItemsSketch<T> {
+    ghost is_clone = { IsSameState T.eq };
+
+    /// Clones the sketch as [`try_clone`](FrequentItemsSketch::try_clone) does.
+    fn clone(&self) -> Result<Self, AllocError> {
+        match self.try_clone() {
+            Ok(copy) => Ok(copy),
+            Err(_) => Err(AllocError),
+        }
     }
 }

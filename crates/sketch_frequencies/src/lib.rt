@@ -15,10 +15,15 @@
 //!
 //! [`ReversePurgeItemHashMap`], from the crate `counter_table`, is the table of counters. For items or images from callers who
 //! are not trusted, give a sketch a secret [`TableKey`]. It says what they must not see.
+//!
+//! A sketch has no `Default` and no `FromIterator`, since it needs its size and an allocator. It has no `Extend`, since an
+//! update can fail with an error that `extend` has no room for. It has no `==`: of two sketches of one stream, each can keep
+//! other counters.
 #![tactic(auto)]
 
 mod error_type;
 mod frequent_item_value;
+mod frequent_items_image_options;
 mod frequent_items_sizes;
 mod frequent_items_sketch;
 mod image;
@@ -28,10 +33,12 @@ mod row;
 mod sizes;
 
 pub use counter_table::{
-    HashKey, ItemKey, OwnedKey, ReversePurgeItemHashMap, ReversePurgeItemIter, TableKey,
+    EqualClone, HashKey, ItemKey, Keys, OwnedKey, ReversePurgeItemHashMap, ReversePurgeItemIter,
+    TableKey,
 };
 pub use error_type::ErrorType;
 pub use frequent_item_value::FrequentItemValue;
+pub use frequent_items_image_options::FrequentItemsImageOptions;
 pub use frequent_items_sizes::FrequentItemsSizes;
 pub use frequent_items_sketch::FrequentItemsSketch;
 pub use image::{EMPTY_FLAG_MASK, PREAMBLE_LONGS_EMPTY, PREAMBLE_LONGS_NONEMPTY};

@@ -3,7 +3,9 @@ ghost use Rattle.std.specs.Prelude.{◌≡◌, IfOk, IfErr, IsTrue};
 ghost use Rattle.sketch_base.specs.Errors.{no_memory};
 ghost use Rattle.sketch_frequencies.specs.RowValue.{IsSameRow};
 
+use counter_table::EqualClone;
 use sketch_base::Error;
+use std::alloc::AllocError;
 use std::fmt;
 use std::marker::Model;
 
@@ -64,13 +66,12 @@ impl<T> Row<T> {
         }
     }
 
-    /// Returns the same row with a clone of the item. The clone has to equal the item.
+    /// Returns the same row with a clone of the item.
     ///
     /// Returns `NoMemory` if the clone cannot be allocated.
     pub fn try_clone(&self) -> Result<Self, Error>
     where
-        T: PartialEq + Clone,
-        requires clones { (x y : T) → T.is_clone x y → IsTrue (T.eq x y) }
+        T: EqualClone,
         ensures ok { IfOk result (λ row. IsSameRow T.eq self.now row) }
         ensures err { IfErr result (λ e. e ≡ no_memory) }
     {
@@ -123,5 +124,17 @@ impl<T: fmt::Display> fmt::Display for Row<T> {
             "{} {} {} {}",
             self.item, self.estimate, self.lower_bound, self.upper_bound
         )
+    }
+}
+
+impl<T: EqualClone> Clone for Row<T> {
+    ghost is_clone = { IsSameRow T.eq };
+
+    /// Clones the row as [`try_clone`](Row::try_clone) does.
+    fn clone(&self) -> Result<Self, AllocError> {
+        match self.try_clone() {
+            Ok(copy) => Ok(copy),
+            Err(_) => Err(AllocError),
+        }
     }
 }

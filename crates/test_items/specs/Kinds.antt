@@ -1,5 +1,5 @@
 -- How the items of each kind are compared, hashed and written.
-use Rattle.std.proofs.Common.{◌≡◌, ℕ, Bool, true, false, cond, List, [], Result, Ok, Err, ap, subst}
+use Rattle.std.proofs.Common.{◌≡◌, ℕ, Bool, true, false, cond, List, [], Result, Ok, Err, ap, subst, sym}
 use Rattle.std.specs.Prelude.{◌==◌, ◌%◌, if◌then◌else◌, nat_eq}
 use Rattle.std.proofs.lemmas.Bool.{eqb-true}
 use Rattle.std.specs.Cmp.{IsEquivalence, nat_eq_equiv}
@@ -58,6 +58,11 @@ equivalence kind = record {
 same_of_equal : (kind a b : ℕ) → nat_eq a b ≡ true → same kind a b ≡ true
 same_of_equal kind a b h =
     subst (λ c. same kind a c ≡ true) (eqb-true a b h) (nat_eq_equiv.refl (told_apart_by kind a))
+
+-- a copy of a number is the same
+pub same_of_copy : (kind a b : ℕ) → b ≡ a → same kind a b ≡ true
+same_of_copy kind a b e =
+    subst (λ c. same kind a c ≡ true) (sym e) (nat_eq_equiv.refl (told_apart_by kind a))
 
 -- numbers that are the same feed the same to a hasher
 pub fed_alike : (kind a b : ℕ) → same kind a b ≡ true → fed_by kind a ≡ fed_by kind b

@@ -9,7 +9,7 @@ ghost use Rattle.std.specs.Cmp.Rules.{comparing, hashing};
 ghost use Rattle.test_items.specs.Kinds.{told_apart_by, same, fed_by};
 
 use sketch_base::{Error, Fault, SketchBytes, SketchSlice};
-use sketch_frequencies::FrequentItemValue;
+use sketch_frequencies::{EqualClone, FrequentItemValue};
 use std::alloc::{AllocError, Global};
 use std::hash::{Hash, Hasher};
 
@@ -93,6 +93,13 @@ impl<const KIND: u8> Clone for Item<KIND> {
         }
         Ok(Item(self.0))
     }
+}
+
+impl<const KIND: u8> EqualClone for Item<KIND> {
+    ghost use Rattle.std.proofs.Common.{ap};
+    ghost use Rattle.test_items.specs.Kinds.{same_of_copy};
+
+    ghost clones_equal = { λ x y is. same_of_copy KIND x.0 y.0 (ap (λ item. item.0) is) };
 }
 
 impl<const KIND: u8> FrequentItemValue for Item<KIND> {

@@ -16,7 +16,10 @@ ghost use Rattle.sketch_frequencies.specs.Steps.{Steps, JoinsEqual};
 ghost use Rattle.uses.specs.Groups.{BringsIn, SumsUp, ReportsHeavy, CarriesSums};
 
 use sketch_base::Error;
-use sketch_frequencies::{ErrorType, FrequentItemValue, FrequentItemsSketch, Row, laws};
+use sketch_frequencies::{
+    EqualClone, ErrorType, FrequentItemValue, FrequentItemsImageOptions, FrequentItemsSketch, Row,
+    TableKey, laws,
+};
 use std::alloc::Global;
 use std::hash::Hash;
 use std::marker::Model;
@@ -70,16 +73,14 @@ impl<G: Eq + Hash + Drop> GroupSums<G> {
         self.sketch.update_with_count(group, weight)
     }
 
-    /// Merges the sums of another shard into these, which are then the sums of the rows of both. Clones of groups must
-    /// equal them.
+    /// Merges the sums of another shard into these, which are then the sums of the rows of both.
     ///
     /// # Errors
     ///
     /// Returns the errors of [`merge`](FrequentItemsSketch::merge). The sums are then unchanged.
     pub fn merge(&mut self, other: &Self) -> Result<(), Error>
     where
-        G: Clone,
-        requires clones { (x y : G) → G.is_clone x y → IsTrue (G.eq x y) }
+        G: EqualClone,
         ensures weight { BringsIn other.now.total self.old result self.new }
         ensures join { OnOk result (JoinsEqual G.eq self.old other.now self.new) }
 
@@ -93,15 +94,12 @@ impl<G: Eq + Hash + Drop> GroupSums<G> {
 
     /// Returns the groups that may weigh more than the threshold and the error, heaviest first, each with its bounds.
     ///
-    /// Clones of groups must equal them.
-    ///
     /// # Errors
     ///
     /// Returns `NoMemory` if the rows or a clone cannot be allocated.
     pub fn heavy_groups(&self, threshold: u64) -> Result<Vec<Row<G>>, Error>
     where
-        G: Clone,
-        requires clones { (x y : G) → G.is_clone x y → IsTrue (G.eq x y) }
+        G: EqualClone,
         ensures heavy { IfOk result (λ heavy. (n : ℕ) (rows : List (G × ℕ)) → SumsUp G.eq n self.now rows
             → ReportsHeavy G.eq n threshold self.now.error rows heavy.items) }
         ensures exact { IfOk result (λ heavy.
@@ -148,7 +146,7 @@ impl<G: FrequentItemValue + Drop> GroupSums<G> {
     ///
     /// # Errors
     ///
-    /// Returns the errors of [`deserialize_with_limit`](FrequentItemsSketch::deserialize_with_limit).
+    /// Returns the errors of [`deserialize_with_options`](FrequentItemsSketch::deserialize_with_options).
     pub fn from_image(alloc: Global, image: &[u8], max_bytes: usize) -> Result<Self, Error>
         ensures image { IfOk result (λ sums. IsImageOf G.codec G.content image.now sums) }
         ensures sample { IfOk result (λ sums. sums.sample_size ≡ max_sample_size sums.max_size) }
@@ -162,7 +160,11 @@ impl<G: FrequentItemValue + Drop> GroupSums<G> {
             (first_fault_within G.row max_bytes G.codec image.now)) }
     {
         laws::image_laws::<G>();
-        let sketch = FrequentItemsSketch::deserialize_with_limit(alloc, image, max_bytes)?;
+        let options = FrequentItemsImageOptions {
+            max_bytes,
+            key: TableKey::Plain,
+        };
+        let sketch = FrequentItemsSketch::deserialize_with_options(alloc, image, options)?;
         Ok(GroupSums { sketch })
     }
 }

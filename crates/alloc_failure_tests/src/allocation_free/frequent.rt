@@ -45,7 +45,7 @@ pub fn play_updates(trial: &mut Trial, weight: u64, updates: &[(&str, UpdateBy)]
 /// Returns a sketch's sizes, whether it is empty, and the estimates of two items in one call.
 fn numbers(sketch: &FrequentItemsSketch<i64>) -> [u64; 6] {
     let mut estimates = [0; 2];
-    sketch.estimate_all(&[-1, 3], &mut estimates);
+    sketch.estimate_all([-1, 3].as_slice(), &mut estimates);
     [
         u64::from(sketch.lg_max_map_size()),
         u64::from(sketch.lg_cur_map_size()),

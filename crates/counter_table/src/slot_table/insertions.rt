@@ -82,46 +82,6 @@ impl<T: Eq + Hash + Drop> SlotTable<T> {
         }
     }
 
-    /// Adds to the item's count, or puts a clone of the item into the free slot where its look-up ended.
-    ///
-    /// Returns whether the clone was put. Clones the item only then. Clones have to equal their originals.
-    ///
-    /// # Errors
-    ///
-    /// Returns `NoMemory` if the clone cannot be allocated. The table is then unchanged.
-    #[inline(always)]
-    pub(crate) fn put_clone(&mut self, item: &T, amount: u64) -> Result<bool, Error>
-    where
-        T: Clone,
-        requires clones { (x y : T) → T.is_clone x y → IsTrue (T.eq x y) }
-        requires slots { IsSlots T.eq (hash_in self.old.key T.hash_input) self.old.slots }
-        requires room { is_tracked T.eq (entries_of self.old.slots) item.now ≡ false
-            → length (entries_of self.old.slots) + 1 < length self.old.slots }
-        requires fits { is_tracked T.eq (entries_of self.old.slots) item.now ≡ true
-            → count_of T.eq (entries_of self.old.slots) item.now + amount < 2 ^ 64 }
-        ensures tracked { IfOk result (λ put. is_tracked T.eq (entries_of self.old.slots) item.now ≡ not put) }
-        ensures slots { IsSlots T.eq (hash_in self.new.key T.hash_input) self.new.slots }
-        ensures entries { OnOk result (PutsByKey T.eq (T.eq item.now) (entries_of self.old.slots) amount (entries_of self.new.slots)) }
-        ensures size { length self.new.slots ≡ length self.old.slots }
-        ensures key { self.new.key ≡ self.old.key }
-        ensures err { OnErr result (self.new ≡ self.old) }
-        ensures memory { IfErr result (λ e. e ≡ no_memory) }
-        ensures succeeds { is_tracked T.eq (entries_of self.old.slots) item.now ≡ true → IsOk result }
-    {
-        let probe = self.find(item);
-        match probe.found {
-            Some(_) => {
-                self.add_at(probe.index, amount);
-                Ok(false)
-            }
-            None => {
-                let item = item.clone()?;
-                self.fill(probe.index, probe.probed, item, amount, probe.hash);
-                Ok(true)
-            }
-        }
-    }
-
     /// Adds to the count of the item that the key names, or puts the item into the free slot where its look-up ended.
     ///
     /// Returns whether the item was put. Creates and allocates it only then.
@@ -144,6 +104,7 @@ impl<T: Eq + Hash + Drop> SlotTable<T> {
         ensures err { OnErr result (self.new ≡ self.old) }
         ensures memory { IfErr result (λ e. e ≡ no_memory) }
         ensures succeeds { is_tracked_by_key (K.names key) (entries_of self.old.slots) ≡ true → IsOk result }
+        ensures infallible { K.needs_no_memory key → IsOk result }
     {
         let probe = self.find(key);
         match probe.found {

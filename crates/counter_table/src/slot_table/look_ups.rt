@@ -1,10 +1,11 @@
 //! Look-ups: linear probing from an item's home on, wrapping around at the end.
 //!
 //! Every index from an entry's home to its slot is taken, so a look-up may end at the first free slot.
-ghost use Rattle.std.specs.Prelude.{◌≡◌, ◌<◌, false, length, map, not};
+ghost use Rattle.std.specs.Prelude.{◌≡◌, ◌<◌, ◌%◌, false, length, map, not};
 ghost use Rattle.counter_table.specs.Homes.{home_in};
 ghost use Rattle.counter_table.specs.Probes.{IsProbe, IsFreeSlot};
 ghost use Rattle.counter_table.specs.Slots.{IsTableSize, IsSlots, entries_of, is_taken};
+ghost use Rattle.counter_table.specs.TableHashes as hashes;
 ghost use Rattle.counter_table.specs.TableHashes.{hash_in};
 ghost use Rattle.counter_table.specs.Tables.{count_of};
 
@@ -63,10 +64,10 @@ impl<'a, T: Eq + Hash> SlotSlices<'a, T> {
     #[inline(always)]
     pub(crate) fn find_from<K: ItemKey<T>>(&self, key: K, hash: u64) -> Probe
         requires slots { IsSlots T.eq (hash_in self.now.key T.hash_input) self.now.slots }
-        requires hash { hash ≡ hash_in self.now.key K.hash_input key }
-        ensures probe { IsProbe (K.names key) (home_in (hash_in self.now.key K.hash_input) (length self.now.slots) key)
+        requires hash { hash ≡ hashes.hash_of self.now.key (K.bytes key) }
+        ensures probe { IsProbe (K.names key) (hashes.hash_of self.now.key (K.bytes key) % length self.now.slots)
             self.now.slots result.index result.found result.probed }
-        ensures hash { result.hash ≡ hash_in self.now.key K.hash_input key }
+        ensures hash { result.hash ≡ hashes.hash_of self.now.key (K.bytes key) }
     {
         let slots = self.slots;
         let fingerprints = self.fingerprints;
@@ -157,9 +158,9 @@ impl<T: Eq + Hash + Drop> SlotTable<T> {
     #[inline(always)]
     pub(crate) fn find<K: ItemKey<T>>(&self, key: K) -> Probe
         requires { IsSlots T.eq (hash_in self.now.key T.hash_input) self.now.slots }
-        ensures probe { IsProbe (K.names key) (home_in (hash_in self.now.key K.hash_input) (length self.now.slots) key)
+        ensures probe { IsProbe (K.names key) (hashes.hash_of self.now.key (K.bytes key) % length self.now.slots)
             self.now.slots result.index result.found result.probed }
-        ensures hash { result.hash ≡ hash_in self.now.key K.hash_input key }
+        ensures hash { result.hash ≡ hashes.hash_of self.now.key (K.bytes key) }
     {
         match self.key() {
             TableKey::Plain => {

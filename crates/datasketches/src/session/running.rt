@@ -1,5 +1,5 @@
 //! Running the commands of a session.
-ghost use Rattle.std.specs.Prelude.{◌≡◌, List, Result, true, IfOk, IfErr, OnErr, OnOk, IsTrue};
+ghost use Rattle.std.specs.Prelude.{◌≡◌, List, Result, true, IfOk, IfErr, OnErr, OnOk};
 ghost use Rattle.sketch_base.specs.Errors.{no_memory};
 ghost use Rattle.counter_table.specs.Bytes.{option_bytes};
 ghost use Rattle.datasketches.specs.Actions.{action_of};
@@ -18,15 +18,14 @@ use crate::session::{Session, told};
 use sketch_base::Error;
 use sketch_bloom::BloomFilterBuilder;
 use sketch_countmin::CountMinSizes;
-use sketch_frequencies::{FrequentItemValue, FrequentItemsSizes};
+use sketch_frequencies::{EqualClone, FrequentItemValue, FrequentItemsSizes};
 
-impl<T: FrequentItemValue + Clone + Drop> Session<T> {
+impl<T: FrequentItemValue + EqualClone + Drop> Session<T> {
     /// Runs one command: the call of its name.
     ///
     /// It does to the sketch or image that it creates or names what the sketch's own call does. All others are
     /// unchanged. A rejected command changes nothing.
     pub fn apply(&mut self, command: Command<T>) -> Reply<T>
-        requires clones { (x y : T) → T.is_clone x y → IsTrue (T.eq x y) }
         ensures step { Step (option_bytes T.row) T.eq T.hash_input T.codec T.content self.old command result self.new }
         ensures fits { (a : Assignment T) → SessionStandsFor T.eq T.codec T.content self.old a
             → SessionStandsFor T.eq T.codec T.content self.new (after_one T.hash_input a command result) }
@@ -42,7 +41,6 @@ impl<T: FrequentItemValue + Clone + Drop> Session<T> {
 
     /// Makes the call that a command names.
     fn perform(&mut self, command: Command<T>) -> Reply<T>
-        requires clones { (x y : T) → T.is_clone x y → IsTrue (T.eq x y) }
         ensures { Performed (option_bytes T.row) T.eq T.hash_input T.codec T.content
             (action_of command) self.old result self.new }
     {
@@ -168,7 +166,6 @@ impl<T: FrequentItemValue + Clone + Drop> Session<T> {
     ///
     /// Returns `NoMemory` if the replies cannot be allocated. No command is then run.
     pub fn run(&mut self, commands: Vec<Command<T>>) -> Result<Vec<Reply<T>>, Error>
-        requires clones { (x y : T) → T.is_clone x y → IsTrue (T.eq x y) }
         ensures run { IfOk result (λ replies. Run (option_bytes T.row) T.eq T.hash_input T.codec T.content self.old commands.items replies.items self.new) }
         ensures fits { IfOk result (λ replies. (a : Assignment T) → SessionStandsFor T.eq T.codec T.content self.old a
             → SessionStandsFor T.eq T.codec T.content self.new (after T.hash_input a commands.items replies.items)) }

@@ -1,99 +1,140 @@
 //! Many items, or many other filters, in one call.
 ghost use Rattle.std.specs.Prelude.{◌≡◌, ◌↔◌, map, fold, length, All, IfErr, IsOk, IsTrue, OnOk, OnErr};
 ghost use Rattle.sketch_base.specs.Errors.{invalid_argument};
-ghost use Rattle.sketch_base.specs.Hashes.{fed_bytes};
 ghost use Rattle.sketch_bloom.specs.History.{all_inserted_after, all_united_after};
 ghost use Rattle.sketch_bloom.specs.Pairs.{with_pair, pairs_contained};
 ghost use Rattle.sketch_bloom.specs.Stands.{Extends, ExtendsByAll};
 ghost use Rattle.sketch_bloom.specs.State.{IsFilterState, IsCompatible, contains_item, answers_in_turn, all_inserted, all_united};
 
 use crate::bloom_filter::BloomFilter;
-use crate::hashes::{BLOCK, Batch, ItemBatch, hash_block};
+use crate::hashes::{BLOCK, next_pairs};
 use crate::set_operation::SetOperation;
-use sketch_base::{Error, Fault};
-use std::hash::Hash;
+use sketch_base::{Error, Fault, Items};
 
 impl BloomFilter {
-    /// Inserts the positions of all items, as [`insert`](Self::insert) does one after another. Does not allocate.
+    /// Inserts the positions of all items, as [`insert_item`](Self::insert_item) does one after another. Does not
+    /// allocate.
     ///
-    /// It is faster than a call for each item: the hashes of several items are computed before their words are needed.
-    pub fn insert_all<T: Hash>(&mut self, items: &[T])
-        ensures insertions { self.new ≡ all_inserted self.old (map (fed_bytes T.hash_input) items.now) }
-        ensures state { IsFilterState self.new }
-        ensures stands { Extends self.old self.new (λ h. all_inserted_after h (map (fed_bytes T.hash_input) items.now)) }
-    {
-        self.insert_batch(&ItemBatch { items });
-    }
-
-    /// Writes for each item to `answers` whether all its positions are in the set, as [`contains`](Self::contains)
-    /// returns it. `answers` is as long as `items`. Does not allocate.
-    ///
-    /// It is faster than a call for each item: the hashes of several items are computed before their words are needed.
+    /// It takes any [`Items`]: a slice, or the words or lines of a string. It is faster than a call for each item: the
+    /// hashes of several items are computed before their words are needed.
     ///
     /// # Examples
     ///
     /// ```
+    /// use sketch_base::{Error, Lines, OffsetStrings, Words};
+    /// use sketch_bloom::BloomFilter;
+    ///
+    /// fn insert_numbers(filter: &mut BloomFilter, numbers: &[u64]) {
+    ///     filter.insert_all(numbers);
+    /// }
+    ///
+    /// fn vocabulary_has(vocabulary: &mut BloomFilter, text: &str, word: &str) -> bool {
+    ///     vocabulary.insert_all(Words::new(text));
+    ///     vocabulary.contains_item(word)
+    /// }
+    ///
+    /// fn block_list_has(blocked: &mut BloomFilter, list: &str, name: &str) -> bool {
+    ///     blocked.insert_all(Lines::new(list));
+    ///     blocked.contains_item(name)
+    /// }
+    ///
+    /// fn block_names(blocked: &mut BloomFilter, names: &[u8], ends: &[u64]) -> Result<(), Error> {
+    ///     blocked.insert_all(OffsetStrings::new(names, ends)?);
+    ///     Ok(())
+    /// }
+    /// ```
+    pub fn insert_all<I: Items>(&mut self, mut items: I)
+        ensures insertions { self.new ≡ all_inserted self.old (I.list items) }
+        ensures state { IsFilterState self.new }
+        ensures stands { Extends self.old self.new (λ h. all_inserted_after h (I.list items)) }
+    {
+        let seed = self.bits.seed();
+        let mut pairs = [(0, 0); BLOCK];
+        // The label is for the prover.
+        'each: loop {
+            let count = next_pairs(&mut items, seed, &mut pairs);
+            self.insert_pairs(&pairs[..count]);
+            if count < BLOCK {
+                return;
+            }
+        }
+    }
+
+    /// Writes for each item to `answers` whether all its positions are in the set, as
+    /// [`contains_item`](Self::contains_item) returns it. There is one answer for each item. Does not allocate.
+    ///
+    /// It takes any [`Items`]. It is faster than a call for each item: the hashes of several items are computed before
+    /// their words are needed.
+    ///
+    /// # Examples
+    ///
+    /// ```
+    /// use sketch_base::Strs;
     /// use sketch_bloom::BloomFilter;
     ///
     /// fn known_of_four(seen: &BloomFilter, visitors: &[u64; 4]) -> [bool; 4] {
     ///     let mut known = [false; 4];
-    ///     seen.contains_all(visitors, &mut known);
+    ///     seen.contains_all(visitors.as_slice(), &mut known);
     ///     known
     /// }
+    ///
+    /// fn are_blocked(blocked: &BloomFilter, names: &[&str; 4]) -> [bool; 4] {
+    ///     let mut answers = [false; 4];
+    ///     blocked.contains_all(Strs(names), &mut answers);
+    ///     answers
+    /// }
     /// ```
-    pub fn contains_all<T: Hash>(&self, items: &[T], answers: &mut [bool])
-        requires { length answers.old ≡ length items.now }
-        ensures { answers.new ≡ map (λ item. contains_item self.now (fed_bytes T.hash_input item)) items.now }
+    pub fn contains_all<I: Items>(&self, items: I, answers: &mut [bool])
+        requires { length answers.old ≡ length (I.list items) }
+        ensures { answers.new ≡ map (contains_item self.now) (I.list items) }
     {
-        self.contains_batch(&ItemBatch { items }, answers);
+        self.bits.borrowed().contains_all(items, answers);
     }
 
     /// Inserts the positions of all items, and writes for each item to `answers` whether it was contained before, as
-    /// [`contains_and_insert`](Self::contains_and_insert) does one after another.
+    /// [`contains_and_insert_item`](Self::contains_and_insert_item) does one after another.
     ///
-    /// So an item that occurs twice is contained the second time. `answers` is as long as `items`. Does not allocate.
+    /// So an item that occurs twice is contained the second time. There is one answer for each item. Does not allocate.
     ///
-    /// It is faster than a call for each item: the hashes of several items are computed before their words are needed.
+    /// It takes any [`Items`]. It is faster than a call for each item: the hashes of several items are computed before
+    /// their words are needed.
     ///
     /// # Examples
     ///
     /// ```
+    /// use sketch_base::Strs;
     /// use sketch_bloom::BloomFilter;
     ///
     /// fn repeated_of_four(seen: &mut BloomFilter, visitors: &[u64; 4]) -> [bool; 4] {
     ///     let mut repeated = [false; 4];
-    ///     seen.contains_and_insert_all(visitors, &mut repeated);
+    ///     seen.contains_and_insert_all(visitors.as_slice(), &mut repeated);
+    ///     repeated
+    /// }
+    ///
+    /// fn repeated_names(seen: &mut BloomFilter, names: &[&str; 4]) -> [bool; 4] {
+    ///     let mut repeated = [false; 4];
+    ///     seen.contains_and_insert_all(Strs(names), &mut repeated);
     ///     repeated
     /// }
     /// ```
-    pub fn contains_and_insert_all<T: Hash>(&mut self, items: &[T], answers: &mut [bool])
-        requires { length answers.old ≡ length items.now }
-        ensures answers { answers.new ≡ answers_in_turn self.old (map (fed_bytes T.hash_input) items.now) }
-        ensures insertions { self.new ≡ all_inserted self.old (map (fed_bytes T.hash_input) items.now) }
+    pub fn contains_and_insert_all<I: Items>(&mut self, mut items: I, answers: &mut [bool])
+        requires { length answers.old ≡ length (I.list items) }
+        ensures answers { answers.new ≡ answers_in_turn self.old (I.list items) }
+        ensures insertions { self.new ≡ all_inserted self.old (I.list items) }
         ensures state { IsFilterState self.new }
-        ensures stands { Extends self.old self.new (λ h. all_inserted_after h (map (fed_bytes T.hash_input) items.now)) }
-    {
-        self.contains_and_insert_batch(&ItemBatch { items }, answers);
-    }
-
-    /// Inserts the positions of all items of a batch.
-    #[inline(always)]
-    pub(super) fn insert_batch<B: Batch>(&mut self, batch: &B)
-        ensures insertions { self.new ≡ all_inserted self.old (B.inputs batch.now) }
-        ensures state { IsFilterState self.new }
-        ensures stands { Extends self.old self.new (λ h. all_inserted_after h (B.inputs batch.now)) }
+        ensures stands { Extends self.old self.new (λ h. all_inserted_after h (I.list items)) }
     {
         let seed = self.bits.seed();
-        let count = batch.count();
-        let blocks = count.div_ceil(BLOCK);
         let mut pairs = [(0, 0); BLOCK];
+        let mut from = 0;
         // The label is for the prover.
-        'each: for b in 0..blocks {
-            let from = BLOCK * b;
-            let to = from + BLOCK.min(count - from);
-            let block = &mut pairs[..to - from];
-            hash_block(batch, from, seed, block);
-            self.insert_pairs(block);
+        'each: loop {
+            let count = next_pairs(&mut items, seed, &mut pairs);
+            self.contains_and_insert_pairs(&pairs[..count], &mut answers[from..from + count]);
+            from += count;
+            if count < BLOCK {
+                return;
+            }
         }
     }
 
@@ -105,38 +146,6 @@ impl BloomFilter {
         // The label is for the prover.
         'pairs: for i in 0..pairs.len() {
             self.insert_pair(pairs[i]);
-        }
-    }
-
-    /// Writes for each item of a batch whether all its positions are in the set.
-    #[inline(always)]
-    pub(super) fn contains_batch<B: Batch>(&self, batch: &B, answers: &mut [bool])
-        requires { length answers.old ≡ length (B.inputs batch.now) }
-        ensures { answers.new ≡ map (contains_item self.now) (B.inputs batch.now) }
-    {
-        self.bits.borrowed().contains_batch(batch, answers);
-    }
-
-    /// Inserts the positions of all items of a batch, and writes for each item whether it was contained before.
-    #[inline(always)]
-    pub(super) fn contains_and_insert_batch<B: Batch>(&mut self, batch: &B, answers: &mut [bool])
-        requires { length answers.old ≡ length (B.inputs batch.now) }
-        ensures answers { answers.new ≡ answers_in_turn self.old (B.inputs batch.now) }
-        ensures insertions { self.new ≡ all_inserted self.old (B.inputs batch.now) }
-        ensures state { IsFilterState self.new }
-        ensures stands { Extends self.old self.new (λ h. all_inserted_after h (B.inputs batch.now)) }
-    {
-        let seed = self.bits.seed();
-        let count = batch.count();
-        let blocks = count.div_ceil(BLOCK);
-        let mut pairs = [(0, 0); BLOCK];
-        // The label is for the prover.
-        'each: for b in 0..blocks {
-            let from = BLOCK * b;
-            let to = from + BLOCK.min(count - from);
-            let block = &mut pairs[..to - from];
-            hash_block(batch, from, seed, block);
-            self.contains_and_insert_pairs(block, &mut answers[from..to]);
         }
     }
 

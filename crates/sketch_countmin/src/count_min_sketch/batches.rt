@@ -7,16 +7,17 @@ ghost use Rattle.sketch_countmin.specs.History.{all_updated, each_updated, all_m
 ghost use Rattle.sketch_countmin.specs.Stands.{Extends, ExtendsByAll};
 ghost use Rattle.sketch_countmin.specs.State.{IsCountState, SameShape, CountsAll, CountsEach, JoinsEach, IsMinCell};
 
+use crate::count_min_items::CountMinItems;
 use crate::count_min_sketch::CountMinSketch;
 use crate::count_min_value::CountMinValue;
-use sketch_base::{Error, Fault};
+use crate::row_item::RowItem;
+use sketch_base::{Error, Fault, Items};
 use std::hash::Hash;
 
 impl<T: CountMinValue> CountMinSketch<T> {
-    /// Counts each item of a slice with weight 1, as [`update`](Self::update) does one after another. Does not
-    /// allocate.
+    /// Counts each item with weight 1, as [`update_item`](Self::update_item) does one after another. Does not allocate.
     ///
-    /// It passes over the slice once for each row. This is faster than an update for each item if the slice stays in a
+    /// It passes over a slice once for each row. This is faster than an update for each item if the slice stays in a
     /// cache: pass some thousands of items at a time.
     ///
     /// # Errors
@@ -27,21 +28,63 @@ impl<T: CountMinValue> CountMinSketch<T> {
     /// # Examples
     ///
     /// ```
-    /// use sketch_base::Error;
+    /// use sketch_base::{Error, Words};
     /// use sketch_countmin::CountMinSketch;
     ///
     /// fn count_batch(visits: &mut CountMinSketch<u32>, users: &[u64]) -> Result<(), Error> {
     ///     visits.update_all(users)
     /// }
+    ///
+    /// fn count_text(counts: &mut CountMinSketch<u64>, text: &str) -> Result<(), Error> {
+    ///     counts.update_all(Words::new(text))
+    /// }
     /// ```
-    pub fn update_all<I: Hash>(&mut self, items: &[I]) -> Result<(), Error>
+    pub fn update_all<I: CountMinItems<T>>(&mut self, items: I) -> Result<(), Error>
+        ensures counted { CountsAll self.old (take (T.greatest - self.old.total) (I.list items)) self.new }
+        ensures state { IsCountState T.greatest self.new }
+        ensures stands { Extends self.old self.new (λ h. all_updated h
+            (take (T.greatest - self.old.total) (I.list items))) }
+
+        // The error comes exactly if there are more items than the total has room for.
+        ensures overflow { T.greatest < self.old.total + length (I.list items)
+            → IsErrOf result (invalid_argument Fault.WeightOverflow) }
+        ensures succeeds { self.old.total + length (I.list items) ≤ T.greatest → IsOk result }
+    {
+        items.count_in(self)
+    }
+
+    /// Counts each item with weight 1, item by item.
+    #[inline(always)]
+    pub(crate) fn update_each<I: Items<Each: RowItem<T>>>(
+        &mut self,
+        mut items: I,
+    ) -> Result<(), Error>
+        ensures counted { CountsAll self.old (take (T.greatest - self.old.total) (I.list items)) self.new }
+        ensures state { IsCountState T.greatest self.new }
+        ensures stands { Extends self.old self.new (λ h. all_updated h
+            (take (T.greatest - self.old.total) (I.list items))) }
+        ensures overflow { T.greatest < self.old.total + length (I.list items)
+            → IsErrOf result (invalid_argument Fault.WeightOverflow) }
+        ensures succeeds { self.old.total + length (I.list items) ≤ T.greatest → IsOk result }
+    {
+        // For the prover: this read brings in what holds of every sketch.
+        let _total = self.total;
+        'each: while let Some(item) = items.next() {
+            let Ok(()) = self.update_item(item) else {
+                return Err(Error::invalid_argument(Fault::WeightOverflow));
+            };
+        }
+        Ok(())
+    }
+
+    /// Counts each item of a slice with weight 1, row by row.
+    #[inline(always)]
+    pub(crate) fn update_slice<I: Hash>(&mut self, items: &[I]) -> Result<(), Error>
         ensures counted { CountsAll self.old
             (take (T.greatest - self.old.total) (map (fed_bytes I.hash_input) items.now)) self.new }
         ensures state { IsCountState T.greatest self.new }
         ensures stands { Extends self.old self.new (λ h. all_updated h
             (take (T.greatest - self.old.total) (map (fed_bytes I.hash_input) items.now))) }
-
-        // The error comes exactly if there are more items than the total has room for.
         ensures overflow { T.greatest < self.old.total + length items.now
             → IsErrOf result (invalid_argument Fault.WeightOverflow) }
         ensures succeeds { self.old.total + length items.now ≤ T.greatest → IsOk result }
@@ -64,10 +107,10 @@ impl<T: CountMinValue> CountMinSketch<T> {
         self.total = T::from_number_in_range(self.total.to_number() + items.len() as i128);
     }
 
-    /// Counts each item of a slice with its weight, as [`update_with_weight`](Self::update_with_weight) does one after
+    /// Counts each item with its weight, as [`update_item_with_weight`](Self::update_item_with_weight) does one after
     /// another. Does not allocate.
     ///
-    /// All items are counted, or none. `weights` is as long as `items`.
+    /// All items are counted, or none. There are as many `weights` as items.
     ///
     /// # Errors
     ///
@@ -77,24 +120,28 @@ impl<T: CountMinValue> CountMinSketch<T> {
     /// # Examples
     ///
     /// ```
-    /// use sketch_base::Error;
+    /// use sketch_base::{Error, Strs};
     /// use sketch_countmin::CountMinSketch;
     ///
     /// fn count_bytes(
     ///     traffic: &mut CountMinSketch<u64>,
-    ///     hosts: [u32; 2],
+    ///     hosts: &[&str; 2],
     ///     bytes: [u64; 2],
     /// ) -> Result<(), Error> {
-    ///     traffic.update_all_weighted(&hosts, &bytes)
+    ///     traffic.update_all_with_weights(Strs(hosts), &bytes)
     /// }
     /// ```
-    pub fn update_all_weighted<I: Hash>(&mut self, items: &[I], weights: &[T]) -> Result<(), Error>
-        requires { length weights.now ≡ length items.now }
+    pub fn update_all_with_weights<I: CountMinItems<T>>(
+        &mut self,
+        mut items: I,
+        weights: &[T],
+    ) -> Result<(), Error>
+        requires { length weights.now ≡ length (I.list items) }
         ensures counted { OnOk result (CountsEach self.old
-            (zip (map (fed_bytes I.hash_input) items.now) (map T.number weights.now)) self.new) }
+            (zip (I.list items) (map T.number weights.now)) self.new) }
         ensures state { IsCountState T.greatest self.new }
         ensures stands { OnOk result (Extends self.old self.new (λ h. each_updated h
-            (zip (map (fed_bytes I.hash_input) items.now) (map T.number weights.now)))) }
+            (zip (I.list items) (map T.number weights.now)))) }
 
         // The error comes exactly if the total would exceed the maximum, and leaves the sketch unchanged.
         ensures err { OnErr result (self.new ≡ self.old) }
@@ -106,15 +153,16 @@ impl<T: CountMinValue> CountMinSketch<T> {
         if !self.has_room_for_weights(weights) {
             return Err(Error::invalid_argument(Fault::WeightOverflow));
         }
-        // The label is for the prover.
-        'each: for i in 0..items.len() {
-            let _ = self.update_with_weight(&items[i], weights[i]);
+        let mut i = 0;
+        'each: while let Some(item) = items.next() {
+            let _ = self.update_item_with_weight(item, weights[i]);
+            i += 1;
         }
         Ok(())
     }
 
     /// Returns whether the total has room for the absolute values of all weights.
-    pub(super) fn has_room_for_weights(&self, weights: &[T]) -> bool
+    fn has_room_for_weights(&self, weights: &[T]) -> bool
         ensures fits { IsTrue result
             ↔ (self.now.total + sum_by (λ weight. unsigned_abs (T.number weight)) weights.now ≤ T.greatest) }
 
@@ -141,9 +189,10 @@ impl<T: CountMinValue> CountMinSketch<T> {
         (T::MAX.to_number() - self.total.to_number()) as usize
     }
 
-    /// Writes the estimate of each item to `estimates`, as [`estimate`](Self::estimate) returns it. Does not allocate.
+    /// Writes the estimate of each item to `estimates`, as [`estimate_item`](Self::estimate_item) returns it. Does not
+    /// allocate.
     ///
-    /// `estimates` is as long as `items`. It passes over the items once for each row, as
+    /// There are as many `estimates` as items. It passes over a slice once for each row, as
     /// [`update_all`](Self::update_all) does.
     ///
     /// # Examples
@@ -151,13 +200,43 @@ impl<T: CountMinValue> CountMinSketch<T> {
     /// ```
     /// use sketch_countmin::CountMinSketch;
     ///
-    /// fn visits_of(visits: &CountMinSketch<u32>, users: [u64; 2]) -> [u32; 2] {
+    /// fn visits_of(visits: &CountMinSketch<u32>, users: &[u64; 2]) -> [u32; 2] {
     ///     let mut estimates = [0; 2];
-    ///     visits.estimate_all(&users, &mut estimates);
+    ///     visits.estimate_all(users.as_slice(), &mut estimates);
     ///     estimates
     /// }
     /// ```
-    pub fn estimate_all<I: Hash>(&self, items: &[I], estimates: &mut [T])
+    pub fn estimate_all<I: CountMinItems<T>>(&self, items: I, estimates: &mut [T])
+        requires same_length { length (I.list items) ≡ length estimates.old }
+        ensures length { length estimates.new ≡ length (I.list items) }
+        ensures least { (i : ℕ) → i < length (I.list items) → IsMinCell self.now
+            (slice_index_or (I.list items) i []) (slice_index_or (map T.number estimates.new) i (pos 0)) }
+    {
+        items.estimate_in(self, estimates)
+    }
+
+    /// Writes the estimate of each item, item by item.
+    #[inline(always)]
+    pub(crate) fn estimate_each<I: Items<Each: RowItem<T>>>(
+        &self,
+        mut items: I,
+        estimates: &mut [T],
+    )
+        requires same_length { length (I.list items) ≡ length estimates.old }
+        ensures length { length estimates.new ≡ length (I.list items) }
+        ensures least { (i : ℕ) → i < length (I.list items) → IsMinCell self.now
+            (slice_index_or (I.list items) i []) (slice_index_or (map T.number estimates.new) i (pos 0)) }
+    {
+        let mut i = 0;
+        'each: while let Some(item) = items.next() {
+            estimates[i] = self.estimate_item(item);
+            i += 1;
+        }
+    }
+
+    /// Writes the estimate of each item of a slice, row by row.
+    #[inline(always)]
+    pub(crate) fn estimate_slice<I: Hash>(&self, items: &[I], estimates: &mut [T])
         requires same_length { length items.now ≡ length estimates.old }
         ensures length { length estimates.new ≡ length items.now }
         ensures least { (i : ℕ) → i < length items.now → IsMinCell self.now

@@ -7,6 +7,7 @@ ghost use Rattle.sketch_countmin.specs.Image.{early_fault, late_fault, first_fau
 ghost use Rattle.sketch_countmin.specs.Preamble.{IsPreamble};
 ghost use Rattle.sketch_countmin.specs.State.{IsCountState};
 
+use crate::count_min_image_options::CountMinImageOptions;
 use crate::count_min_sketch::CountMinSketch;
 use crate::count_min_value::CountMinValue;
 use crate::grid::Grid;
@@ -118,7 +119,7 @@ impl<T: CountMinValue> CountMinSketch<T> {
     ///
     /// Bytes after the image, and unused bytes within it, are ignored. It allocates as many cells as the image states.
     /// An image that is marked empty contains no cells, but may state up to 2^30 - 1, which are 8 GiB if `T` has 64
-    /// bits: for untrusted images see [`deserialize_with_seed_and_limit`](Self::deserialize_with_seed_and_limit).
+    /// bits: for untrusted images see [`deserialize_with_options`](Self::deserialize_with_options).
     ///
     /// # Errors
     ///
@@ -150,32 +151,13 @@ impl<T: CountMinValue> CountMinSketch<T> {
         ensures err { IfErr result
             (IsImageRefusal (early_fault seed image.now) (first_fault T.least T.greatest seed image.now)) }
     {
-        Self::deserialize_with_seed_and_limit(alloc, image, seed, usize::MAX)
+        let max_bytes = usize::MAX;
+        Self::deserialize_with_options(alloc, image, CountMinImageOptions { seed, max_bytes })
     }
 
-    /// Reads a sketch with the default seed 9001 from an image if it takes at most `max_bytes` bytes, as
-    /// [`deserialize_with_seed_and_limit`](Self::deserialize_with_seed_and_limit) does.
-    pub fn deserialize_with_limit(
-        alloc: Global,
-        image: &[u8],
-        max_bytes: usize,
-    ) -> Result<Self, Error>
-        ensures image { IfOk result (λ sketch. IsImage T.least T.greatest DEFAULT_UPDATE_SEED image.now sketch) }
-        ensures state { IfOk result (λ sketch. IsCountState T.greatest sketch) }
-        ensures stands { IfOk result (λ sketch. Restores T.least T.greatest DEFAULT_UPDATE_SEED image.now sketch) }
-        ensures within { IfOk result
-            (λ sketch. sketch.hashes * sketch.buckets * T.SIZE + 8 * sketch.hashes ≤ max_bytes) }
-        ensures err { IfErr result
-            (IsImageRefusal (early_fault_within T.SIZE max_bytes DEFAULT_UPDATE_SEED image.now)
-            (first_fault_within T.least T.greatest T.SIZE max_bytes DEFAULT_UPDATE_SEED image.now)) }
-    {
-        Self::deserialize_with_seed_and_limit(alloc, image, DEFAULT_UPDATE_SEED, max_bytes)
-    }
-
-    /// Reads a sketch with this seed from an image if its [`estimated_size`](Self::estimated_size) is at most
-    /// `max_bytes`.
+    /// Reads a sketch from an image if its [`estimated_size`](Self::estimated_size) is at most `options.max_bytes`.
     ///
-    /// It does the same as [`deserialize_with_seed`](Self::deserialize_with_seed) otherwise.
+    /// It does the same as [`deserialize_with_seed`](Self::deserialize_with_seed) otherwise, with `options.seed`.
     ///
     /// # Errors
     ///
@@ -186,7 +168,7 @@ impl<T: CountMinValue> CountMinSketch<T> {
     ///
     /// ```
     /// use sketch_base::Error;
-    /// use sketch_countmin::CountMinSketch;
+    /// use sketch_countmin::{CountMinImageOptions, CountMinSketch};
     /// use std::alloc::Global;
     ///
     /// fn sent_counts(
@@ -194,62 +176,70 @@ impl<T: CountMinValue> CountMinSketch<T> {
     ///     counts: &CountMinSketch<u64>,
     /// ) -> Result<CountMinSketch<u64>, Error> {
     ///     let image = counts.serialize()?;
-    ///     CountMinSketch::deserialize_with_seed_and_limit(alloc, &image, counts.seed(), 1 << 20)
+    ///     let options = CountMinImageOptions {
+    ///         seed: counts.seed(),
+    ///         max_bytes: 1 << 20,
+    ///     };
+    ///     CountMinSketch::deserialize_with_options(alloc, &image, options)
     /// }
     /// ```
-    pub fn deserialize_with_seed_and_limit(
+    pub fn deserialize_with_options(
         alloc: Global,
         image: &[u8],
-        seed: u64,
-        max_bytes: usize,
+        options: CountMinImageOptions,
     ) -> Result<Self, Error>
-        ensures image { IfOk result (λ sketch. IsImage T.least T.greatest seed image.now sketch) }
+        ensures image { IfOk result (λ sketch. IsImage T.least T.greatest options.seed image.now sketch) }
         ensures state { IfOk result (λ sketch. IsCountState T.greatest sketch) }
-        ensures stands { IfOk result (λ sketch. Restores T.least T.greatest seed image.now sketch) }
+        ensures stands { IfOk result (λ sketch. Restores T.least T.greatest options.seed image.now sketch) }
         ensures within { IfOk result
-            (λ sketch. sketch.hashes * sketch.buckets * T.SIZE + 8 * sketch.hashes ≤ max_bytes) }
+            (λ sketch. sketch.hashes * sketch.buckets * T.SIZE + 8 * sketch.hashes ≤ options.max_bytes) }
         ensures err { IfErr result
-            (IsImageRefusal (early_fault_within T.SIZE max_bytes seed image.now)
-            (first_fault_within T.least T.greatest T.SIZE max_bytes seed image.now)) }
+            (IsImageRefusal (early_fault_within T.SIZE options.max_bytes options.seed image.now)
+            (first_fault_within T.least T.greatest T.SIZE options.max_bytes options.seed image.now)) }
     {
-        let preamble = read_preamble(image, seed)?;
+        let preamble = read_preamble(image, options.seed)?;
         let num_hashes = preamble.num_hashes as usize;
         let num_cells = num_hashes * preamble.num_buckets as usize;
-        if num_cells * T::SIZE + 8 * num_hashes > max_bytes {
+        if num_cells * T::SIZE + 8 * num_hashes > options.max_bytes {
             return Err(Error::invalid_data(Fault::TableTooLarge));
         }
         if preamble.is_empty {
-            Self::empty(alloc, preamble.num_hashes, preamble.num_buckets, seed)
+            Self::empty(
+                alloc,
+                preamble.num_hashes,
+                preamble.num_buckets,
+                options.seed,
+            )
         } else {
-            Self::with_cells_of(alloc, image, preamble, seed)
+            Self::with_cells_of(alloc, image, preamble, options.seed)
         }
     }
 
     /// Reads a sketch from the image at the front of `image`, as
-    /// [`deserialize_with_seed_and_limit`](Self::deserialize_with_seed_and_limit) does, and returns the number of bytes
-    /// that the image takes with it.
+    /// [`deserialize_with_options`](Self::deserialize_with_options) does, and returns the number of bytes that the image
+    /// takes with it.
     ///
     /// So images can be read that stand one after another.
     ///
     /// # Errors
     ///
-    /// The errors of `deserialize_with_seed_and_limit`.
+    /// The errors of `deserialize_with_options`.
     ///
     /// # Examples
     ///
     /// ```
     /// use sketch_base::Error;
-    /// use sketch_countmin::CountMinSketch;
+    /// use sketch_countmin::{CountMinImageOptions, CountMinSketch};
     /// use std::alloc::Global;
     ///
     /// fn sum_of_two_images(
     ///     alloc: Global,
     ///     images: &[u8],
-    ///     seed: u64,
+    ///     options: CountMinImageOptions,
     /// ) -> Result<CountMinSketch<u64>, Error> {
-    ///     let (mut first, used) = CountMinSketch::deserialize_prefix(alloc, images, seed, 1 << 20)?;
+    ///     let (mut first, used) = CountMinSketch::deserialize_prefix(alloc, images, options)?;
     ///     let rest = &images[used..];
-    ///     let (second, _) = CountMinSketch::deserialize_prefix(alloc, rest, seed, 1 << 20)?;
+    ///     let (second, _) = CountMinSketch::deserialize_prefix(alloc, rest, options)?;
     ///     first.merge(&second)?;
     ///     Ok(first)
     /// }
@@ -257,23 +247,22 @@ impl<T: CountMinValue> CountMinSketch<T> {
     pub fn deserialize_prefix(
         alloc: Global,
         image: &[u8],
-        seed: u64,
-        max_bytes: usize,
+        options: CountMinImageOptions,
     ) -> Result<(Self, usize), Error>
-        ensures image { IfOk result (λ r. IsImage T.least T.greatest seed image.now r.0) }
+        ensures image { IfOk result (λ r. IsImage T.least T.greatest options.seed image.now r.0) }
         ensures state { IfOk result (λ r. IsCountState T.greatest r.0) }
-        ensures stands { IfOk result (λ r. Restores T.least T.greatest seed image.now r.0) }
+        ensures stands { IfOk result (λ r. Restores T.least T.greatest options.seed image.now r.0) }
         ensures within { IfOk result
-            (λ r. r.0.hashes * r.0.buckets * T.SIZE + 8 * r.0.hashes ≤ max_bytes) }
+            (λ r. r.0.hashes * r.0.buckets * T.SIZE + 8 * r.0.hashes ≤ options.max_bytes) }
         ensures used { IfOk result (λ r. r.1 ≡ prefix_bytes image.now) }
-        ensures front { IfOk result (λ r. ReadsFront T.least T.greatest seed image.now r.0 r.1) }
+        ensures front { IfOk result (λ r. ReadsFront T.least T.greatest options.seed image.now r.0 r.1) }
         ensures there { IfOk result (λ r. r.1 ≤ length image.now) }
         ensures err { IfErr result
-            (IsImageRefusal (early_fault_within T.SIZE max_bytes seed image.now)
-            (first_fault_within T.least T.greatest T.SIZE max_bytes seed image.now)) }
+            (IsImageRefusal (early_fault_within T.SIZE options.max_bytes options.seed image.now)
+            (first_fault_within T.least T.greatest T.SIZE options.max_bytes options.seed image.now)) }
     {
-        let preamble = read_preamble(image, seed)?;
-        let sketch = Self::deserialize_with_seed_and_limit(alloc, image, seed, max_bytes)?;
+        let preamble = read_preamble(image, options.seed)?;
+        let sketch = Self::deserialize_with_options(alloc, image, options)?;
         let used = if preamble.is_empty {
             16
         } else {

@@ -1,27 +1,34 @@
-//! Updates of many items in one call.
-ghost use Rattle.std.specs.Prelude.{◌≡◌, ◌+◌, ◌^◌, ◌<◌, ◌↔◌, length, sum, IfErr, IsTrue, OnOk, OnErr, IsErrOf};
+//! Updates of many items in one call, and their estimates and bounds.
+ghost use Rattle.std.specs.Prelude.{◌≡◌, ◌+◌, ◌^◌, ◌<◌, ◌↔◌, true, length, map, sum, IfErr, IsTrue, OnOk, OnErr, IsErrOf};
+ghost use Rattle.std.specs.List.{AllZip};
 ghost use Rattle.sketch_base.specs.Errors.{invalid_argument, no_memory};
-ghost use Rattle.sketch_frequencies.specs.Batches.{UpdatesAll, StopsAt};
+ghost use Rattle.sketch_frequencies.specs.Bounds.{bounds_by_key, BoundWeight};
 ghost use Rattle.sketch_frequencies.specs.KeyedBatches.{UpdatesKeys, StopsAtKey, UpdatesWeighedKeys, StopsAtWeighedKey};
-ghost use Rattle.sketch_frequencies.specs.State.{IsState, Overflows, TotalHasRoom};
-ghost use Rattle.sketch_frequencies.specs.WeightedBatches.{weighed, UpdatesWeighed, StopsAtDoubling, StopsAtWeight};
+ghost use Rattle.sketch_frequencies.specs.Stands.{IsExactOfFew};
+ghost use Rattle.sketch_frequencies.specs.State.{IsState, Overflows, TotalHasRoom, estimate_by_key, must_grow};
+ghost use Rattle.sketch_frequencies.specs.WeightedBatches.{weighed};
 
 use crate::frequent_items_sketch::FrequentItemsSketch;
-use counter_table::OwnedKey;
+use crate::item_bounds::ItemBounds;
+use counter_table::{Keys, OwnedKey};
 use sketch_base::{Error, Fault};
 use std::hash::Hash;
 
 impl<T: Eq + Hash + Drop> FrequentItemsSketch<T> {
-    /// Adds 1 to the weight of an item equal to each of these, in order, as [`update_ref`](Self::update_ref) does.
+    /// Adds 1 to the weight of the item that each key names, in order, as [`update_item`](Self::update_item) does.
+    ///
+    /// Keys are a slice of items or, for a sketch of `String`s, a sequence of strings, such as
+    /// [`Words`](sketch_base::Words) of a string.
     ///
     /// # Errors
     ///
-    /// Stops at the first item whose update fails, and returns that error of `update_ref`. The items before it stay added. That
-    /// item and the items after it are not added.
+    /// Stops at the first key whose update fails, and returns that error: `WeightOverflow` or `NoMemory`. The items of the keys
+    /// before it stay added. The items of that key and of the keys after it are not added.
     ///
     /// # Examples
     ///
     /// ```
+    /// use sketch_base::Words;
     /// use sketch_frequencies::{Error, FrequentItemsSketch};
     /// use std::alloc::Global;
     ///
@@ -33,212 +40,162 @@ impl<T: Eq + Hash + Drop> FrequentItemsSketch<T> {
     ///     sketch.update_all(visitors)?;
     ///     Ok(sketch)
     /// }
+    ///
+    /// fn words_of_line(alloc: Global, line: &str) -> Result<FrequentItemsSketch<String>, Error> {
+    ///     let mut sketch = FrequentItemsSketch::new(alloc, 1024)?;
+    ///     sketch.update_all(Words::new(line))?;
+    ///     Ok(sketch)
+    /// }
     /// ```
-    pub fn update_all(&mut self, items: &[T]) -> Result<(), Error>
+    pub fn update_all<K: Keys<T>>(&mut self, mut keys: K) -> Result<(), Error>
     where
-        T: Clone,
-        requires clones { (x y : T) → T.is_clone x y → IsTrue (T.eq x y) }
-        ensures updates { OnOk result (UpdatesAll T.eq self.old items.now self.new) }
+        K::Key: OwnedKey<T>,
+        ensures updates { OnOk result (UpdatesKeys T.eq self.old (K.names keys) self.new) }
         ensures state { IsState T.eq self.new }
-        ensures err { IfErr result (λ e. StopsAt T.eq self.old items.now e self.new) }
+        ensures err { IfErr result (λ e. StopsAtKey T.eq self.old (K.names keys) e self.new) }
     {
         // Borrows a field, which brings the invariant of the sketch into the proof.
         let _ = &self.map;
-        for item in items {
-            self.update_ref(item)?;
-        }
-        Ok(())
-    }
-
-    /// Adds 1 to the weight of the item that each key names, in order, as [`update_by_key`](Self::update_by_key) does.
-    ///
-    /// # Errors
-    ///
-    /// Stops at the first key whose update fails, and returns that error of `update_by_key`. The items of the keys before it
-    /// stay added. The items of that key and of the keys after it are not added.
-    ///
-    /// # Examples
-    ///
-    /// ```
-    /// use sketch_frequencies::{Error, FrequentItemsSketch};
-    ///
-    /// fn add_fruit(words: &mut FrequentItemsSketch<String>) -> Result<(), Error> {
-    ///     words.update_all_by_key(&["apple", "pear", "apple"])
-    /// }
-    /// ```
-    pub fn update_all_by_key<K: OwnedKey<T>>(&mut self, keys: &[K]) -> Result<(), Error>
-        ensures updates { OnOk result (UpdatesKeys T.eq K.names self.old keys.now self.new) }
-        ensures state { IsState T.eq self.new }
-        ensures err { IfErr result (λ e. StopsAtKey T.eq K.names self.old keys.now e self.new) }
-    {
-        // Borrows a field, which brings the invariant of the sketch into the proof.
-        let _ = &self.map;
-        for key in keys {
-            self.update_by_key(*key)?;
-        }
-        Ok(())
-    }
-
-    /// Adds each weight to that of an item equal to the one at its index, in order.
-    ///
-    /// Both slices have the same length. Each update acts as [`update_with_count_ref`](Self::update_with_count_ref). A weight
-    /// of 0 changes nothing.
-    ///
-    /// # Errors
-    ///
-    /// Returns `WeightOverflow` if the total weight would exceed `u64::MAX` with all weights. The sketch is then unchanged.
-    /// Returns `NoMemory` at the first item for which an allocation fails. The items before it stay added. That item and the
-    /// items after it are not added.
-    ///
-    /// # Examples
-    ///
-    /// ```
-    /// use sketch_frequencies::{Error, FrequentItemsSketch};
-    ///
-    /// fn add_bytes(
-    ///     bytes: &mut FrequentItemsSketch<u64>,
-    ///     pages: &[u64; 3],
-    ///     sizes: &[u64; 3],
-    /// ) -> Result<(), Error> {
-    ///     bytes.update_all_weighted(pages, sizes)
-    /// }
-    /// ```
-    pub fn update_all_weighted(&mut self, items: &[T], weights: &[u64]) -> Result<(), Error>
-    where
-        T: Clone,
-        requires clones { (x y : T) → T.is_clone x y → IsTrue (T.eq x y) }
-        requires same { length weights.now ≡ length items.now }
-        ensures updates { OnOk result (UpdatesWeighed T.eq self.old (weighed items.now weights.now) self.new) }
-        ensures state { IsState T.eq self.new }
-
-        // If the total has no room for all weights, nothing is added.
-        ensures overflow { Overflows self.old (sum weights.now) → IsErrOf result (invalid_argument Fault.WeightOverflow) }
-        ensures unchanged { Overflows self.old (sum weights.now) → self.new ≡ self.old }
-
-        // Otherwise only an allocation fails. The items before it stay added.
-        ensures memory { TotalHasRoom self.old (sum weights.now) → IfErr result (λ e. e ≡ no_memory) }
-        ensures stops { TotalHasRoom self.old (sum weights.now)
-            → OnErr result (StopsAtWeight T.eq self.old (weighed items.now weights.now) self.new) }
-    {
-        if !weights_fit(self.total, weights) {
-            return Err(Error::invalid_argument(Fault::WeightOverflow));
-        }
         // The label names the loop for its proof.
-        'each: for i in 0..items.len() {
-            self.update_with_count_ref(&items[i], weights[i])?;
+        'each: loop {
+            let Some(key) = keys.next_key() else {
+                return Ok(());
+            };
+            self.update_item(key)?;
         }
-        Ok(())
     }
 
-    /// Adds each weight to that of the item at its index, in order, for items that are `Copy`, such as numbers.
+    /// Adds each count to the weight of the item that the key at its index names, in order.
     ///
-    /// Equals [`update_all_weighted`](Self::update_all_weighted), and allocates only if the table must double. Both slices have
-    /// the same length. A weight of 0 changes nothing.
+    /// There are as many keys as counts. Each update acts as [`update_item_with_count`](Self::update_item_with_count). A count of
+    /// 0 changes nothing.
     ///
     /// # Errors
     ///
-    /// Returns `WeightOverflow` if the total weight would exceed `u64::MAX` with all weights. The sketch is then unchanged.
-    /// Returns `NoMemory` at the first item for which the table must double and the allocation fails. The items before it stay
-    /// added. That item and the items after it are not added.
-    ///
-    /// # Examples
-    ///
-    /// ```
-    /// use sketch_frequencies::{Error, FrequentItemsSketch};
-    ///
-    /// fn add_visits(
-    ///     visits: &mut FrequentItemsSketch<u64>,
-    ///     pages: &[u64; 3],
-    ///     counts: &[u64; 3],
-    /// ) -> Result<(), Error> {
-    ///     visits.update_all_weighted_copied(pages, counts)
-    /// }
-    /// ```
-    pub fn update_all_weighted_copied(&mut self, items: &[T], weights: &[u64]) -> Result<(), Error>
-    where
-        T: Copy,
-        requires same { length weights.now ≡ length items.now }
-        ensures updates { OnOk result (UpdatesWeighed T.eq self.old (weighed items.now weights.now) self.new) }
-        ensures state { IsState T.eq self.new }
-
-        // If the total has no room for all weights, nothing is added.
-        ensures overflow { Overflows self.old (sum weights.now) → IsErrOf result (invalid_argument Fault.WeightOverflow) }
-        ensures unchanged { Overflows self.old (sum weights.now) → self.new ≡ self.old }
-
-        // Otherwise the call fails only where the table must double. The items before it stay added.
-        ensures memory { TotalHasRoom self.old (sum weights.now) → IfErr result (λ e. e ≡ no_memory) }
-        ensures stops { TotalHasRoom self.old (sum weights.now)
-            → OnErr result (StopsAtDoubling T.eq self.old (weighed items.now weights.now) self.new) }
-    {
-        if !weights_fit(self.total, weights) {
-            return Err(Error::invalid_argument(Fault::WeightOverflow));
-        }
-        // The label names the loop for its proof.
-        'each: for i in 0..items.len() {
-            self.update_with_count(items[i], weights[i])?;
-        }
-        Ok(())
-    }
-
-    /// Adds each weight to that of the item that the key at its index names, in order.
-    ///
-    /// Both slices have the same length. Each update acts as [`update_with_count_by_key`](Self::update_with_count_by_key). A
-    /// weight of 0 changes nothing.
-    ///
-    /// # Errors
-    ///
-    /// Returns `WeightOverflow` if the total weight would exceed `u64::MAX` with all weights. The sketch is then unchanged.
+    /// Returns `WeightOverflow` if the total weight would exceed `u64::MAX` with all counts. The sketch is then unchanged.
     /// Returns `NoMemory` at the first key for which an allocation fails. The items of the keys before it stay added. The items
     /// of that key and of the keys after it are not added.
     ///
     /// # Examples
     ///
     /// ```
+    /// use sketch_base::Strs;
     /// use sketch_frequencies::{Error, FrequentItemsSketch};
     ///
     /// fn add_prices(prices: &mut FrequentItemsSketch<String>) -> Result<(), Error> {
-    ///     prices.update_all_weighted_by_key(&["apple", "pear"], &[30, 45])
+    ///     prices.update_all_with_counts(Strs(&["apple", "pear"]), &[30, 45])
     /// }
     /// ```
-    pub fn update_all_weighted_by_key<K: OwnedKey<T>>(
+    pub fn update_all_with_counts<K: Keys<T>>(
         &mut self,
-        keys: &[K],
-        weights: &[u64],
+        mut keys: K,
+        counts: &[u64],
     ) -> Result<(), Error>
-        requires same { length weights.now ≡ length keys.now }
-        ensures updates { OnOk result (UpdatesWeighedKeys T.eq K.names self.old (weighed keys.now weights.now) self.new) }
+    where
+        K::Key: OwnedKey<T>,
+        requires same { length counts.now ≡ length (K.names keys) }
+        ensures updates { OnOk result (UpdatesWeighedKeys T.eq self.old (weighed (K.names keys) counts.now) self.new) }
         ensures state { IsState T.eq self.new }
 
-        // If the total has no room for all weights, nothing is added.
-        ensures overflow { Overflows self.old (sum weights.now) → IsErrOf result (invalid_argument Fault.WeightOverflow) }
-        ensures unchanged { Overflows self.old (sum weights.now) → self.new ≡ self.old }
+        // If the total has no room for all counts, nothing is added.
+        ensures overflow { Overflows self.old (sum counts.now) → IsErrOf result (invalid_argument Fault.WeightOverflow) }
+        ensures unchanged { Overflows self.old (sum counts.now) → self.new ≡ self.old }
 
-        // Otherwise only an allocation fails. The items of the keys before it stay added.
-        ensures memory { TotalHasRoom self.old (sum weights.now) → IfErr result (λ e. e ≡ no_memory) }
-        ensures stops { TotalHasRoom self.old (sum weights.now)
-            → OnErr result (StopsAtWeighedKey T.eq K.names self.old (weighed keys.now weights.now) self.new) }
+        // Otherwise only an allocation fails: for an item, or where the table must double. The items of the keys before it stay
+        // added.
+        ensures memory { TotalHasRoom self.old (sum counts.now) → IfErr result (λ e. e ≡ no_memory) }
+        ensures stops { TotalHasRoom self.old (sum counts.now)
+            → OnErr result (StopsAtWeighedKey T.eq self.old (weighed (K.names keys) counts.now) self.new) }
+        ensures doubles { ((key : K.Key) → K.Key.needs_no_memory key) → TotalHasRoom self.old (sum counts.now)
+            → OnErr result (must_grow self.new ≡ true) }
     {
-        if !weights_fit(self.total, weights) {
+        if !counts_fit(self.total, counts) {
             return Err(Error::invalid_argument(Fault::WeightOverflow));
         }
         // The label names the loop for its proof.
-        'each: for i in 0..keys.len() {
-            self.update_with_count_by_key(keys[i], weights[i])?;
+        'each: for i in 0..counts.len() {
+            let Some(key) = keys.next_key() else {
+                return Ok(());
+            };
+            self.update_item_with_count(key, counts[i])?;
         }
         Ok(())
     }
+
+    /// Writes the estimate of the weight of the item that each key names to `estimates`, as
+    /// [`estimate_item`](Self::estimate_item) returns it.
+    ///
+    /// There are as many keys as `estimates`. It does not allocate.
+    ///
+    /// # Examples
+    ///
+    /// ```
+    /// use sketch_frequencies::FrequentItemsSketch;
+    ///
+    /// fn weights_of_four(visits: &FrequentItemsSketch<u64>, pages: &[u64; 4]) -> [u64; 4] {
+    ///     let mut weights = [0; 4];
+    ///     visits.estimate_all(pages.as_slice(), &mut weights);
+    ///     weights
+    /// }
+    /// ```
+    #[inline(never)]
+    pub fn estimate_all<K: Keys<T>>(&self, mut keys: K, estimates: &mut [u64])
+        requires { length estimates.old ≡ length (K.names keys) }
+        ensures value { estimates.new ≡ map (λ names. estimate_by_key names self.now) (K.names keys) }
+        ensures exact { AllZip (λ names answer. (x : T) → IsTrue (names x) → IsExactOfFew T.eq self.now x answer)
+            (K.names keys) estimates.new }
+    {
+        // The label names the loop for its proof.
+        'each: for i in 0..estimates.len() {
+            let Some(key) = keys.next_key() else {
+                return;
+            };
+            estimates[i] = self.estimate_item(key);
+        }
+    }
+
+    /// Writes the bounds and the estimate of the weight of the item that each key names to `bounds`.
+    ///
+    /// They are those of [`bounds_item`](Self::bounds_item), with one look-up for each key. There are as many keys as `bounds`.
+    /// It does not allocate.
+    ///
+    /// # Examples
+    ///
+    /// ```
+    /// use sketch_base::Strs;
+    /// use sketch_frequencies::{FrequentItemsSketch, ItemBounds};
+    ///
+    /// fn bounds_of_fruit(words: &FrequentItemsSketch<String>, bounds: &mut [ItemBounds; 2]) {
+    ///     words.bounds_all(Strs(&["apple", "pear"]), bounds);
+    /// }
+    /// ```
+    #[inline(never)]
+    pub fn bounds_all<K: Keys<T>>(&self, mut keys: K, bounds: &mut [ItemBounds])
+        requires { length bounds.old ≡ length (K.names keys) }
+        ensures value { bounds.new ≡ map (λ names. bounds_by_key names self.now) (K.names keys) }
+        ensures bound { AllZip (λ names answer. (x : T) → IsTrue (names x) → BoundWeight T.eq self.now x answer)
+            (K.names keys) bounds.new }
+    {
+        // The label names the loop for its proof.
+        'each: for i in 0..bounds.len() {
+            let Some(key) = keys.next_key() else {
+                return;
+            };
+            bounds[i] = self.bounds_item(key);
+        }
+    }
 }
 
-/// Returns whether the total has room for all weights.
-pub(super) fn weights_fit(total: u64, weights: &[u64]) -> bool
-    ensures { IsTrue result ↔ (total + sum weights.now < 2 ^ 64) }
+/// Returns whether the total has room for all counts.
+fn counts_fit(total: u64, counts: &[u64]) -> bool
+    ensures { IsTrue result ↔ (total + sum counts.now < 2 ^ 64) }
 {
     let mut room = u64::MAX - total;
-    'each: for i in 0..weights.len() {
-        if weights[i] > room {
+    'each: for i in 0..counts.len() {
+        if counts[i] > room {
             return false;
         }
-        room -= weights[i];
+        room -= counts[i];
     }
     true
 }

@@ -11,13 +11,14 @@ ghost use Rattle.sketch_frequencies.specs.State.{IsState, max_sample_size};
 ghost use Rattle.sketch_frequencies.specs.Writing.{IsImageSize};
 
 use crate::frequent_item_value::FrequentItemValue;
+use crate::frequent_items_image_options::FrequentItemsImageOptions;
 use crate::frequent_items_sketch::FrequentItemsSketch;
 use crate::image::{
     Numbers, bytes_with_items, check_limit, check_weights, items_size, read_counters, read_header,
     read_numbers, table_size, write_empty, write_full,
 };
 use crate::sizes::{MIN_MAP_SIZE, max_sample_of};
-use counter_table::{ReversePurgeItemHashMap, TableKey};
+use counter_table::ReversePurgeItemHashMap;
 use sketch_base::Error;
 use std::alloc::{AllocError, Global};
 
@@ -150,9 +151,9 @@ impl<T: FrequentItemValue + Drop> FrequentItemsSketch<T> {
     ///
     /// Ignores the bytes after the image and the unused bytes within it. Adds up the weights of equal items, and leaves out items
     /// of weight 0. Allocates a table of the size that the image states, at most 2^30 slots, even if few of them are taken.
-    /// [`deserialize_with_limit`](Self::deserialize_with_limit) limits this, and
-    /// [`deserialize_with_limit_and_key`](Self::deserialize_with_limit_and_key) is for untrusted images. The image of an empty sketch gives a table of 8
-    /// slots, whatever size it states. The sample size is not in the image: it is the one that `new` chooses.
+    /// [`deserialize_with_options`](Self::deserialize_with_options) limits this, and is for untrusted images. The image of an
+    /// empty sketch gives a table of 8 slots, whatever size it states. The sample size is not in the image: it is the one that
+    /// `new` chooses.
     ///
     /// # Errors
     ///
@@ -171,11 +172,14 @@ impl<T: FrequentItemValue + Drop> FrequentItemsSketch<T> {
         ensures budget { IfOk result (λ sketch. RestoresBudget T.codec T.content T.eq image.now sketch) }
         ensures err { IfErr result (IsImageRefusal (early_fault image.now) (first_fault T.codec image.now)) }
     {
-        Self::deserialize_with_limit(alloc, image, usize::MAX)
+        Self::deserialize_with_options(alloc, image, FrequentItemsImageOptions::default())
     }
 
-    /// Returns the sketch of an image whose table and items take at most `max_bytes`, as [`deserialize`](Self::deserialize)
-    /// does.
+    /// Returns the sketch of an image as [`deserialize`](Self::deserialize) does, under a limit and a key.
+    ///
+    /// The table and the items take at most `options.max_bytes`, and the table hashes under `options.key`, as that of
+    /// [`with_key`](Self::with_key). With a secret key, no way is known to write an image that takes long to read. This holds for
+    /// callers who see no images, rows, walks or times of calls of sketches under the key ([`TableKey`]).
     ///
     /// The limit is compared with the table's [`estimated_size`](Self::estimated_size). If items own memory, as strings do, the
     /// number of bytes that they take in the image is added to it. So [`memory_bytes`](Self::memory_bytes) of the sketch is within
@@ -192,51 +196,7 @@ impl<T: FrequentItemValue + Drop> FrequentItemsSketch<T> {
     /// # Examples
     ///
     /// ```
-    /// use sketch_frequencies::{Error, FrequentItemsSketch};
-    /// use std::alloc::Global;
-    ///
-    /// fn sent_pages(
-    ///     alloc: Global,
-    ///     pages: &FrequentItemsSketch<u64>,
-    /// ) -> Result<FrequentItemsSketch<u64>, Error> {
-    ///     let image = pages.serialize()?;
-    ///     FrequentItemsSketch::deserialize_with_limit(alloc, &image, 1 << 20)
-    /// }
-    /// ```
-    pub fn deserialize_with_limit(
-        alloc: Global,
-        image: &[u8],
-        max_bytes: usize,
-    ) -> Result<Self, Error>
-        ensures image { IfOk result (λ sketch. IsImageOf T.codec T.content image.now sketch) }
-        ensures state { IfOk result (λ sketch. IsState T.eq sketch) }
-        ensures sample { IfOk result (λ sketch. sketch.sample_size ≡ max_sample_size sketch.max_size) }
-        ensures key { IfOk result (λ sketch. sketch.key ≡ Plain) }
-        ensures stands { IfOk result (λ sketch. Restores T.codec T.content T.eq image.now sketch) }
-        ensures budget { IfOk result (λ sketch. RestoresBudget T.codec T.content T.eq image.now sketch) }
-        ensures within { IfOk result (λ sketch.
-            memory_bytes (table_bytes T.row sketch.size) (owned_by T.codec T.content sketch.counters) ≤ max_bytes) }
-        ensures accepted { IsOk result → limit_fault T.row max_bytes T.codec image.now ≡ None }
-        ensures err { IfErr result (IsImageRefusal (early_fault_within T.row max_bytes T.codec image.now)
-            (first_fault_within T.row max_bytes T.codec image.now)) }
-    {
-        Self::deserialize_with_limit_and_key(alloc, image, max_bytes, TableKey::Plain)
-    }
-
-    /// Returns the sketch of an image as [`deserialize_with_limit`](Self::deserialize_with_limit) does. Its table hashes under
-    /// `key`, as that of [`with_key`](Self::with_key).
-    ///
-    /// With a secret key, no way is known to write an image that takes long to read. This holds for callers who see no images,
-    /// rows, walks or times of calls of sketches under the key ([`TableKey`]).
-    ///
-    /// # Errors
-    ///
-    /// Returns those of `deserialize_with_limit`.
-    ///
-    /// # Examples
-    ///
-    /// ```
-    /// use sketch_frequencies::{Error, FrequentItemsSketch, TableKey};
+    /// use sketch_frequencies::{Error, FrequentItemsImageOptions, FrequentItemsSketch, TableKey};
     /// use std::alloc::Global;
     ///
     /// fn received(
@@ -244,67 +204,69 @@ impl<T: FrequentItemValue + Drop> FrequentItemsSketch<T> {
     ///     image: &[u8],
     ///     key: TableKey,
     /// ) -> Result<FrequentItemsSketch<u64>, Error> {
-    ///     FrequentItemsSketch::deserialize_with_limit_and_key(alloc, image, 1 << 20, key)
+    ///     let options = FrequentItemsImageOptions {
+    ///         max_bytes: 1 << 20,
+    ///         key,
+    ///     };
+    ///     FrequentItemsSketch::deserialize_with_options(alloc, image, options)
     /// }
     /// ```
-    pub fn deserialize_with_limit_and_key(
+    pub fn deserialize_with_options(
         alloc: Global,
         image: &[u8],
-        max_bytes: usize,
-        key: TableKey,
+        options: FrequentItemsImageOptions,
     ) -> Result<Self, Error>
         ensures image { IfOk result (λ sketch. IsImageOf T.codec T.content image.now sketch) }
         ensures state { IfOk result (λ sketch. IsState T.eq sketch) }
         ensures sample { IfOk result (λ sketch. sketch.sample_size ≡ max_sample_size sketch.max_size) }
-        ensures key { IfOk result (λ sketch. sketch.key ≡ key) }
+        ensures key { IfOk result (λ sketch. sketch.key ≡ options.key) }
         ensures stands { IfOk result (λ sketch. Restores T.codec T.content T.eq image.now sketch) }
         ensures budget { IfOk result (λ sketch. RestoresBudget T.codec T.content T.eq image.now sketch) }
         ensures within { IfOk result (λ sketch.
-            memory_bytes (table_bytes T.row sketch.size) (owned_by T.codec T.content sketch.counters) ≤ max_bytes) }
-        ensures accepted { IsOk result → limit_fault T.row max_bytes T.codec image.now ≡ None }
-        ensures err { IfErr result (IsImageRefusal (early_fault_within T.row max_bytes T.codec image.now)
-            (first_fault_within T.row max_bytes T.codec image.now)) }
+            memory_bytes (table_bytes T.row sketch.size) (owned_by T.codec T.content sketch.counters) ≤ options.max_bytes) }
+        ensures accepted { IsOk result → limit_fault T.row options.max_bytes T.codec image.now ≡ None }
+        ensures err { IfErr result (IsImageRefusal (early_fault_within T.row options.max_bytes T.codec image.now)
+            (first_fault_within T.row options.max_bytes T.codec image.now)) }
     {
-        let (sketch, _) = Self::deserialize_prefix(alloc, image, max_bytes, key)?;
+        let (sketch, _) = Self::deserialize_prefix(alloc, image, options)?;
         Ok(sketch)
     }
 
     /// Returns the sketch of the image at the front of `image`, as
-    /// [`deserialize_with_limit_and_key`](Self::deserialize_with_limit_and_key) does, and the number of bytes that the image takes.
+    /// [`deserialize_with_options`](Self::deserialize_with_options) does, and the number of bytes that the image takes.
     ///
     /// So images can be read that stand one after another: the bytes that a sketch wrote are read as its image, whatever follows
     /// them. The limit does not count what follows.
     ///
     /// # Errors
     ///
-    /// Returns those of `deserialize_with_limit`.
+    /// Returns those of `deserialize_with_options`.
     pub fn deserialize_prefix(
         alloc: Global,
         image: &[u8],
-        max_bytes: usize,
-        key: TableKey,
+        options: FrequentItemsImageOptions,
     ) -> Result<(Self, usize), Error>
         ensures image { IfOk result (λ r. IsImageOf T.codec T.content image.now r.0) }
         ensures state { IfOk result (λ r. IsState T.eq r.0) }
         ensures sample { IfOk result (λ r. r.0.sample_size ≡ max_sample_size r.0.max_size) }
-        ensures key { IfOk result (λ r. r.0.key ≡ key) }
+        ensures key { IfOk result (λ r. r.0.key ≡ options.key) }
         ensures stands { IfOk result (λ r. Restores T.codec T.content T.eq image.now r.0) }
         ensures budget { IfOk result (λ r. RestoresBudget T.codec T.content T.eq image.now r.0) }
         ensures used { IfOk result (λ r. r.1 ≡ prefix_bytes T.codec image.now) }
         ensures front { IfOk result (λ r. ReadsFront T.codec T.content image.now r.0 r.1) }
         ensures there { IfOk result (λ r. r.1 ≤ length image.now) }
         ensures within { IfOk result (λ r.
-            memory_bytes (table_bytes T.row r.0.size) (owned_by T.codec T.content r.0.counters) ≤ max_bytes) }
-        ensures accepted { IsOk result → limit_fault T.row max_bytes T.codec image.now ≡ None }
-        ensures err { IfErr result (IsImageRefusal (early_fault_within T.row max_bytes T.codec image.now)
-            (first_fault_within T.row max_bytes T.codec image.now)) }
+            memory_bytes (table_bytes T.row r.0.size) (owned_by T.codec T.content r.0.counters) ≤ options.max_bytes) }
+        ensures accepted { IsOk result → limit_fault T.row options.max_bytes T.codec image.now ≡ None }
+        ensures err { IfErr result (IsImageRefusal (early_fault_within T.row options.max_bytes T.codec image.now)
+            (first_fault_within T.row options.max_bytes T.codec image.now)) }
     {
         let header = read_header(image)?;
         let max_size = table_size(header.lg_max);
         let sample_size = max_sample_of(max_size);
         if header.is_empty {
-            check_limit::<T>(MIN_MAP_SIZE, &[], 0, max_bytes)?;
-            let map = ReversePurgeItemHashMap::with_key(alloc, MIN_MAP_SIZE, key)?;
+            check_limit::<T>(MIN_MAP_SIZE, &[], 0, options.max_bytes)?;
+            let map = ReversePurgeItemHashMap::with_key(alloc, MIN_MAP_SIZE, options.key)?;
             let sketch = FrequentItemsSketch {
                 map,
                 error: 0,
@@ -317,9 +279,9 @@ impl<T: FrequentItemValue + Drop> FrequentItemsSketch<T> {
         let size = table_size(header.lg_cur);
         let numbers = read_numbers(image, header.lg_cur)?;
         let items = &image[32 + 8 * numbers.active as usize..];
-        check_limit::<T>(size, items, numbers.active, max_bytes)?;
+        check_limit::<T>(size, items, numbers.active, options.max_bytes)?;
         check_weights(image, &numbers)?;
-        let (map, used) = read_counters(alloc, image, numbers.active, size, key)?;
+        let (map, used) = read_counters(alloc, image, numbers.active, size, options.key)?;
         let sketch = FrequentItemsSketch {
             map,
             error: numbers.error,

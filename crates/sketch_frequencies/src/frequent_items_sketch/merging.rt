@@ -10,6 +10,7 @@ ghost use Rattle.sketch_frequencies.specs.Steps.{JoinsEqual};
 ghost use Rattle.counter_table.specs.Tables.{sum_of};
 
 use crate::frequent_items_sketch::FrequentItemsSketch;
+use counter_table::EqualClone;
 use sketch_base::{Error, Fault};
 use std::hash::Hash;
 
@@ -18,8 +19,7 @@ impl<T: Eq + Hash + Drop> FrequentItemsSketch<T> {
     ///
     /// Adds each counter of the other sketch as an update, in an unspecified order, and then its error and its total. Builds the
     /// result apart from the sketch, and replaces the sketch at the end. Allocates for a clone of the sketch, for clones of the
-    /// other's items and for larger tables. An empty other sketch changes nothing, and nothing is allocated. Clones of the items
-    /// have to equal them.
+    /// other's items and for larger tables. An empty other sketch changes nothing, and nothing is allocated.
     ///
     /// # Errors
     ///
@@ -46,8 +46,7 @@ impl<T: Eq + Hash + Drop> FrequentItemsSketch<T> {
     /// ```
     pub fn merge(&mut self, other: &Self) -> Result<(), Error>
     where
-        T: Clone,
-        requires clones { (x y : T) → T.is_clone x y → IsTrue (T.eq x y) }
+        T: EqualClone,
         ensures nothing { other.now.total ≡ 0 → IsOk result × (self.new ≡ self.old) }
         ensures join { OnOk result (JoinsEqual T.eq self.old other.now self.new) }
         ensures state { IsState T.eq self.new }
@@ -69,7 +68,6 @@ impl<T: Eq + Hash + Drop> FrequentItemsSketch<T> {
     ///
     /// Builds the result apart from the sketch, and replaces the sketch at the end. Allocates for one clone of the sketch, for
     /// clones of the others' items and for larger tables. Empty others change nothing. If all are empty, nothing is allocated.
-    /// Clones of the items have to equal them.
     ///
     /// # Errors
     ///
@@ -90,8 +88,7 @@ impl<T: Eq + Hash + Drop> FrequentItemsSketch<T> {
     /// ```
     pub fn merge_all(&mut self, others: &[&Self]) -> Result<(), Error>
     where
-        T: Clone,
-        requires clones { (x y : T) → T.is_clone x y → IsTrue (T.eq x y) }
+        T: EqualClone,
         ensures nothing { total_of_all (states_of others.now) ≡ 0 → IsOk result × (self.new ≡ self.old) }
         ensures joins { OnOk result (JoinsAll T.eq self.old (states_of others.now) self.new) }
         ensures state { IsState T.eq self.new }
@@ -137,8 +134,7 @@ impl<T: Eq + Hash + Drop> FrequentItemsSketch<T> {
     /// Returns a clone of the sketch with the others merged into it.
     fn merged_with(&self, others: &[&Self]) -> Result<Self, Error>
     where
-        T: Clone,
-        requires clones { (x y : T) → T.is_clone x y → IsTrue (T.eq x y) }
+        T: EqualClone,
         requires fits { TotalHasRoom self.now (total_of_all (states_of others.now)) }
         requires some { 0 < length others.now }
         ensures joins { IfOk result (λ merged. JoinsAll T.eq self.now (states_of others.now) merged) }
@@ -159,8 +155,7 @@ impl<T: Eq + Hash + Drop> FrequentItemsSketch<T> {
     /// Merges another sketch into this one in place. After an error this one may be changed.
     fn absorb(&mut self, other: &Self) -> Result<(), Error>
     where
-        T: Clone,
-        requires clones { (x y : T) → T.is_clone x y → IsTrue (T.eq x y) }
+        T: EqualClone,
         requires fits { TotalHasRoom self.old other.now.total }
         ensures join { OnOk result (JoinsEqual T.eq self.old other.now self.new) }
         ensures total { OnOk result (self.new.total ≡ self.old.total + other.now.total) }
@@ -183,8 +178,7 @@ impl<T: Eq + Hash + Drop> FrequentItemsSketch<T> {
     /// Adds every counter of the other sketch.
     fn add_counters(&mut self, other: &Self) -> Result<(), Error>
     where
-        T: Clone,
-        requires clones { (x y : T) → T.is_clone x y → IsTrue (T.eq x y) }
+        T: EqualClone,
         requires fits { TotalHasRoom self.old other.now.total }
         ensures ok { OnOk result (AddsCounters T.eq self.old other.now.counters self.new) }
         ensures state { IsState T.eq self.new }

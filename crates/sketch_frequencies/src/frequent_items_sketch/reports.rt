@@ -13,7 +13,7 @@ use crate::error_type::ErrorType;
 use crate::frequent_items_sketch::FrequentItemsSketch;
 use crate::item_bounds::ItemBounds;
 use crate::row::Row;
-use counter_table::ItemKey;
+use counter_table::{EqualClone, ItemKey};
 use sketch_base::Error;
 use std::hash::Hash;
 
@@ -26,13 +26,13 @@ impl<T: Eq + Hash + Drop> FrequentItemsSketch<T> {
         ensures value { result ≡ estimate_of T.eq self.now item.now }
         ensures exact { IsExactOfFew T.eq self.now item.now result }
     {
-        self.estimate_by_key(item)
+        self.estimate_item(item)
     }
 
     /// Returns the estimate of the item that the key names. A sketch of `String`s takes a `&str` as the key.
     ///
     /// The estimate is that of [`estimate`](Self::estimate) for an item equal to the key. It does not allocate.
-    pub fn estimate_by_key<K: ItemKey<T>>(&self, key: K) -> u64
+    pub fn estimate_item<K: ItemKey<T>>(&self, key: K) -> u64
         ensures value { result ≡ estimate_by_key (K.names key) self.now }
         ensures item { (x : T) → IsTrue (K.names key x) → result ≡ estimate_of T.eq self.now x }
         ensures exact { (x : T) → IsTrue (K.names key x) → IsExactOfFew T.eq self.now x result }
@@ -42,33 +42,6 @@ impl<T: Eq + Hash + Drop> FrequentItemsSketch<T> {
         match self.map.look_up_by_key(key) {
             Some(count) => count + self.error,
             None => 0,
-        }
-    }
-
-    /// Writes the estimate of each item to `estimates`, as [`estimate`](Self::estimate) returns it.
-    ///
-    /// Both slices have the same length. It does not allocate.
-    ///
-    /// # Examples
-    ///
-    /// ```
-    /// use sketch_frequencies::FrequentItemsSketch;
-    ///
-    /// fn weights_of_four(visits: &FrequentItemsSketch<u64>, pages: &[u64; 4]) -> [u64; 4] {
-    ///     let mut weights = [0; 4];
-    ///     visits.estimate_all(pages, &mut weights);
-    ///     weights
-    /// }
-    /// ```
-    #[inline(never)]
-    pub fn estimate_all(&self, items: &[T], estimates: &mut [u64])
-        requires { length estimates.old ≡ length items.now }
-        ensures value { estimates.new ≡ map (estimate_of T.eq self.now) items.now }
-        ensures exact { AllZip (IsExactOfFew T.eq self.now) items.now estimates.new }
-    {
-        // The label names the loop for its proof.
-        'each: for i in 0..items.len() {
-            estimates[i] = self.estimate(&items[i]);
         }
     }
 
@@ -93,7 +66,7 @@ impl<T: Eq + Hash + Drop> FrequentItemsSketch<T> {
     /// Returns the lower bound of the weight of the item that the key names.
     ///
     /// It is the item's count, or 0 if the item is not tracked. It does not allocate.
-    pub fn lower_bound_by_key<K: ItemKey<T>>(&self, key: K) -> u64
+    pub fn lower_bound_item<K: ItemKey<T>>(&self, key: K) -> u64
         ensures value { result ≡ count_by_key (K.names key) self.now.counters }
         ensures bound { (x : T) → IsTrue (K.names key x) → IsLowerBound T.eq self.now x result }
     {
@@ -103,7 +76,7 @@ impl<T: Eq + Hash + Drop> FrequentItemsSketch<T> {
     /// Returns the upper bound of the weight of the item that the key names.
     ///
     /// It is the item's count, or 0 if the item is not tracked, plus the error. It does not allocate.
-    pub fn upper_bound_by_key<K: ItemKey<T>>(&self, key: K) -> u64
+    pub fn upper_bound_item<K: ItemKey<T>>(&self, key: K) -> u64
         ensures value { result ≡ count_by_key (K.names key) self.now.counters + self.now.error }
         ensures bound { (x : T) → IsTrue (K.names key x) → IsUpperBound T.eq self.now x result }
     {
@@ -114,9 +87,9 @@ impl<T: Eq + Hash + Drop> FrequentItemsSketch<T> {
 
     /// Returns both bounds and the estimate of the weight of the item that the key names, with one look-up.
     ///
-    /// They are those of [`lower_bound_by_key`](Self::lower_bound_by_key), [`estimate_by_key`](Self::estimate_by_key)
-    /// and [`upper_bound_by_key`](Self::upper_bound_by_key). It does not allocate.
-    pub fn bounds_by_key<K: ItemKey<T>>(&self, key: K) -> ItemBounds
+    /// They are those of [`lower_bound_item`](Self::lower_bound_item), [`estimate_item`](Self::estimate_item)
+    /// and [`upper_bound_item`](Self::upper_bound_item). It does not allocate.
+    pub fn bounds_item<K: ItemKey<T>>(&self, key: K) -> ItemBounds
         ensures lower { result.lower_bound ≡ count_by_key (K.names key) self.now.counters }
         ensures at_least { (x : T) → IsTrue (K.names key x) → IsLowerBound T.eq self.now x result.lower_bound }
         ensures estimate { result.estimate ≡ estimate_by_key (K.names key) self.now }
@@ -144,62 +117,6 @@ impl<T: Eq + Hash + Drop> FrequentItemsSketch<T> {
         }
     }
 
-    /// Writes the bounds and the estimate of each item's weight to `bounds`, with one look-up for each item.
-    ///
-    /// They are those of [`lower_bound`](Self::lower_bound), [`estimate`](Self::estimate) and
-    /// [`upper_bound`](Self::upper_bound). Both slices have the same length. It does not allocate.
-    ///
-    /// # Examples
-    ///
-    /// ```
-    /// use sketch_frequencies::{FrequentItemsSketch, ItemBounds};
-    ///
-    /// fn bounds_of_pages(
-    ///     visits: &FrequentItemsSketch<u64>,
-    ///     pages: &[u64; 4],
-    ///     bounds: &mut [ItemBounds; 4],
-    /// ) {
-    ///     visits.bounds_all(pages, bounds);
-    /// }
-    /// ```
-    #[inline(never)]
-    pub fn bounds_all(&self, items: &[T], bounds: &mut [ItemBounds])
-        requires { length bounds.old ≡ length items.now }
-        ensures value { bounds.new ≡ map (bounds_of T.eq self.now) items.now }
-        ensures bound { AllZip (BoundWeight T.eq self.now) items.now bounds.new }
-    {
-        // The label names the loop for its proof.
-        'each: for i in 0..items.len() {
-            bounds[i] = self.bounds_by_key(&items[i]);
-        }
-    }
-
-    /// Writes the bounds and the estimate of the weight of the item that each key names to `bounds`.
-    ///
-    /// They are those of [`bounds_by_key`](Self::bounds_by_key), with one look-up for each key. Both slices have the same
-    /// length. It does not allocate.
-    ///
-    /// # Examples
-    ///
-    /// ```
-    /// use sketch_frequencies::{FrequentItemsSketch, ItemBounds};
-    ///
-    /// fn bounds_of_fruit(words: &FrequentItemsSketch<String>, bounds: &mut [ItemBounds; 2]) {
-    ///     words.bounds_all_by_key(&["apple", "pear"], bounds);
-    /// }
-    /// ```
-    pub fn bounds_all_by_key<K: ItemKey<T>>(&self, keys: &[K], bounds: &mut [ItemBounds])
-        requires { length bounds.old ≡ length keys.now }
-        ensures value { bounds.new ≡ map (λ key. bounds_by_key (K.names key) self.now) keys.now }
-        ensures bound { AllZip (λ key answer. (x : T) → IsTrue (K.names key x) → BoundWeight T.eq self.now x answer)
-            keys.now bounds.new }
-    {
-        // The label names the loop for its proof.
-        'each: for i in 0..keys.len() {
-            bounds[i] = self.bounds_by_key(keys[i]);
-        }
-    }
-
     /// Returns the error: the difference between each item's upper and lower bound.
     ///
     /// Let W be the total weight, and L the smallest sample size of all sketches that took part since the last reset, also of those
@@ -224,8 +141,7 @@ impl<T: Eq + Hash + Drop> FrequentItemsSketch<T> {
     /// Equals `frequent_items_with_threshold` with the error as the threshold, and returns its errors.
     pub fn frequent_items(&self, error_type: ErrorType) -> Result<Vec<Row<T>>, Error>
     where
-        T: Clone,
-        requires clones { (x y : T) → T.is_clone x y → IsTrue (T.eq x y) }
+        T: EqualClone,
         ensures exact { IfOk result (λ rows. ShowsExactly T.eq error_type self.now.error self.now rows.items) }
         ensures descending { IfOk result (λ rows. Descends rows.items) }
         ensures err { IfErr result (λ e. e ≡ no_memory) }
@@ -236,7 +152,7 @@ impl<T: Eq + Hash + Drop> FrequentItemsSketch<T> {
     /// Returns the tracked items whose bound is above both the threshold and the error, in rows of descending estimate.
     ///
     /// The bound is the upper bound for `NoFalseNegatives`, and the lower bound for `NoFalsePositives`. The order of equal
-    /// estimates is unspecified. Clones of the items have to equal them. Allocates the rows and the clones.
+    /// estimates is unspecified. Allocates the rows and the clones of the items.
     ///
     /// # Errors
     ///
@@ -262,8 +178,7 @@ impl<T: Eq + Hash + Drop> FrequentItemsSketch<T> {
         threshold: u64,
     ) -> Result<Vec<Row<T>>, Error>
     where
-        T: Clone,
-        requires clones { (x y : T) → T.is_clone x y → IsTrue (T.eq x y) }
+        T: EqualClone,
         ensures exact { IfOk result (λ rows. ShowsExactly T.eq error_type threshold self.now rows.items) }
         ensures descending { IfOk result (λ rows. Descends rows.items) }
 
@@ -282,8 +197,7 @@ impl<T: Eq + Hash + Drop> FrequentItemsSketch<T> {
     /// Returns the rows of a report, in the order of a walk.
     fn passing_rows(&self, error_type: ErrorType, threshold: u64) -> Result<Vec<Row<T>>, Error>
     where
-        T: Clone,
-        requires clones { (x y : T) → T.is_clone x y → IsTrue (T.eq x y) }
+        T: EqualClone,
         ensures exact { IfOk result (λ rows. ShowsExactly T.eq error_type threshold self.now rows.items) }
         ensures err { IfErr result (λ e. e ≡ no_memory) }
     {

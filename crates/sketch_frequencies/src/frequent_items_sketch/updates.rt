@@ -9,7 +9,7 @@ ghost use Rattle.sketch_frequencies.specs.Steps.{Steps, StepsEqual, StepsByKey};
 ghost use Rattle.counter_table.specs.Tables.{is_tracked_by_key, is_tracked, put};
 
 use crate::frequent_items_sketch::FrequentItemsSketch;
-use counter_table::{ItemKey, OwnedKey};
+use counter_table::{EqualClone, ItemKey, OwnedKey};
 use sketch_base::{Error, Fault};
 use std::hash::Hash;
 
@@ -76,8 +76,7 @@ impl<T: Eq + Hash + Drop> FrequentItemsSketch<T> {
     /// Equals [`update_with_count_ref`](Self::update_with_count_ref) with a count of 1, and returns its errors.
     pub fn update_ref(&mut self, item: &T) -> Result<(), Error>
     where
-        T: Clone,
-        requires clones { (x y : T) → T.is_clone x y → IsTrue (T.eq x y) }
+        T: EqualClone,
         ensures step { OnOk result (StepsEqual T.eq self.old item.now 1 self.new) }
         ensures state { IsState T.eq self.new }
         ensures stands { OnOk result (Extends T.eq self.old self.new (λ h. Update h item.now 1)) }
@@ -87,13 +86,13 @@ impl<T: Eq + Hash + Drop> FrequentItemsSketch<T> {
         ensures memory { TotalHasRoom self.old 1 → IfErr result (λ e. e ≡ no_memory) }
         ensures succeeds { TotalHasRoom self.old 1 → is_tracked T.eq self.old.counters item.now ≡ true → IsOk result }
     {
-        self.update_with_count_ref(item, 1)
+        self.update_item(item)
     }
 
     /// Adds `count` to the weight of an item equal to this one. A count of 0 changes nothing and succeeds.
     ///
-    /// Clones the item only if it is not tracked and `count` is not 0. Clones have to equal their originals. Allocates for the
-    /// clone, and for a table of twice the size if the table must double.
+    /// Clones the item only if it is not tracked and `count` is not 0. Allocates for the clone, and for a table of twice the size
+    /// if the table must double.
     ///
     /// # Errors
     ///
@@ -101,8 +100,7 @@ impl<T: Eq + Hash + Drop> FrequentItemsSketch<T> {
     /// allocation fails. After an error the sketch is unchanged.
     pub fn update_with_count_ref(&mut self, item: &T, count: u64) -> Result<(), Error>
     where
-        T: Clone,
-        requires clones { (x y : T) → T.is_clone x y → IsTrue (T.eq x y) }
+        T: EqualClone,
         ensures zero { count ≡ 0 → IsOk result × (self.new ≡ self.old) }
         ensures step { OnOk result (0 < count → StepsEqual T.eq self.old item.now count self.new) }
         ensures state { IsState T.eq self.new }
@@ -117,28 +115,13 @@ impl<T: Eq + Hash + Drop> FrequentItemsSketch<T> {
         ensures memory { TotalHasRoom self.old count → IfErr result (λ e. e ≡ no_memory) }
         ensures succeeds { TotalHasRoom self.old count → is_tracked T.eq self.old.counters item.now ≡ true → IsOk result }
     {
-        if count > u64::MAX - self.total {
-            return Err(Error::invalid_argument(Fault::WeightOverflow));
-        }
-        if count == 0 {
-            return Ok(());
-        }
-        if self.current_map_capacity() > self.num_active_items() {
-            self.put_ref(item, count)?;
-            return Ok(());
-        }
-        if self.adjust(item, count) {
-            return Ok(());
-        }
-        let cloned = item.clone()?;
-        self.track(cloned, count)?;
-        Ok(())
+        self.update_item_with_count(item, count)
     }
 
     /// Adds 1 to the weight of the item that the key names.
     ///
-    /// Equals [`update_with_count_by_key`](Self::update_with_count_by_key) with a count of 1, and returns its errors.
-    pub fn update_by_key<K: OwnedKey<T>>(&mut self, key: K) -> Result<(), Error>
+    /// Equals [`update_item_with_count`](Self::update_item_with_count) with a count of 1, and returns its errors.
+    pub fn update_item<K: OwnedKey<T>>(&mut self, key: K) -> Result<(), Error>
         ensures step { OnOk result (StepsByKey T.eq self.old (K.names key) 1 self.new) }
         ensures state { IsState T.eq self.new }
         ensures stands { OnOk result ((x : T) → IsTrue (K.names key x)
@@ -149,8 +132,9 @@ impl<T: Eq + Hash + Drop> FrequentItemsSketch<T> {
         ensures overflow { Overflows self.old 1 → IsErrOf result (invalid_argument Fault.WeightOverflow) }
         ensures memory { TotalHasRoom self.old 1 → IfErr result (λ e. e ≡ no_memory) }
         ensures succeeds { TotalHasRoom self.old 1 → is_tracked_by_key (K.names key) self.old.counters ≡ true → IsOk result }
+        ensures infallible { K.needs_no_memory key → TotalHasRoom self.old 1 → must_grow self.old ≡ false → IsOk result }
     {
-        self.update_with_count_by_key(key, 1)
+        self.update_item_with_count(key, 1)
     }
 
     /// Adds `count` to the weight of the item that the key names. A sketch of `String`s takes a `&str` as the key.
@@ -169,10 +153,10 @@ impl<T: Eq + Hash + Drop> FrequentItemsSketch<T> {
     /// use sketch_frequencies::{Error, FrequentItemsSketch};
     ///
     /// fn add_word(words: &mut FrequentItemsSketch<String>, word: &str) -> Result<(), Error> {
-    ///     words.update_with_count_by_key(word, 1)
+    ///     words.update_item_with_count(word, 1)
     /// }
     /// ```
-    pub fn update_with_count_by_key<K: OwnedKey<T>>(
+    pub fn update_item_with_count<K: OwnedKey<T>>(
         &mut self,
         key: K,
         count: u64,
@@ -192,6 +176,7 @@ impl<T: Eq + Hash + Drop> FrequentItemsSketch<T> {
         ensures overflow { Overflows self.old count → IsErrOf result (invalid_argument Fault.WeightOverflow) }
         ensures memory { TotalHasRoom self.old count → IfErr result (λ e. e ≡ no_memory) }
         ensures succeeds { TotalHasRoom self.old count → is_tracked_by_key (K.names key) self.old.counters ≡ true → IsOk result }
+        ensures infallible { K.needs_no_memory key → TotalHasRoom self.old count → must_grow self.old ≡ false → IsOk result }
     {
         if count > u64::MAX - self.total {
             return Err(Error::invalid_argument(Fault::WeightOverflow));
@@ -237,30 +222,9 @@ impl<T: Eq + Hash + Drop> FrequentItemsSketch<T> {
         ensures err { OnErr result (self.new ≡ self.old) }
         ensures memory { IfErr result (λ e. e ≡ no_memory) }
         ensures succeeds { is_tracked_by_key (K.names key) self.old.counters ≡ true → IsOk result }
+        ensures infallible { K.needs_no_memory key → IsOk result }
     {
         self.map.adjust_or_put_by_key(key, count)?;
-        self.total += count;
-        Ok(())
-    }
-
-    /// Adds to the item's count, or tracks a clone of the item if it is not tracked, in one look-up.
-    ///
-    /// Requires a free counter. Returns `NoMemory` and changes nothing if the clone cannot be allocated.
-    #[inline]
-    fn put_ref(&mut self, item: &T, count: u64) -> Result<(), Error>
-    where
-        T: Clone,
-        requires clones { (x y : T) → T.is_clone x y → IsTrue (T.eq x y) }
-        requires positive { 0 < count }
-        requires fits { TotalHasRoom self.old count }
-        requires room { length self.old.counters < capacity self.old.size }
-        ensures step { OnOk result (StepsEqual T.eq self.old item.now count self.new) }
-        ensures state { IsState T.eq self.new }
-        ensures err { OnErr result (self.new ≡ self.old) }
-        ensures memory { IfErr result (λ e. e ≡ no_memory) }
-        ensures succeeds { is_tracked T.eq self.old.counters item.now ≡ true → IsOk result }
-    {
-        self.map.adjust_or_put_value_ref(item, count)?;
         self.total += count;
         Ok(())
     }

@@ -38,7 +38,7 @@ fn inserted_at_once(alloc: Global) -> Result<u64, Error> {
         items.push(item)?;
     }
     let mut filter = filled(alloc, 959, 7, 0, 0)?;
-    filter.insert_all(&items);
+    filter.insert_all(items.as_slice());
     Ok(filter.bits_used())
 }
 
@@ -48,7 +48,7 @@ fn takes_many_items_at_once(rt: HostRuntime) -> Result<(), Fail> {
     assert!(rt; inserted_at_once(rt.alloc()) == Ok(499));
     let one = filled(rt.alloc(), 64, 1, 0, 4)?;
     let mut answers = [false; 4];
-    one.contains_all(&[4u64, 5, 11, 12], &mut answers);
+    one.contains_all([4u64, 5, 11, 12].as_slice(), &mut answers);
     assert!(rt; answers == [true, false, true, false]);
     Ok(())
 }

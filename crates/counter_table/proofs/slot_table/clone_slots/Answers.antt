@@ -20,7 +20,7 @@ loop-slot-preserved g c =
           let t = w.in-Taken in
           let y = w.in_ok-clone-in-Taken.field-0 in
           record {
-            same = rw (more, c.push_reserved.ensures.items, w.clone-is, t.is) (AllZip-push R (take i xs) c.loop-slot.clones.items (Taken t.drift t.count t.item) (Taken t.drift t.count y) c.loop-slot.invariant.same (refl, refl, c.requires.clones t.item y w.in_ok-clone-in-Taken.ensures.cases));
+            same = rw (more, c.push_reserved.ensures.items, w.clone-is, t.is) (AllZip-push R (take i xs) c.loop-slot.clones.items (Taken t.drift t.count t.item) (Taken t.drift t.count y) c.loop-slot.invariant.same (refl, refl, g.met.T.EqualClone.clones_equal t.item y w.in_ok-clone-in-Taken.ensures.cases));
             room = omega (arith, c.loop-slot.invariant.room, c.push_reserved.ensures.capacity);
           }
       | in-Free w ↦ record {

@@ -5,10 +5,10 @@ use Rattle.datasketches_c.proofs.count.estimate.Goals as goal
 
 -- the handle has a sketch of the kind and gets it back, or it has none, or one of another kind
 pub returns-in-Some-part_in : goal.returns-in-Some-part_in
-returns-in-Some-part_in g c = wrote_down _ c.args.handle.now.value c.give.new.self.value c.deref.result.now c.in-Some-part_in.sketch.now c.args.estimate.now c.estimate_in.result (λ s. IsEstimate s (g.I.CountItem.bytes c.args.item) (g.V.CountMinValue.number c.estimate_in.result)) (c.in-Some.ensures.sketch ∙ ap Some (sym c.deref.ensures)) c.in-Some-part_in.ensures (c.give.ensures ∙ ap Some (sym c.deref.ensures)) c.estimate_in.ensures
+returns-in-Some-part_in g c = wrote_down _ c.args.handle.now.value c.give.new.self.value c.deref.result.now c.in-Some-part_in.sketch.now c.args.estimate.now c.estimate_item.result (λ s. IsEstimate s (g.R.Item.bytes c.args.item) (g.V.CountMinValue.number c.estimate_item.result)) (c.in-Some.ensures.sketch ∙ ap Some (sym c.deref.ensures)) c.in-Some-part_in.ensures (c.give.ensures ∙ ap Some (sym c.deref.ensures)) (record { least = c.estimate_item.ensures.least; encloses = c.estimate_item.ensures.encloses; raised = c.estimate_item.ensures.raised })
 
 pub returns-in_default : goal.returns-in_default
-returns-in_default g c = none_written _ c.args.handle.now.value c.take.new.self.value c.args.estimate.now (λ s. IsEstimate s (g.I.CountItem.bytes c.args.item) (g.V.CountMinValue.number c.args.estimate.now)) c.in_default.ensures.sketch c.in_default.ensures.emptied
+returns-in_default g c = none_written _ c.args.handle.now.value c.take.new.self.value c.args.estimate.now (λ s. IsEstimate s (g.R.Item.bytes c.args.item) (g.V.CountMinValue.number c.args.estimate.now)) c.in_default.ensures.sketch c.in_default.ensures.emptied
 
 pub returns-in-None : goal.returns-in-None
-returns-in-None g c = other_written _ c.args.handle.now.value c.give-in-None.new.self.value c.deref.result.now c.args.estimate.now (λ s. IsEstimate s (g.I.CountItem.bytes c.args.item) (g.V.CountMinValue.number c.args.estimate.now)) (c.in-Some.ensures.sketch ∙ ap Some (sym c.deref.ensures)) c.in-None.ensures (c.give-in-None.ensures ∙ ap Some (sym c.deref.ensures))
+returns-in-None g c = other_written _ c.args.handle.now.value c.give-in-None.new.self.value c.deref.result.now c.args.estimate.now (λ s. IsEstimate s (g.R.Item.bytes c.args.item) (g.V.CountMinValue.number c.args.estimate.now)) (c.in-Some.ensures.sketch ∙ ap Some (sym c.deref.ensures)) c.in-None.ensures (c.give-in-None.ensures ∙ ap Some (sym c.deref.ensures))

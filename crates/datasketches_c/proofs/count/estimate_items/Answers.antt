@@ -1,5 +1,4 @@
-use Rattle.std.proofs.Common.{◌<◌, [], map, get_or, arith}
-use Rattle.sketch_base.specs.Hashes.{fed_bytes}
+use Rattle.std.proofs.Common.{◌<◌, [], get_or, arith}
 use Rattle.datasketches_c.proofs.count.estimate_items.Goals as goal
 
 -- what the law says of each least cell
@@ -10,7 +9,7 @@ returns-clause-each g c =
     let law = c.min_cell_bounds.ensures in
     record {
       each = λ i there.
-          let bytes = get_or (map (fed_bytes g.I.Hash.hash_input) c.args.items.now) i [] in
+          let bytes = get_or (g.I.Items.list c.args.items) i [] in
           let least = c.estimate_all.ensures.least i there in
           record {
             least = least;

@@ -1,4 +1,4 @@
-use Rattle.std.proofs.Common.{rules}
+use Rattle.std.proofs.Common.{map, rules}
 use Rattle.std.specs.Hash as fed
 use Rattle.sketch_base.specs.Hashes.{fed_bytes}
 use Rattle.datasketches_c.specs.Kinds.{count_i64_of}
@@ -8,4 +8,4 @@ use Rattle.datasketches_c.proofs.count_questions.ds_count_min_i64_estimate_all_u
 
 pub returns-clause-estimates : goal.returns-clause-estimates
 returns-clause-estimates c =
-    λ same. let said = own_numbers (reads count_i64_of) c.args.handle.now.value c.estimate_all.new.handle.value c.estimate_all.result (fed_bytes fed.u64) c.args.items.now c.estimate_all.new.estimates (c.estimate_all.ensures.each.told same) in search rules
+    let said = own_numbers (reads count_i64_of) c.args.handle.now.value c.estimate_all.new.handle.value c.estimate_all.result (map (fed_bytes fed.u64) c.args.items.now) c.estimate_all.new.estimates c.estimate_all.ensures.estimates in search rules

@@ -1,17 +1,14 @@
-use Rattle.std.proofs.Common.{Some, sym, ap, ◌∙◌, arith}
+use Rattle.std.proofs.Common.{Some, sym, ap, ◌∙◌}
 use Rattle.datasketches_c.specs.FrequentBatches.{AreBoundsOfAll}
-use Rattle.datasketches_c.proofs.KindLemmas.{wrote_down, none_written, other_written, each_written}
+use Rattle.datasketches_c.proofs.KindLemmas.{wrote_down, none_written, other_written}
 use Rattle.datasketches_c.proofs.frequent.bounds_all.Goals as goal
 
 -- the handle has a sketch of the kind and gets it back, or it has none, or one of another kind
 pub returns-in-Some-part_in : goal.returns-in-Some-part_in
-returns-in-Some-part_in g c = each_written _ _ _ _ _ _ _ _ (omega arith)
-    (wrote_down _ c.args.handle.now.value c.give.new.self.value c.deref.result.now c.in-Some-part_in.sketch.now c.args.bounds.now c.bounds_of_all.new.bounds (λ s. AreBoundsOfAll g.T.PartialEq.eq s c.args.items.now c.bounds_of_all.new.bounds) (c.in-Some.ensures.sketch ∙ ap Some (sym c.deref.ensures)) c.in-Some-part_in.ensures (c.give.ensures ∙ ap Some (sym c.deref.ensures)) c.bounds_of_all.ensures)
+returns-in-Some-part_in g c = wrote_down _ c.args.handle.now.value c.give.new.self.value c.deref.result.now c.in-Some-part_in.sketch.now c.args.bounds.now c.bounds_of_all.new.bounds (λ s. AreBoundsOfAll g.T.PartialEq.eq s (g.K.Keys.names c.args.keys) c.bounds_of_all.new.bounds) (c.in-Some.ensures.sketch ∙ ap Some (sym c.deref.ensures)) c.in-Some-part_in.ensures (c.give.ensures ∙ ap Some (sym c.deref.ensures)) c.bounds_of_all.ensures
 
 pub returns-in_default : goal.returns-in_default
-returns-in_default g c = each_written _ _ _ _ _ _ _ _ (omega arith)
-    (none_written _ c.args.handle.now.value c.take.new.self.value c.args.bounds.now (λ s. AreBoundsOfAll g.T.PartialEq.eq s c.args.items.now c.args.bounds.now) c.in_default.ensures.sketch c.in_default.ensures.emptied)
+returns-in_default g c = none_written _ c.args.handle.now.value c.take.new.self.value c.args.bounds.now (λ s. AreBoundsOfAll g.T.PartialEq.eq s (g.K.Keys.names c.args.keys) c.args.bounds.now) c.in_default.ensures.sketch c.in_default.ensures.emptied
 
 pub returns-in-None : goal.returns-in-None
-returns-in-None g c = each_written _ _ _ _ _ _ _ _ (omega arith)
-    (other_written _ c.args.handle.now.value c.give-in-None.new.self.value c.deref.result.now c.args.bounds.now (λ s. AreBoundsOfAll g.T.PartialEq.eq s c.args.items.now c.args.bounds.now) (c.in-Some.ensures.sketch ∙ ap Some (sym c.deref.ensures)) c.in-None.ensures (c.give-in-None.ensures ∙ ap Some (sym c.deref.ensures)))
+returns-in-None g c = other_written _ c.args.handle.now.value c.give-in-None.new.self.value c.deref.result.now c.args.bounds.now (λ s. AreBoundsOfAll g.T.PartialEq.eq s (g.K.Keys.names c.args.keys) c.args.bounds.now) (c.in-Some.ensures.sketch ∙ ap Some (sym c.deref.ensures)) c.in-None.ensures (c.give-in-None.ensures ∙ ap Some (sym c.deref.ensures))

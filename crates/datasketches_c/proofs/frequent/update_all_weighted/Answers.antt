@@ -1,5 +1,5 @@
 use Rattle.std.proofs.Common.{ℤ, Some, sym, ap, ◌∙◌}
-use Rattle.datasketches_c.specs.FrequentCalls.{WeighsMany}
+use Rattle.datasketches_c.specs.FrequentCalls.{StopsOnlyToGrow, WeighsMany}
 use Rattle.datasketches_c.specs.Kinds.{OnKind, HoldsKind}
 use Rattle.datasketches_c.proofs.AnswerLemmas.{handed_on}
 use Rattle.datasketches_c.proofs.KindLemmas.{changed}
@@ -8,6 +8,12 @@ use Rattle.datasketches_c.proofs.frequent.update_all_weighted.Goals as goal
 -- the sketch was changed, and the handle has it again
 pub returns-in-Some-part_of-clause-call : goal.returns-in-Some-part_of-clause-call
 returns-in-Some-part_of-clause-call g c =
-    let call : ℤ → Type 0 = λ z. OnKind g.bound-5.part c.args.handle.now.value c.give.new.self.value z (λ s. HoldsKind g.bound-5.part c.give.new.self.value (λ t. WeighsMany g.T.PartialEq.eq s c.args.items.now c.args.weights.now t z)) in
-    λ same. handed_on call c.add_all_weighted-answer.result c.add_all_weighted-answer.type_inv (changed g.bound-5.part (λ s t. WeighsMany g.T.PartialEq.eq s c.args.items.now c.args.weights.now t c.add_all_weighted-answer.result) c.args.handle.now.value c.give.new.self.value c.deref_mut.result.now (g.bound-5.whole c.add_all_weighted-answer.new.sketch) c.in-Some-part_of.sketch.now c.add_all_weighted-answer.new.sketch c.add_all_weighted-answer.result
-    (c.in-Some.ensures.sketch ∙ ap Some (sym c.deref_mut.ensures.value)) c.in-Some-part_of.ensures.which.0 c.give.ensures (g.bound-5-met.back c.add_all_weighted-answer.new.sketch) c.add_all_weighted-answer.ensures)
+    let call : ℤ → Type 0 = λ z. OnKind g.bound-9.part c.args.handle.now.value c.give.new.self.value z (λ s. HoldsKind g.bound-9.part c.give.new.self.value (λ t. WeighsMany g.T.PartialEq.eq s (g.K.Keys.names c.args.keys) c.args.weights.now t z)) in
+    handed_on call c.add_all_weighted-answer.result c.add_all_weighted-answer.type_inv (changed g.bound-9.part (λ s t. WeighsMany g.T.PartialEq.eq s (g.K.Keys.names c.args.keys) c.args.weights.now t c.add_all_weighted-answer.result) c.args.handle.now.value c.give.new.self.value c.deref_mut.result.now (g.bound-9.whole c.add_all_weighted-answer.new.sketch) c.in-Some-part_of.sketch.now c.add_all_weighted-answer.new.sketch c.add_all_weighted-answer.result
+    (c.in-Some.ensures.sketch ∙ ap Some (sym c.deref_mut.ensures.value)) c.in-Some-part_of.ensures.which.0 c.give.ensures (g.bound-9-met.back c.add_all_weighted-answer.new.sketch) c.add_all_weighted-answer.ensures.weighs)
+
+pub returns-in-Some-part_of-clause-grows : goal.returns-in-Some-part_of-clause-grows
+returns-in-Some-part_of-clause-grows g c =
+    let call : ℤ → Type 0 = λ z. OnKind g.bound-9.part c.args.handle.now.value c.give.new.self.value z (λ s. HoldsKind g.bound-9.part c.give.new.self.value (λ t. StopsOnlyToGrow s c.args.weights.now t z)) in
+    λ free. handed_on call c.add_all_weighted-answer.result c.add_all_weighted-answer.type_inv (changed g.bound-9.part (λ s t. StopsOnlyToGrow s c.args.weights.now t c.add_all_weighted-answer.result) c.args.handle.now.value c.give.new.self.value c.deref_mut.result.now (g.bound-9.whole c.add_all_weighted-answer.new.sketch) c.in-Some-part_of.sketch.now c.add_all_weighted-answer.new.sketch c.add_all_weighted-answer.result
+    (c.in-Some.ensures.sketch ∙ ap Some (sym c.deref_mut.ensures.value)) c.in-Some-part_of.ensures.which.0 c.give.ensures (g.bound-9-met.back c.add_all_weighted-answer.new.sketch) (c.add_all_weighted-answer.ensures.grows free))

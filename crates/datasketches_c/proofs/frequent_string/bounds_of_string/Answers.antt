@@ -3,7 +3,7 @@ use Rattle.std.specs.Cmp.Lexicographic.{bytes_decides, nat_list_eq_equiv}
 use Rattle.std.specs.Prelude.{IsTrue}
 use Rattle.std.specs.String.{string_bytes}
 use Rattle.counter_table.specs.Keys.{count_by_key_of}
-use Rattle.sketch_frequencies.specs.Strings.{names_string}
+use Rattle.counter_table.specs.StringKeys.{names_string}
 use Rattle.datasketches_c.specs.FrequentStrings.{strings_eq}
 use Rattle.datasketches_c.proofs.frequent_string.bounds_of_string.Goals as goal
 
@@ -11,7 +11,7 @@ pub returns : goal.returns
 returns c =
     let string = c.args.item.now in
     let s = c.args.sketch.now in
-    let said = c.bounds_by_key.ensures in (
+    let said = c.bounds_item.ensures in (
       refl,
       record {
         lower = said.lower;

@@ -9,4 +9,4 @@ use Rattle.datasketches_c.proofs.image_views.ds_bloom_image_contains_all_u64.Goa
 
 pub returns-clause-answers : goal.returns-clause-answers
 returns-clause-answers c = λ same.
-    handed_on (λ z. AsksFilter c.args.image.now (λ s. (z ≡ ok) × (c.contains_all.new.answers ≡ map (λ item. contains_item s (fed_bytes fed.u64 item)) c.args.items.now)) z) c.contains_all.result c.contains_all.type_inv (c.contains_all.ensures.answers same)
+    handed_on (λ z. AsksFilter c.args.image.now (λ s. (z ≡ ok) × (c.contains_all.new.answers ≡ map (contains_item s) (map (fed_bytes fed.u64) c.args.items.now))) z) c.contains_all.result c.contains_all.type_inv c.contains_all.ensures.answers

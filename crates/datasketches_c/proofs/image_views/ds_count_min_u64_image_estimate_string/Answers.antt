@@ -9,6 +9,6 @@ use Rattle.datasketches_c.proofs.image_views.ds_count_min_u64_image_estimate_str
 
 pub returns-clause-utf8 : goal.returns-clause-utf8
 returns-clause-utf8 c = λ utf8.
-    let asked = c.estimate_str in
-    let Said : ℤ → List ℕ → Type 0 = λ z string. AsksCount (pos 0) max_u64 c.args.seed c.args.image.now (λ s. (z ≡ ok) × IsEstimate s (fed_bytes fed.str string) (pos c.estimate_str.new.estimate)) z in
+    let asked = c.estimate in
+    let Said : ℤ → List ℕ → Type 0 = λ z string. AsksCount (pos 0) max_u64 c.args.seed c.args.image.now (λ s. (z ≡ ok) × IsEstimate s (fed_bytes fed.str string) (pos c.estimate.new.estimate)) z in
     handed_on (λ z. Said z c.args.item.now) asked.result asked.type_inv (subst (Said asked.result) c.in-Ok.ensures.cases.0 asked.ensures.estimate)

@@ -4,4 +4,4 @@ use Rattle.sketch_base.proofs.offset_strings.are_utf8.Given as goal
 
 -- the strings so far begin at a character
 abbrev pub invariant-each : goal.invariant-each
-invariant-each l = (k : ℕ) → k < l.i → IsCharBoundary l.text (get_or l.offsets k 0 - get_or l.offsets 0 0)
+invariant-each g l = (k : ℕ) → k < l.i → IsCharBoundary l.text (get_or (g.O.Offsets.offsets l.offsets) k 0 - get_or (g.O.Offsets.offsets l.offsets) 0 0)

@@ -12,7 +12,7 @@ fn takes_many_items_and_answers_for_many(rt: HostRuntime) -> Result<(), Fail> {
     let mut sketch = once_each(rt.alloc(), 4096, 3072)?;
     sketch.update_all(&ASKED[..16])?;
     let mut estimates = [0; 18];
-    sketch.estimate_all(&ASKED, &mut estimates);
+    sketch.estimate_all(ASKED.as_slice(), &mut estimates);
     let wanted = [2, 2, 2, 2, 2, 2, 2, 2, 2, 2, 2, 2, 2, 2, 2, 2, 0, 1];
     assert!(rt; estimates == wanted);
     Ok(())

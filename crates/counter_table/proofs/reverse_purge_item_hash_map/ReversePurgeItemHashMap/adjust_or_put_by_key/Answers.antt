@@ -41,6 +41,7 @@ returns g c =
       err = tt;
       memory = tt;
       succeeds = λ _. refl;
+      infallible = λ _. refl;
     })
 
 pub returns-in_err-put_by_key : goal.returns-in_err-put_by_key
@@ -56,6 +57,7 @@ returns-in_err-put_by_key g c =
       err = rw e.1 same;
       memory = rw e.1 (e.2 ∙ w.memory);
       succeeds = λ there. absurd (false≢true (w.succeeds (rw (← c.self.view_is) at there)));
+      infallible = λ free. absurd (false≢true (w.infallible free));
     }
 
 pub branch-put_by_key-requires : goal.branch-put_by_key-requires

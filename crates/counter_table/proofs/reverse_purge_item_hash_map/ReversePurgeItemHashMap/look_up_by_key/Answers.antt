@@ -4,7 +4,7 @@ use Rattle.counter_table.proofs.reverse_purge_item_hash_map.ReversePurgeItemHash
 
 pub returns : goal.returns
 returns g c =
-    sym (key_found_of (g.met.K.ItemKey.respects_hash c.args.key) (g.met.K.ItemKey.respects_eq c.args.key) c.self.inside.table c.self.invariant.slots_ok c.args.self.now c.self.view_is _ _ _ c.find.ensures.probe)
+    sym (key_found_of g.T.Hash.hash_input (g.met.K.ItemKey.respects_hash c.args.key) (g.met.K.ItemKey.respects_eq c.args.key) c.self.inside.table c.self.invariant.slots_ok c.args.self.now c.self.view_is _ _ _ c.find.ensures.probe)
 
 pub find-requires : goal.find-requires
 find-requires g c = c.self.invariant.slots_ok

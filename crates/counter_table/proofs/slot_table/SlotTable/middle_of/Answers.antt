@@ -1,4 +1,4 @@
-use Rattle.std.proofs.Common.{ap, ◌∙◌}
+use Rattle.std.proofs.Common.{ap}
 use Rattle.counter_table.proofs.PurgeSamples.{entries_around, sample_of_all}
 use Rattle.counter_table.proofs.slot_table.SlotTable.middle_of.Goals as goal
 

@@ -1,6 +1,6 @@
-use Rattle.std.proofs.Common.{◌≡◌, ℕ, ◌<◌, ◌+◌, ◌++◌, ◌∷◌, [], refl, length, ap, sym, ◌∙◌, arith, map, take, length-take}
+use Rattle.std.proofs.Common.{◌≡◌, ℕ, ◌<◌, ◌+◌, ◌++◌, ◌∷◌, [], refl, length, ap, sym, ◌∙◌, arith, map, take}
 use Rattle.std.proofs.Math.ListN.{set}
-use Rattle.std.proofs.lemmas.List.{map-append, length-map, length-set, take_all, take-set, take_more_set}
+use Rattle.std.proofs.lemmas.List.{map-append, length-set, take-set, take_more_set}
 use Rattle.counter_table.specs.Slots.{entries_of}
 use Rattle.counter_table.proofs.PurgeSamples.{entries_taken, entries_passed, gathered_all, gathered_few, gathered_front}
 use Rattle.counter_table.proofs.slot_table.purges.gather_counts.Goals as goal

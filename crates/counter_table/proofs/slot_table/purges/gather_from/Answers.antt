@@ -1,4 +1,4 @@
-use Rattle.std.proofs.Common.{◌≡◌, ◌-◌, [], length, take, drop, ap, arith, length-take, length-drop, length-append}
+use Rattle.std.proofs.Common.{◌-◌, length, take, drop, arith, length-take, length-drop, length-append}
 use Rattle.std.proofs.lemmas.List.{drop_all}
 use Rattle.counter_table.specs.Slots.{entries_of}
 use Rattle.counter_table.proofs.PurgeSamples.{entries_around, gathered_both}

@@ -1,6 +1,4 @@
-use Rattle.std.proofs.Common.{◌%◌, refl}
-use Rattle.sketch_base.specs.SipHash.{sip_hash_1_3}
-use Rattle.counter_table.specs.Samples.{sample_start}
+use Rattle.std.proofs.Common.{refl}
 use Rattle.counter_table.proofs.slot_table.purges.sample_start.Goals as goal
 
 pub returns-in-Plain-clause-index : goal.returns-in-Plain-clause-index

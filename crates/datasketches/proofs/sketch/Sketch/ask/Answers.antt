@@ -5,11 +5,11 @@ use Rattle.datasketches.proofs.sketch.Sketch.ask.Goals as goal
 
 pub returns-in-CountI64-clause-tells : goal.returns-in-CountI64-clause-tells
 returns-in-CountI64-clause-tells g c = λ x is.
-    let least = c.estimate.ensures.least in
-    let shown : c.signed_bounds.result ≡ Bounds c.estimate.result c.lower_bound.result c.upper_bound.result = grind (arith, to_z-of_z) in
-    rw (c.in-CountI64.is, shown, ← g.met.K.ItemKey.respects_hash c.args.item x is) (tells _ _ _ _ _ _ least c.lower_bound.ensures (c.upper_bound.ensures _ least))
+    let least = c.estimate_item-estimate.ensures.least in
+    let shown : c.signed_bounds.result ≡ Bounds c.estimate_item-estimate.result c.estimate_item-estimate.result c.upper_bound_item.result = grind (arith, to_z-of_z) in
+    rw (c.in-CountI64.is, shown, ← g.met.K.ItemKey.respects_hash c.args.item x is) (tells _ _ _ _ _ _ least least (c.upper_bound_item.ensures _ least))
 
 pub returns-in-CountU64-clause-tells : goal.returns-in-CountU64-clause-tells
 returns-in-CountU64-clause-tells g c = λ x is.
-    let least = c.estimate-in-CountU64.ensures.least in
-    rw (c.in-CountU64.is, c.bounds-in-CountU64.ensures, ← g.met.K.ItemKey.respects_hash c.args.item x is) (tells _ _ _ _ _ _ least c.lower_bound-in-CountU64.ensures (c.upper_bound-in-CountU64.ensures _ least))
+    let least = c.estimate_item-estimate-in-CountU64.ensures.least in
+    rw (c.in-CountU64.is, c.bounds-in-CountU64.ensures, ← g.met.K.ItemKey.respects_hash c.args.item x is) (tells _ _ _ _ _ _ least least (c.upper_bound_item-in-CountU64.ensures _ least))

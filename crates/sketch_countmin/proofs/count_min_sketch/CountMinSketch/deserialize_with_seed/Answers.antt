@@ -13,4 +13,4 @@ refused_without_limit least greatest size seed image (Ok x) small h = h
 refused_without_limit least greatest size seed image (Err e) small h = refusal_without_limit least greatest size seed image e small h
 
 pub returns-clause-err : goal.returns-clause-err
-returns-clause-err g c = refused_without_limit g.T.CountMinValue.least g.T.CountMinValue.greatest g.T.CountMinValue.SIZE c.args.seed c.args.image.now c.deserialize_with_seed_and_limit.result g.met.T.CountMinValue.size_fits c.deserialize_with_seed_and_limit.ensures.err
+returns-clause-err g c = refused_without_limit g.T.CountMinValue.least g.T.CountMinValue.greatest g.T.CountMinValue.SIZE c.args.seed c.args.image.now c.deserialize_with_options.result g.met.T.CountMinValue.size_fits c.deserialize_with_options.ensures.err

@@ -1,7 +1,13 @@
-use Rattle.std.proofs.Common.{◌≡◌, map, take}
-use Rattle.sketch_frequencies.specs.Bounds.{bounds_of}
+use Rattle.std.proofs.Common.{◌≡◌, map, take, drop}
+use Rattle.std.specs.List.{AllZip}
+use Rattle.std.specs.Prelude.{IsTrue}
+use Rattle.sketch_frequencies.specs.Bounds.{bounds_by_key, BoundWeight}
 use Rattle.sketch_frequencies.proofs.frequent_items_sketch.FrequentItemsSketch.bounds_all.Given as goal
 
--- the bounds so far are written
+-- the answers so far are written, and the other keys are left
 abbrev pub invariant-each : goal.invariant-each
-invariant-each g l = take l.i l.bounds ≡ map (bounds_of g.T.PartialEq.eq l.self) (take l.i l.items)
+invariant-each g l = record {
+  left : g.K.Keys.names l.keys ≡ drop l.i (g.K.Keys.names l.fn.keys);
+  value : take l.i l.bounds ≡ map (λ names. bounds_by_key names l.self) (take l.i (g.K.Keys.names l.fn.keys));
+  holds : AllZip (λ names answer. (x : g.row.T.Denot) → IsTrue (names x) → BoundWeight g.T.PartialEq.eq l.self x answer) (take l.i (g.K.Keys.names l.fn.keys)) (take l.i l.bounds);
+}

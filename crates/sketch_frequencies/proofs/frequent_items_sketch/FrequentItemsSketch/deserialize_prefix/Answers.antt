@@ -23,7 +23,7 @@ pub invariant_of-sketch : goal.invariant_of-sketch
 invariant_of-sketch g c =
     let size = c.table_size-max_size.ensures in
     let h = c.in_ok-header.ensures in
-    rw c.in_ok-map.ensures.ok (restored_empty g.T.PartialEq.eq c.in_ok-header.header.lg_max c.table_size-max_size.result _ c.args.key (omega (arith, h.least, h.within)) size.value size.limit size.power c.max_sample_of-sample_size.ensures)
+    rw c.in_ok-map.ensures.ok (restored_empty g.T.PartialEq.eq c.in_ok-header.header.lg_max c.table_size-max_size.result _ c.args.options.key (omega (arith, h.least, h.within)) size.value size.limit size.power c.max_sample_of-sample_size.ensures)
 
 pub returns-then-header-clause-state : goal.returns-then-header-clause-state
 returns-then-header-clause-state g c = invariant_of-sketch g c
@@ -34,8 +34,8 @@ returns-then-header-clause-image g c =
     let h = c.in_ok-header.ensures in
     let m = c.table_size-max_size.result in
     let n = c.max_sample_of-sample_size.result in
-    let state = restored_empty g.T.PartialEq.eq c.in_ok-header.header.lg_max m n c.args.key (omega (arith, h.least, h.within)) size.value size.limit size.power c.max_sample_of-sample_size.ensures in
-    rw c.in_ok-map.ensures.ok (image_of_none g.T.FrequentItemValue.codec g.T.FrequentItemValue.content g.T.PartialEq.eq g.met.T.FrequentItemValue.alike c.args.image.now m n c.args.key state h.checks (sym h.fields.is_empty ∙ c.if-header.true) (size.value ∙ ap (λ (n : ℕ). 2 ^ n) h.fields.lg_max))
+    let state = restored_empty g.T.PartialEq.eq c.in_ok-header.header.lg_max m n c.args.options.key (omega (arith, h.least, h.within)) size.value size.limit size.power c.max_sample_of-sample_size.ensures in
+    rw c.in_ok-map.ensures.ok (image_of_none g.T.FrequentItemValue.codec g.T.FrequentItemValue.content g.T.PartialEq.eq g.met.T.FrequentItemValue.alike c.args.image.now m n c.args.options.key state h.checks (sym h.fields.is_empty ∙ c.if-header.true) (size.value ∙ ap (λ (n : ℕ). 2 ^ n) h.fields.lg_max))
 
 pub returns-then-header-clause-stands : goal.returns-then-header-clause-stands
 returns-then-header-clause-stands g c = λ old was h stands. restores g.T.FrequentItemValue.codec g.T.FrequentItemValue.content g.T.PartialEq.eq g.met.T.FrequentItemValue.alike g.met.T.Eq.laws c.args.image.now _ (returns-then-header-clause-image g c) c.max_sample_of-sample_size.ensures old was h stands
@@ -89,43 +89,43 @@ returns-clause-budget g c = λ old was h stands keeps. restores_budget g.T.Frequ
 pub returns-in_err-header : goal.returns-in_err-header
 returns-in_err-header g c =
     let p = err_from_is_err_and c.from_residual.result c.from_residual.ensures.1 in
-    rw (p.1, p.2) (record { image = tt; state = tt; sample = tt; key = tt; stands = tt; budget = tt; used = tt; front = tt; there = tt; within = tt; accepted = λ ok. absurd cc; err = early_refused _ c.args.max_bytes g.T.FrequentItemValue.codec c.args.image.now _ (c.in_err-header.ensures.err.0, first_of _ _ c.in_err-header.ensures.err.1) })
+    rw (p.1, p.2) (record { image = tt; state = tt; sample = tt; key = tt; stands = tt; budget = tt; used = tt; front = tt; there = tt; within = tt; accepted = λ ok. absurd cc; err = early_refused _ c.args.options.max_bytes g.T.FrequentItemValue.codec c.args.image.now _ (c.in_err-header.ensures.err.0, first_of _ _ c.in_err-header.ensures.err.1) })
 
 pub returns-in_err-check_limit : goal.returns-in_err-check_limit
 returns-in_err-check_limit g c =
     let p = err_from_is_err_and c.from_residual-in_err-check_limit.result c.from_residual-in_err-check_limit.ensures.1 in
     let empty = sym c.in_ok-header.ensures.fields.is_empty ∙ c.if-header.true in
-    rw (p.1, p.2) (record { image = tt; state = tt; sample = tt; key = tt; stands = tt; budget = tt; used = tt; front = tt; there = tt; within = tt; accepted = λ ok. absurd cc; err = limit_refused _ c.args.max_bytes g.T.FrequentItemValue.codec c.args.image.now _ (none_of_empty c.args.image.now c.in_ok-header.ensures.checks empty) (size_of_empty c.args.image.now empty) (room_of_empty g.T.FrequentItemValue.codec c.args.image.now _ empty) c.in_err-check_limit.ensures.err })
+    rw (p.1, p.2) (record { image = tt; state = tt; sample = tt; key = tt; stands = tt; budget = tt; used = tt; front = tt; there = tt; within = tt; accepted = λ ok. absurd cc; err = limit_refused _ c.args.options.max_bytes g.T.FrequentItemValue.codec c.args.image.now _ (none_of_empty c.args.image.now c.in_ok-header.ensures.checks empty) (size_of_empty c.args.image.now empty) (room_of_empty g.T.FrequentItemValue.codec c.args.image.now _ empty) c.in_err-check_limit.ensures.err })
 
 pub returns-in_err-map : goal.returns-in_err-map
 returns-in_err-map g c =
     let p = err_from_is_err_and c.from_residual-in_err-map.result c.from_residual-in_err-map.ensures.1 in
     let empty = sym c.in_ok-header.ensures.fields.is_empty ∙ c.if-header.true in
-    rw (p.1, p.2) (record { image = tt; state = tt; sample = tt; key = tt; stands = tt; budget = tt; used = tt; front = tt; there = tt; within = tt; accepted = λ ok. absurd cc; err = memory_refused _ c.args.max_bytes g.T.FrequentItemValue.codec c.args.image.now _ (none_of_empty c.args.image.now c.in_ok-header.ensures.checks empty) (is_within _ c.args.max_bytes g.T.FrequentItemValue.codec c.args.image.now (size_of_empty c.args.image.now empty) (room_of_empty g.T.FrequentItemValue.codec c.args.image.now _ empty) c.in_ok-check_limit.ensures.within) c.in_err-map.ensures.err })
+    rw (p.1, p.2) (record { image = tt; state = tt; sample = tt; key = tt; stands = tt; budget = tt; used = tt; front = tt; there = tt; within = tt; accepted = λ ok. absurd cc; err = memory_refused _ c.args.options.max_bytes g.T.FrequentItemValue.codec c.args.image.now _ (none_of_empty c.args.image.now c.in_ok-header.ensures.checks empty) (is_within _ c.args.options.max_bytes g.T.FrequentItemValue.codec c.args.image.now (size_of_empty c.args.image.now empty) (room_of_empty g.T.FrequentItemValue.codec c.args.image.now _ empty) c.in_ok-check_limit.ensures.within) c.in_err-map.ensures.err })
 
 pub returns-in_err-numbers : goal.returns-in_err-numbers
 returns-in_err-numbers g c =
     let p = err_from_is_err_and c.from_residual-in_err-numbers.result c.from_residual-in_err-numbers.ensures.1 in
     let full = sym c.in_ok-header.ensures.fields.is_empty ∙ c.if-header.false in
-    rw (p.1, p.2) (record { image = tt; state = tt; sample = tt; key = tt; stands = tt; budget = tt; used = tt; front = tt; there = tt; within = tt; accepted = λ ok. absurd cc; err = early_refused _ c.args.max_bytes g.T.FrequentItemValue.codec c.args.image.now _ (c.in_err-numbers.ensures.err.0, counts_of_full c.args.image.now c.in_ok-header.ensures.checks full c.in_err-numbers.ensures.err.1) })
+    rw (p.1, p.2) (record { image = tt; state = tt; sample = tt; key = tt; stands = tt; budget = tt; used = tt; front = tt; there = tt; within = tt; accepted = λ ok. absurd cc; err = early_refused _ c.args.options.max_bytes g.T.FrequentItemValue.codec c.args.image.now _ (c.in_err-numbers.ensures.err.0, counts_of_full c.args.image.now c.in_ok-header.ensures.checks full c.in_err-numbers.ensures.err.1) })
 
 pub returns-in_err-check_limit-2 : goal.returns-in_err-check_limit-2
 returns-in_err-check_limit-2 g c =
     let p = err_from_is_err_and c.from_residual-in_err-check_limit-2.result c.from_residual-in_err-check_limit-2.ensures.1 in
     let full = sym c.in_ok-header.ensures.fields.is_empty ∙ c.if-header.false in
-    rw (p.1, p.2) (record { image = tt; state = tt; sample = tt; key = tt; stands = tt; budget = tt; used = tt; front = tt; there = tt; within = tt; accepted = λ ok. absurd cc; err = limit_refused _ c.args.max_bytes g.T.FrequentItemValue.codec c.args.image.now _ (counts_of_full c.args.image.now c.in_ok-header.ensures.checks full c.in_ok-numbers.ensures.checks) (size_of_full c.args.image.now full (c.table_size-size.ensures.value ∙ ap (λ (k : ℕ). 2 ^ k) c.in_ok-header.ensures.fields.lg_cur)) (room_of_full g.T.FrequentItemValue.codec c.args.image.now _ full c.in_ok-numbers.ensures.fields.active (take_rest c.args.image.now _)) c.in_err-check_limit-2.ensures.err })
+    rw (p.1, p.2) (record { image = tt; state = tt; sample = tt; key = tt; stands = tt; budget = tt; used = tt; front = tt; there = tt; within = tt; accepted = λ ok. absurd cc; err = limit_refused _ c.args.options.max_bytes g.T.FrequentItemValue.codec c.args.image.now _ (counts_of_full c.args.image.now c.in_ok-header.ensures.checks full c.in_ok-numbers.ensures.checks) (size_of_full c.args.image.now full (c.table_size-size.ensures.value ∙ ap (λ (k : ℕ). 2 ^ k) c.in_ok-header.ensures.fields.lg_cur)) (room_of_full g.T.FrequentItemValue.codec c.args.image.now _ full c.in_ok-numbers.ensures.fields.active (take_rest c.args.image.now _)) c.in_err-check_limit-2.ensures.err })
 
 pub returns-in_err-check_weights : goal.returns-in_err-check_weights
 returns-in_err-check_weights g c =
     let p = err_from_is_err_and c.from_residual-in_err-check_weights.result c.from_residual-in_err-check_weights.ensures.1 in
     let full = sym c.in_ok-header.ensures.fields.is_empty ∙ c.if-header.false in
-    rw (p.1, p.2) (record { image = tt; state = tt; sample = tt; key = tt; stands = tt; budget = tt; used = tt; front = tt; there = tt; within = tt; accepted = λ ok. absurd cc; err = weights_refused _ c.args.max_bytes g.T.FrequentItemValue.codec c.args.image.now _ (counts_of_full c.args.image.now c.in_ok-header.ensures.checks full c.in_ok-numbers.ensures.checks) (is_within _ c.args.max_bytes g.T.FrequentItemValue.codec c.args.image.now (size_of_full c.args.image.now full (c.table_size-size.ensures.value ∙ ap (λ (k : ℕ). 2 ^ k) c.in_ok-header.ensures.fields.lg_cur)) (room_of_full g.T.FrequentItemValue.codec c.args.image.now _ full c.in_ok-numbers.ensures.fields.active (take_rest c.args.image.now _)) c.in_ok-check_limit-2.ensures.within) full c.in_err-check_weights.ensures.err })
+    rw (p.1, p.2) (record { image = tt; state = tt; sample = tt; key = tt; stands = tt; budget = tt; used = tt; front = tt; there = tt; within = tt; accepted = λ ok. absurd cc; err = weights_refused _ c.args.options.max_bytes g.T.FrequentItemValue.codec c.args.image.now _ (counts_of_full c.args.image.now c.in_ok-header.ensures.checks full c.in_ok-numbers.ensures.checks) (is_within _ c.args.options.max_bytes g.T.FrequentItemValue.codec c.args.image.now (size_of_full c.args.image.now full (c.table_size-size.ensures.value ∙ ap (λ (k : ℕ). 2 ^ k) c.in_ok-header.ensures.fields.lg_cur)) (room_of_full g.T.FrequentItemValue.codec c.args.image.now _ full c.in_ok-numbers.ensures.fields.active (take_rest c.args.image.now _)) c.in_ok-check_limit-2.ensures.within) full c.in_err-check_weights.ensures.err })
 
 pub returns-in_err-map-2 : goal.returns-in_err-map-2
 returns-in_err-map-2 g c =
     let p = err_from_is_err_and c.from_residual-in_err-map-2.result c.from_residual-in_err-map-2.ensures.1 in
     let full = sym c.in_ok-header.ensures.fields.is_empty ∙ c.if-header.false in
-    rw (p.1, p.2) (record { image = tt; state = tt; sample = tt; key = tt; stands = tt; budget = tt; used = tt; front = tt; there = tt; within = tt; accepted = λ ok. absurd cc; err = items_refused _ c.args.max_bytes g.T.FrequentItemValue.codec c.args.image.now _ (counts_of_full c.args.image.now c.in_ok-header.ensures.checks full c.in_ok-numbers.ensures.checks) (is_within _ c.args.max_bytes g.T.FrequentItemValue.codec c.args.image.now (size_of_full c.args.image.now full (c.table_size-size.ensures.value ∙ ap (λ (k : ℕ). 2 ^ k) c.in_ok-header.ensures.fields.lg_cur)) (room_of_full g.T.FrequentItemValue.codec c.args.image.now _ full c.in_ok-numbers.ensures.fields.active (take_rest c.args.image.now _)) c.in_ok-check_limit-2.ensures.within) full c.in_ok-check_weights.ensures.checks c.in_err-map-2.ensures.err })
+    rw (p.1, p.2) (record { image = tt; state = tt; sample = tt; key = tt; stands = tt; budget = tt; used = tt; front = tt; there = tt; within = tt; accepted = λ ok. absurd cc; err = items_refused _ c.args.options.max_bytes g.T.FrequentItemValue.codec c.args.image.now _ (counts_of_full c.args.image.now c.in_ok-header.ensures.checks full c.in_ok-numbers.ensures.checks) (is_within _ c.args.options.max_bytes g.T.FrequentItemValue.codec c.args.image.now (size_of_full c.args.image.now full (c.table_size-size.ensures.value ∙ ap (λ (k : ℕ). 2 ^ k) c.in_ok-header.ensures.fields.lg_cur)) (room_of_full g.T.FrequentItemValue.codec c.args.image.now _ full c.in_ok-numbers.ensures.fields.active (take_rest c.args.image.now _)) c.in_ok-check_limit-2.ensures.within) full c.in_ok-check_weights.ensures.checks c.in_err-map-2.ensures.err })
 
 pub returns-then-header-clause-sample : goal.returns-then-header-clause-sample
 returns-then-header-clause-sample g c = c.max_sample_of-sample_size.ensures
@@ -143,22 +143,22 @@ returns-clause-key g c = c.in_ok-map-2.ensures.key
 pub returns-then-header-clause-accepted : goal.returns-then-header-clause-accepted
 returns-then-header-clause-accepted g c = λ _.
     let empty = sym c.in_ok-header.ensures.fields.is_empty ∙ c.if-header.true in
-    is_within _ c.args.max_bytes g.T.FrequentItemValue.codec c.args.image.now (size_of_empty c.args.image.now empty) (room_of_empty g.T.FrequentItemValue.codec c.args.image.now _ empty) c.in_ok-check_limit.ensures.within
+    is_within _ c.args.options.max_bytes g.T.FrequentItemValue.codec c.args.image.now (size_of_empty c.args.image.now empty) (room_of_empty g.T.FrequentItemValue.codec c.args.image.now _ empty) c.in_ok-check_limit.ensures.within
 
 pub returns-clause-accepted : goal.returns-clause-accepted
 returns-clause-accepted g c = λ _.
     let full = sym c.in_ok-header.ensures.fields.is_empty ∙ c.if-header.false in
-    is_within _ c.args.max_bytes g.T.FrequentItemValue.codec c.args.image.now (size_of_full c.args.image.now full (c.table_size-size.ensures.value ∙ ap (λ (k : ℕ). 2 ^ k) c.in_ok-header.ensures.fields.lg_cur)) (room_of_full g.T.FrequentItemValue.codec c.args.image.now _ full c.in_ok-numbers.ensures.fields.active (take_rest c.args.image.now _)) c.in_ok-check_limit-2.ensures.within
+    is_within _ c.args.options.max_bytes g.T.FrequentItemValue.codec c.args.image.now (size_of_full c.args.image.now full (c.table_size-size.ensures.value ∙ ap (λ (k : ℕ). 2 ^ k) c.in_ok-header.ensures.fields.lg_cur)) (room_of_full g.T.FrequentItemValue.codec c.args.image.now _ full c.in_ok-numbers.ensures.fields.active (take_rest c.args.image.now _)) c.in_ok-check_limit-2.ensures.within
 
 pub returns-then-header-clause-within : goal.returns-then-header-clause-within
-returns-then-header-clause-within g c = rw c.in_ok-map.ensures.ok (memory_le _ 0 _ c.args.max_bytes (omega arith) c.in_ok-check_limit.ensures.within)
+returns-then-header-clause-within g c = rw c.in_ok-map.ensures.ok (memory_le _ 0 _ c.args.options.max_bytes (omega arith) c.in_ok-check_limit.ensures.within)
 
 pub returns-clause-within : goal.returns-clause-within
 returns-clause-within g c =
     let codec = g.T.FrequentItemValue.codec in
     let n = c.in_ok-numbers.numbers.active in
     let owned = subst (λ l. owned_by codec g.T.FrequentItemValue.content c.in_ok-map-2.map.entries ≤ max_owned codec (items_bytes codec n l)) (sym (take_rest c.args.image.now (32 + 8 * n))) c.in_ok-map-2.ensures.owned in
-    rw c.in_ok-map-2.ensures.size (memory_le _ _ _ c.args.max_bytes owned c.in_ok-check_limit-2.ensures.within)
+    rw c.in_ok-map-2.ensures.size (memory_le _ _ _ c.args.options.max_bytes owned c.in_ok-check_limit-2.ensures.within)
 
 pub returns-then-header-clause-used : goal.returns-then-header-clause-used
 returns-then-header-clause-used g c = search rules

@@ -1,7 +1,14 @@
-use Rattle.std.proofs.Common.{◌≡◌, map, take}
-use Rattle.sketch_frequencies.specs.State.{estimate_of}
+use Rattle.std.proofs.Common.{◌≡◌, map, take, drop}
+use Rattle.std.specs.List.{AllZip}
+use Rattle.std.specs.Prelude.{IsTrue}
+use Rattle.sketch_frequencies.specs.Stands.{IsExactOfFew}
+use Rattle.sketch_frequencies.specs.State.{estimate_by_key}
 use Rattle.sketch_frequencies.proofs.frequent_items_sketch.FrequentItemsSketch.estimate_all.Given as goal
 
--- the estimates so far are written
+-- the answers so far are written, and the other keys are left
 abbrev pub invariant-each : goal.invariant-each
-invariant-each g l = take l.i l.estimates ≡ map (estimate_of g.T.PartialEq.eq l.self) (take l.i l.items)
+invariant-each g l = record {
+  left : g.K.Keys.names l.keys ≡ drop l.i (g.K.Keys.names l.fn.keys);
+  value : take l.i l.estimates ≡ map (λ names. estimate_by_key names l.self) (take l.i (g.K.Keys.names l.fn.keys));
+  holds : AllZip (λ names answer. (x : g.row.T.Denot) → IsTrue (names x) → IsExactOfFew g.T.PartialEq.eq l.self x answer) (take l.i (g.K.Keys.names l.fn.keys)) (take l.i l.estimates);
+}

@@ -13,8 +13,8 @@ each-init g c =
       state = e.state;
     }
 
-pub absorb-requires-clause-fits : goal.absorb-requires-clause-fits
-absorb-requires-clause-fits g c =
+pub absorb-requires : goal.absorb-requires
+absorb-requires g c =
     omega (arith, c.each.invariant.total, c.requires.fits, total_most c.args.others.now c.each.i c.index-others-i.result c.each-test.true c.index-others-i.is)
 
 pub each-preserved : goal.each-preserved

@@ -32,7 +32,7 @@ loop-item-preserved-in_ok-push g c =
     let error = ap (λ s. s.error) c.self.view_is in
     let high = passes_tested kind c.args.threshold s count _ _ _ true error c.max-floor.ensures c.is_above.ensures c.if-is_above.true in
     let row = c.new.result in
-    let same = subst (λ y. eq c.in-Some.item.now y ≡ true) (sym (ap (λ r. r.item) c.new.ensures)) (c.requires.clones c.in-Some.item.now c.in_ok-clone.field-0 c.in_ok-clone.ensures.cases) in
+    let same = subst (λ y. eq c.in-Some.item.now y ≡ true) (sym (ap (λ r. r.item) c.new.ensures)) (g.met.T.EqualClone.clones_equal c.in-Some.item.now c.in_ok-clone.field-0 c.in_ok-clone.ensures.cases) in
     let upper = ap (λ e. count + e) error in
     rw (h.1, c.in_ok-push.ensures.items) (tt, tt, rows_more g.met.T.Eq.laws kind c.args.threshold s ok.distinct _ _ _ (c.in-Some.item.now, count) _ row h.0 c.loop-item.invariant.2 same high (ap (λ r. r.estimate) c.new.ensures ∙ upper) (ap (λ r. r.upper_bound) c.new.ensures ∙ upper) (ap (λ r. r.lower_bound) c.new.ensures))
 

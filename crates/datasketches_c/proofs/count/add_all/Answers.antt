@@ -1,0 +1,13 @@
+use Rattle.std.proofs.lemmas.Bool.{false≢true}
+use Rattle.datasketches_c.proofs.Refusals.{refused_for}
+use Rattle.datasketches_c.proofs.count.add_all.Goals as goal
+
+pub returns-in-Ok-clause-counted : goal.returns-in-Ok-clause-counted
+returns-in-Ok-clause-counted g c = record { counted = c.in-Ok.ensures.counted; stands = c.in-Ok.ensures.stands }
+
+pub returns-in-Err : goal.returns-in-Err
+returns-in-Err g c = record {
+  counted = record { counted = c.in-Err.ensures.counted; stands = c.in-Err.ensures.stands };
+  done = λ fits. absurd (false≢true (c.in-Err.ensures.succeeds fits));
+  overflow = λ over. refused_for c.in-Err.error _ _ _ c.refusal_number.type_inv c.fault.ensures c.refusal_number.ensures (c.in-Err.ensures.overflow over);
+}

@@ -1,6 +1,0 @@
-use Rattle.std.proofs.Common.{◌∙◌}
-use Rattle.std.proofs.lemmas.Simd.{map-map}
-use Rattle.sketch_bloom.proofs.bloom_filter.BloomFilter.contains_all.Goals as goal
-
-pub returns : goal.returns
-returns g c = c.contains_batch.ensures ∙ map-map _ _ c.args.items.now

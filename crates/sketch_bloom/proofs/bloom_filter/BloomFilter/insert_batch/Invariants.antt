@@ -1,8 +1,0 @@
-use Rattle.std.proofs.Common.{◌≡◌, ◌*◌, map, take}
-use Rattle.std.specs.List.{fold}
-use Rattle.sketch_bloom.specs.Pairs.{pair_of, with_pair}
-use Rattle.sketch_bloom.proofs.bloom_filter.BloomFilter.insert_batch.Given as goal
-
--- the blocks so far are inserted
-abbrev pub invariant-each : goal.invariant-each
-invariant-each g l = l.self ≡ fold with_pair l.fn.self (map (pair_of l.seed) (take (16 * l.b) (g.B.Batch.inputs l.batch)))

@@ -1,9 +1,0 @@
-use Rattle.std.proofs.Common.{arith}
-use Rattle.sketch_frequencies.proofs.StepsByKey.{on_ok}
-use Rattle.sketch_frequencies.proofs.frequent_items_sketch.FrequentItemsSketch.update_by_key.Goals as goal
-
-pub returns-clause-stands : goal.returns-clause-stands
-returns-clause-stands g c = on_ok c.update_with_count_by_key.result (λ all. all (omega arith)) c.update_with_count_by_key.ensures.stands
-
-pub returns-clause-budget : goal.returns-clause-budget
-returns-clause-budget g c = on_ok c.update_with_count_by_key.result (λ all. all (omega arith)) c.update_with_count_by_key.ensures.budget

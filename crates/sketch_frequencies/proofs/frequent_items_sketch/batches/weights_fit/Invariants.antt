@@ -1,7 +1,0 @@
-use Rattle.std.proofs.Common.{◌≡◌, ◌+◌, ◌^◌, take}
-use Rattle.std.specs.Prelude.{sum}
-use Rattle.sketch_frequencies.proofs.frequent_items_sketch.batches.weights_fit.Given as goal
-
--- what is left for the other weights
-abbrev pub invariant-each : goal.invariant-each
-invariant-each l = l.total + sum (take l.i l.weights) + l.room + 1 ≡ 2 ^ 64
