@@ -65,7 +65,7 @@ stored Good Why name old new (Err error) (Err e) good memory why keeps = inr (er
 
 module _ {T C : Type 0} (slot : ℕ) (eq : T → T → Bool) (input : T → List (List ℕ)) (codec : Codec C) (content : T → C) where
   abbrev Did : Action T → SessionState T → Reply T → SessionState T → Type 0
-  Did action old reply new = Performed slot eq input codec content action old reply new
+  Did action old reply new = Performed (record { slot = slot; eq = eq; input = input; codec = codec; content = content }) action old reply new
 
   -- a step of a session that is seen as its parts
   pub by_parts : (action : Action T) (seen old new : SessionState T) (reply : Reply T) → seen ≡ old → Performs slot eq input codec content seen action reply new → Did action old reply new
@@ -102,7 +102,7 @@ module _ {T C : Type 0} (slot : ℕ) (eq : T → T → Bool) (input : T → List
   ran_out names weight old (Ok done) after out err = cc out.error
 
   pub altered_by_key : (name : List ℕ) (names : T → Bool) (weight : ℕ) (seen old new : SessionState T) (result : Result ⊤ Refusal) (before after : Sketch T) → seen ≡ old → at_name name seen.sketches ≡ Some before →
-      AddsNamed eq input names weight before result after → ((x : T) → IsTrue (names x) → OnOk result (Carries eq (changed input (Add x weight)) before after)) → OnErr result (after ≡ before) → Puts name after seen.sketches new.sketches → KeepsImages seen new → PerformedByKey slot eq input codec content name names weight old result new
+      AddsNamed eq input names weight before result after → ((x : T) → IsTrue (names x) → OnOk result (Carries eq (changed input (Add x weight)) before after)) → OnErr result (after ≡ before) → Puts name after seen.sketches new.sketches → KeepsImages seen new → PerformedByKey (record { slot = slot; eq = eq; input = input; codec = codec; content = content }) name names weight old result new
   altered_by_key name names weight seen old new result before after same found (inl (item, named, own)) carries err puts rest =
       inl (item, named, altered (Add item weight) name seen old new result before after same found (does eq (Changes eq input (Add item weight)) (changed input (Add item weight)) before after result own (carries item named) err) puts rest)
   altered_by_key name names weight seen old new result before after same found (inr out) carries err puts rest =

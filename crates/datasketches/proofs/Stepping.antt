@@ -62,7 +62,7 @@ module _ {T C : Type 0} (slot : ℕ) (eq : T → T → Bool) (input : T → List
   action_same action reply old new r step = same_by action reply old new r (outcome_of slot eq input codec content action reply old new step)
 
   -- so the clauses of a session's call follow from what it did
-  pub performed : (action : Action T) (old new : SessionState T) (reply : Reply T) → Performs slot eq input codec content old action reply new → Performed slot eq input codec content action old reply new
+  pub performed : (action : Action T) (old new : SessionState T) (reply : Reply T) → Performs slot eq input codec content old action reply new → Performed (record { slot = slot; eq = eq; input = input; codec = codec; content = content }) action old reply new
   performed action old new reply step = record {
     step = step;
     fits = λ a fits. action_fits action reply old new a fits step;

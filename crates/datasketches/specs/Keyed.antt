@@ -2,11 +2,11 @@
 use Rattle.std.specs.Prelude.{◌≡◌, ℕ, ◌<◌, ◌⊎◌, Bool, false, List, Result, Err, ⊤, MatchOption, IsTrue}
 use Rattle.counter_table.specs.Tables.{is_tracked_by_key}
 use Rattle.sketch_base.specs.Errors.{no_memory}
-use Rattle.sketch_frequencies.specs.Items.{Codec}
 use Rattle.sketch_frequencies.specs.State.{TotalHasRoom}
 use Rattle.datasketches.specs.Actions.Action.{Alter}
 use Rattle.datasketches.specs.Actions.Change.{Add}
 use Rattle.datasketches.specs.Changing.{Changes}
+use Rattle.datasketches.specs.ItemTypes.{ItemType}
 use Rattle.datasketches.specs.Names.{at_name}
 use Rattle.datasketches.specs.Performed.{Performed}
 use Rattle.datasketches.specs.Replies.{done_or}
@@ -35,10 +35,10 @@ module _ {T : Type 0} (eq : T → T → Bool) (input : T → List (List ℕ)) wh
       ((item : T) × IsTrue (names item) × Changes eq input (Add item weight) old (done_or result) new)
       ⊎ RunsOut names weight old result
 
-module _ {T C : Type 0} (slot : ℕ) (eq : T → T → Bool) (input : T → List (List ℕ)) (codec : Codec C) (content : T → C) where
+module _ {T C : Type 0} (items : ItemType T C) where
   -- the same in a session, on the sketch of this name
   abbrev pub PerformedByKey : List ℕ → (T → Bool) → ℕ → SessionState T → Result ⊤ Refusal → SessionState T → Type 0
   PerformedByKey name names weight old result new =
       ((item : T) × IsTrue (names item)
-      × Performed slot eq input codec content (Alter name (Add item weight)) old (done_or result) new)
+      × Performed items (Alter name (Add item weight)) old (done_or result) new)
       ⊎ (IsUnchanged old new × MatchOption (at_name name old.sketches) ⊥ (λ sketch. RunsOut names weight sketch result))

@@ -19,6 +19,7 @@ pub mod KeysKept
 pub mod SessionStandsFor
 pub mod Laws
 pub mod Clusters
+pub mod ItemTypes
 pub mod Performed
 pub mod Keyed
 pub mod Running

@@ -1,9 +1,9 @@
 -- The clauses of a session's calls.
-use Rattle.std.specs.Prelude.{◌≡◌, ℕ, Bool, true, List}
-use Rattle.sketch_frequencies.specs.Items.{Codec}
+use Rattle.std.specs.Prelude.{◌≡◌, true}
 use Rattle.datasketches.specs.Actions.{Action}
 use Rattle.datasketches.specs.Hashing.{HasOneKey}
 use Rattle.datasketches.specs.Histories.{History, Assignment, after_action, after_action_told}
+use Rattle.datasketches.specs.ItemTypes.{ItemType}
 use Rattle.datasketches.specs.Loading.{IsActionTold}
 use Rattle.datasketches.specs.Replies.{is_refused}
 use Rattle.datasketches.specs.SessionStandsFor.{SessionStandsFor}
@@ -12,17 +12,17 @@ use Rattle.datasketches.specs.Steps.{Performs}
 use Rattle.datasketches.specs.declared.reply.Reply.{Reply}
 
 -- the action was performed, with this reply
-pub record Performed {T C : Type 0} (slot : ℕ) (eq : T → T → Bool) (input : T → List (List ℕ)) (codec : Codec C) (content : T → C)
+pub record Performed {T C : Type 0} (items : ItemType T C)
     (action : Action T) (old : SessionState T) (reply : Reply T) (new : SessionState T) : Type 0 where
   -- it did to the sketch or image that it creates or names first what the sketch's own call does, and changed no other
-  pub step : Performs slot eq input codec content old action reply new
+  pub step : Performs items.slot items.eq items.input items.codec items.content old action reply new
   -- a session that stood for an assignment stands for it as the action and its reply changed it
-  pub fits : (a : Assignment T) → SessionStandsFor eq codec content old a
-      → SessionStandsFor eq codec content new (after_action input a action reply)
+  pub fits : (a : Assignment T) → SessionStandsFor items.eq items.codec items.content old a
+      → SessionStandsFor items.eq items.codec items.content new (after_action items.input a action reply)
   -- the same if the bytes that it loads are truly of the history `loaded`
-  pub told : (a : Assignment T) (loaded : History T) → SessionStandsFor eq codec content old a
-      → IsActionTold eq codec content action loaded
-      → SessionStandsFor eq codec content new (after_action_told input a action loaded reply)
+  pub told : (a : Assignment T) (loaded : History T) → SessionStandsFor items.eq items.codec items.content old a
+      → IsActionTold items.eq items.codec items.content action loaded
+      → SessionStandsFor items.eq items.codec items.content new (after_action_told items.input a action loaded reply)
   -- the session keeps its keys, and its sketches have the tables' key if they had it before
   pub keys : new.keys ≡ old.keys
   pub keyed : HasOneKey old → HasOneKey new

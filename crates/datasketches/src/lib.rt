@@ -35,8 +35,8 @@ pub mod bloom {
 /// Count-Min sketches.
 pub mod countmin {
     pub use sketch_countmin::{
-        CountMinItems, CountMinSizes, CountMinSketch, CountMinValue, Error, ErrorKind, Fault,
-        RowItem, UnsignedCountMinValue, suggest_num_buckets, suggest_num_hashes,
+        CountMinImageOptions, CountMinItems, CountMinSizes, CountMinSketch, CountMinValue, Error,
+        ErrorKind, Fault, RowItem, UnsignedCountMinValue, suggest_num_buckets, suggest_num_hashes,
     };
 }
 
@@ -45,9 +45,10 @@ pub mod frequencies {
     pub use sketch_base::{SketchBytes, SketchSlice};
     pub use sketch_frequencies::{
         EMPTY_FLAG_MASK, EqualClone, Error, ErrorKind, ErrorType, Fault, FrequentItemValue,
-        FrequentItemsSizes, FrequentItemsSketch, HashKey, ItemBounds, ItemKey, Keys, OwnedKey,
-        PREAMBLE_LONGS_EMPTY, PREAMBLE_LONGS_NONEMPTY, ReversePurgeItemHashMap,
-        ReversePurgeItemIter, Row, SERIAL_VERSION, TableKey, suggest_max_map_size,
+        FrequentItemsImageOptions, FrequentItemsSizes, FrequentItemsSketch, HashKey, ItemBounds,
+        ItemKey, Keys, OwnedKey, PREAMBLE_LONGS_EMPTY, PREAMBLE_LONGS_NONEMPTY,
+        ReversePurgeItemHashMap, ReversePurgeItemIter, Row, SERIAL_VERSION, TableKey,
+        suggest_max_map_size,
     };
 }
 

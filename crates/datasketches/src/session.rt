@@ -1,6 +1,5 @@
 //! Sessions: named sketches and images.
 ghost use Rattle.std.specs.Prelude.{◌≡◌, false, [], None, Some, IfOk, IfErr, OnErr, IsTrue};
-ghost use Rattle.counter_table.specs.Bytes.{option_bytes};
 ghost use Rattle.counter_table.specs.declared.table_key.TableKey.TheVariants.{Plain};
 ghost use Rattle.datasketches.specs.Actions.{Action, Change, Join, Shape, usual_sizes};
 ghost use Rattle.datasketches.specs.SessionStandsFor.{SessionStandsFor};
@@ -71,6 +70,33 @@ impl<T: Eq + Hash + Drop> Model for Session<T> {
       sketches = s.sketches.entries;
       images = s.images.entries;
       keys = record { table = s.key; sketch_names = s.sketches.hasher; image_names = s.images.hasher };
+    } };
+}
+
+/// The type of a session's items, as the clauses of its calls take it.
+pub(crate) trait OfItems {
+    ghost use Rattle.datasketches.specs.ItemTypes.{ItemType};
+
+    ghost Item: { Type 0 };
+
+    ghost Content: { Type 0 };
+
+    ghost items: { ItemType Item Content };
+}
+
+impl<T: FrequentItemValue + Drop> OfItems for Session<T> {
+    ghost use Rattle.counter_table.specs.Bytes.{option_bytes};
+
+    ghost Item = { T };
+
+    ghost Content = { T.Content };
+
+    ghost items = { record {
+      slot = option_bytes T.row;
+      eq = T.eq;
+      input = T.hash_input;
+      codec = T.codec;
+      content = T.content;
     } };
 }
 
@@ -167,7 +193,7 @@ impl<T: FrequentItemValue + EqualClone + Drop> Session<T> {
     /// return the error of the sketch's own constructor, or `NoMemory` if the name cannot be kept. An error of any call
     /// changes nothing.
     pub fn create_frequent_items(&mut self, name: &str, max_map_size: usize) -> Result<(), Refusal>
-        ensures { Performed (option_bytes T.row) T.eq T.hash_input T.codec T.content
+        ensures { Performed (⟦<Session<T> as OfItems>⟧.items)
             (Action.Create name.now (Shape.Frequent (usual_sizes max_map_size))) self.old (done_or result) self.new }
     {
         self.create(name, FrequentItemsSizes::new(max_map_size))
@@ -179,7 +205,7 @@ impl<T: FrequentItemValue + EqualClone + Drop> Session<T> {
         name: &str,
         sizes: FrequentItemsSizes,
     ) -> Result<(), Refusal>
-        ensures { Performed (option_bytes T.row) T.eq T.hash_input T.codec T.content
+        ensures { Performed (⟦<Session<T> as OfItems>⟧.items)
             (Action.Create name.now (Shape.Frequent sizes)) self.old (done_or result) self.new }
     {
         self.create(name, sizes)
@@ -187,7 +213,7 @@ impl<T: FrequentItemValue + EqualClone + Drop> Session<T> {
 
     /// Creates a Count-Min sketch of signed weights under the name.
     pub fn create_count_min_i64(&mut self, name: &str, sizes: CountMinSizes) -> Result<(), Refusal>
-        ensures { Performed (option_bytes T.row) T.eq T.hash_input T.codec T.content
+        ensures { Performed (⟦<Session<T> as OfItems>⟧.items)
             (Action.Create name.now (Shape.CountI64 sizes)) self.old (done_or result) self.new }
     {
         self.create(name, SignedCounts(sizes))
@@ -195,7 +221,7 @@ impl<T: FrequentItemValue + EqualClone + Drop> Session<T> {
 
     /// Creates a Count-Min sketch of nonnegative weights under the name.
     pub fn create_count_min_u64(&mut self, name: &str, sizes: CountMinSizes) -> Result<(), Refusal>
-        ensures { Performed (option_bytes T.row) T.eq T.hash_input T.codec T.content
+        ensures { Performed (⟦<Session<T> as OfItems>⟧.items)
             (Action.Create name.now (Shape.CountU64 sizes)) self.old (done_or result) self.new }
     {
         self.create(name, UnsignedCounts(sizes))
@@ -207,7 +233,7 @@ impl<T: FrequentItemValue + EqualClone + Drop> Session<T> {
         name: &str,
         sizes: BloomFilterBuilder,
     ) -> Result<(), Refusal>
-        ensures { Performed (option_bytes T.row) T.eq T.hash_input T.codec T.content
+        ensures { Performed (⟦<Session<T> as OfItems>⟧.items)
             (Action.Create name.now (Shape.Bloom sizes)) self.old (done_or result) self.new }
     {
         self.create(name, sizes)
@@ -220,7 +246,7 @@ impl<T: FrequentItemValue + EqualClone + Drop> Session<T> {
     /// Calls on a sketch return `NoSuchName` if no sketch has the name, `WrongKind` if its kind does not support the call,
     /// and the error of the sketch's own call.
     pub fn add(&mut self, name: &str, item: T, weight: u64) -> Result<(), Refusal>
-        ensures { Performed (option_bytes T.row) T.eq T.hash_input T.codec T.content
+        ensures { Performed (⟦<Session<T> as OfItems>⟧.items)
             (Action.Alter name.now (Change.Add item weight)) self.old (done_or result) self.new }
     {
         let Some(sketch) = self.sketches.get_mut(name) else {
@@ -241,7 +267,7 @@ impl<T: FrequentItemValue + EqualClone + Drop> Session<T> {
         weight: u64,
     ) -> Result<(), Refusal>
         ensures { (x : T) → IsTrue (K.names item x)
-            → PerformedByKey (option_bytes T.row) T.eq T.hash_input T.codec T.content name.now (K.names item) weight
+            → PerformedByKey (⟦<Session<T> as OfItems>⟧.items) name.now (K.names item) weight
             self.old result self.new }
     {
         let Some(sketch) = self.sketches.get_mut(name) else {
@@ -258,7 +284,7 @@ impl<T: FrequentItemValue + EqualClone + Drop> Session<T> {
         weight: i64,
     ) -> Result<(), Refusal>
         ensures { (x : T) → IsTrue (K.names item x)
-            → Performed (option_bytes T.row) T.eq T.hash_input T.codec T.content
+            → Performed (⟦<Session<T> as OfItems>⟧.items)
             (Action.Alter name.now (Change.AddSigned x weight)) self.old (done_or result) self.new }
     {
         let Some(sketch) = self.sketches.get_mut(name) else {
@@ -271,7 +297,7 @@ impl<T: FrequentItemValue + EqualClone + Drop> Session<T> {
     #[inline(always)]
     pub fn insert<K: ItemKey<T>>(&mut self, name: &str, item: K) -> Result<(), Refusal>
         ensures { (x : T) → IsTrue (K.names item x)
-            → Performed (option_bytes T.row) T.eq T.hash_input T.codec T.content
+            → Performed (⟦<Session<T> as OfItems>⟧.items)
             (Action.Alter name.now (Change.Insert x)) self.old (done_or result) self.new }
     {
         let Some(sketch) = self.sketches.get_mut(name) else {
@@ -282,7 +308,7 @@ impl<T: FrequentItemValue + EqualClone + Drop> Session<T> {
 
     /// Empties a sketch of frequent items or a filter.
     pub fn reset(&mut self, name: &str) -> Result<(), Refusal>
-        ensures { Performed (option_bytes T.row) T.eq T.hash_input T.codec T.content
+        ensures { Performed (⟦<Session<T> as OfItems>⟧.items)
             (Action.Alter name.now Change.Reset) self.old (done_or result) self.new }
     {
         let Some(sketch) = self.sketches.get_mut(name) else {
@@ -293,7 +319,7 @@ impl<T: FrequentItemValue + EqualClone + Drop> Session<T> {
 
     /// Halves all weights of a Count-Min sketch of nonnegative weights.
     pub fn halve(&mut self, name: &str) -> Result<(), Refusal>
-        ensures { Performed (option_bytes T.row) T.eq T.hash_input T.codec T.content
+        ensures { Performed (⟦<Session<T> as OfItems>⟧.items)
             (Action.Alter name.now Change.Halve) self.old (done_or result) self.new }
     {
         let Some(sketch) = self.sketches.get_mut(name) else {
@@ -306,7 +332,7 @@ impl<T: FrequentItemValue + EqualClone + Drop> Session<T> {
     ///
     /// Returns `BadFraction` if the fraction is not above 0 and at most 1.
     pub fn decay(&mut self, name: &str, numerator: u64, denominator: u64) -> Result<(), Refusal>
-        ensures { Performed (option_bytes T.row) T.eq T.hash_input T.codec T.content
+        ensures { Performed (⟦<Session<T> as OfItems>⟧.items)
             (Action.Alter name.now (Change.Decay numerator denominator)) self.old (done_or result) self.new }
     {
         let Some(sketch) = self.sketches.get_mut(name) else {
@@ -326,7 +352,7 @@ impl<T: FrequentItemValue + EqualClone + Drop> Session<T> {
     /// - `WrongKind` if the kinds differ or do not support the call;
     /// - the error of the sketch's own call.
     pub fn merge(&mut self, into: &str, other: &str) -> Result<(), Refusal>
-        ensures { Performed (option_bytes T.row) T.eq T.hash_input T.codec T.content
+        ensures { Performed (⟦<Session<T> as OfItems>⟧.items)
             (Action.Combine into.now other.now Join.Merge) self.old (done_or result) self.new }
     {
         self.join::<Merge>(into, other)
@@ -334,7 +360,7 @@ impl<T: FrequentItemValue + EqualClone + Drop> Session<T> {
 
     /// Adds the positions of the filter `other` to the filter `into`.
     pub fn union(&mut self, into: &str, other: &str) -> Result<(), Refusal>
-        ensures { Performed (option_bytes T.row) T.eq T.hash_input T.codec T.content
+        ensures { Performed (⟦<Session<T> as OfItems>⟧.items)
             (Action.Combine into.now other.now Join.Union) self.old (done_or result) self.new }
     {
         self.join::<Union>(into, other)
@@ -342,7 +368,7 @@ impl<T: FrequentItemValue + EqualClone + Drop> Session<T> {
 
     /// Keeps in the filter `into` only the positions that are also in the filter `other`.
     pub fn intersect(&mut self, into: &str, other: &str) -> Result<(), Refusal>
-        ensures { Performed (option_bytes T.row) T.eq T.hash_input T.codec T.content
+        ensures { Performed (⟦<Session<T> as OfItems>⟧.items)
             (Action.Combine into.now other.now Join.Intersect) self.old (done_or result) self.new }
     {
         self.join::<Intersect>(into, other)
@@ -350,7 +376,7 @@ impl<T: FrequentItemValue + EqualClone + Drop> Session<T> {
 
     /// Removes the positions of the filter `other` from the filter `into`.
     pub fn difference(&mut self, into: &str, other: &str) -> Result<(), Refusal>
-        ensures { Performed (option_bytes T.row) T.eq T.hash_input T.codec T.content
+        ensures { Performed (⟦<Session<T> as OfItems>⟧.items)
             (Action.Combine into.now other.now Join.Difference) self.old (done_or result) self.new }
     {
         self.join::<Difference>(into, other)
@@ -363,7 +389,7 @@ impl<T: FrequentItemValue + EqualClone + Drop> Session<T> {
     /// Returns `NoSuchName` if no sketch has the name, and `NameTaken` if an image has its name already. Otherwise returns the
     /// fault of an item that cannot be written, or `NoMemory`.
     pub fn save(&mut self, name: &str, image: &str) -> Result<(), Refusal>
-        ensures { Performed (option_bytes T.row) T.eq T.hash_input T.codec T.content
+        ensures { Performed (⟦<Session<T> as OfItems>⟧.items)
             (Action.Save name.now image.now) self.old (done_or result) self.new }
     {
         let Some(sketch) = self.sketches.get(name) else {
@@ -383,7 +409,7 @@ impl<T: FrequentItemValue + EqualClone + Drop> Session<T> {
     /// Returns `NoSuchName` if no image has its name, and `NameTaken` if a sketch has the name already. Otherwise returns the
     /// image's first fault, or `NoMemory`.
     pub fn restore(&mut self, image: &str, name: &str) -> Result<(), Refusal>
-        ensures { Performed (option_bytes T.row) T.eq T.hash_input T.codec T.content
+        ensures { Performed (⟦<Session<T> as OfItems>⟧.items)
             (Action.Restore image.now name.now) self.old (done_or result) self.new }
     {
         let saved = self.saved_image(image)?;
@@ -407,7 +433,7 @@ impl<T: FrequentItemValue + EqualClone + Drop> Session<T> {
         image: &[u8],
         max_bytes: usize,
     ) -> Result<(), Refusal>
-        ensures { Performed (option_bytes T.row) T.eq T.hash_input T.codec T.content
+        ensures { Performed (⟦<Session<T> as OfItems>⟧.items)
             (Action.Load name.now kind image.now max_bytes) self.old (done_or result) self.new }
     {
         if self.sketches.contains_name(name) {
@@ -423,7 +449,7 @@ impl<T: FrequentItemValue + EqualClone + Drop> Session<T> {
     ///
     /// Returns `NoSuchName` if no image has the name, and `NoMemory` if the copy cannot be allocated.
     pub fn image(&self, name: &str) -> Result<Vec<u8>, Refusal>
-        ensures { Performed (option_bytes T.row) T.eq T.hash_input T.codec T.content
+        ensures { Performed (⟦<Session<T> as OfItems>⟧.items)
             (Action.ShowImage name.now) self.now (told_as Reply.Image result) self.now }
     {
         Ok(self.saved_image(name)?.copy_bytes(self.alloc)?)
@@ -437,7 +463,7 @@ impl<T: FrequentItemValue + EqualClone + Drop> Session<T> {
         item: K,
     ) -> Result<Reply<T>, Refusal>
         ensures performed { (x : T) → IsTrue (K.names item x)
-            → Performed (option_bytes T.row) T.eq T.hash_input T.codec T.content
+            → Performed (⟦<Session<T> as OfItems>⟧.items)
             (Action.Ask name.now x) self.now (told result) self.now }
         ensures accepted { IfOk result (λ reply. is_refused reply ≡ false) }
     {
@@ -451,7 +477,7 @@ impl<T: FrequentItemValue + EqualClone + Drop> Session<T> {
         item: K,
     ) -> Result<Bounds, Refusal>
         ensures { (x : T) → IsTrue (K.names item x) → (reply : Reply T)
-            × Performed (option_bytes T.row) T.eq T.hash_input T.codec T.content
+            × Performed (⟦<Session<T> as OfItems>⟧.items)
             (Action.Ask name.now x) self.now reply self.now
             × (result ≡ bounds_in reply) }
     {
@@ -466,7 +492,7 @@ impl<T: FrequentItemValue + EqualClone + Drop> Session<T> {
         item: K,
     ) -> Result<bool, Refusal>
         ensures { (x : T) → IsTrue (K.names item x) → (reply : Reply T)
-            × Performed (option_bytes T.row) T.eq T.hash_input T.codec T.content
+            × Performed (⟦<Session<T> as OfItems>⟧.items)
             (Action.Ask name.now x) self.now reply self.now
             × (result ≡ contains_in reply) }
     {
@@ -476,7 +502,7 @@ impl<T: FrequentItemValue + EqualClone + Drop> Session<T> {
 
     /// Returns the numbers of a sketch.
     pub fn status(&self, name: &str) -> Result<Status, Refusal>
-        ensures { Performed (option_bytes T.row) T.eq T.hash_input T.codec T.content
+        ensures { Performed (⟦<Session<T> as OfItems>⟧.items)
             (Action.GetStatus name.now) self.now (told_as Reply.Status result) self.now }
     {
         Ok(self.sketch(name)?.status())
@@ -491,14 +517,14 @@ impl<T: FrequentItemValue + EqualClone + Drop> Session<T> {
         error_type: ErrorType,
         threshold: u64,
     ) -> Result<Vec<Row<T>>, Refusal>
-        ensures { Performed (option_bytes T.row) T.eq T.hash_input T.codec T.content
+        ensures { Performed (⟦<Session<T> as OfItems>⟧.items)
             (Action.ListRows name.now error_type threshold) self.now (told_as Reply.Rows result) self.now }
     {
         self.sketch(name)?.rows(error_type, threshold)
     }
 
     fn create<S: NewSketch<T> + Drop>(&mut self, name: &str, sizes: S) -> Result<(), Refusal>
-        ensures { Performed (option_bytes T.row) T.eq T.hash_input T.codec T.content
+        ensures { Performed (⟦<Session<T> as OfItems>⟧.items)
             (Action.Create name.now (S.shape sizes)) self.old (done_or result) self.new }
     {
         if self.sketches.contains_name(name) {
@@ -509,7 +535,7 @@ impl<T: FrequentItemValue + EqualClone + Drop> Session<T> {
     }
 
     fn join<J: Joining<T>>(&mut self, into: &str, other: &str) -> Result<(), Refusal>
-        ensures { Performed (option_bytes T.row) T.eq T.hash_input T.codec T.content
+        ensures { Performed (⟦<Session<T> as OfItems>⟧.items)
             (Action.Combine into.now other.now J.join) self.old (done_or result) self.new }
     {
         self.sketches.join::<J>(into, other)

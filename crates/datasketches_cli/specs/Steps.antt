@@ -22,7 +22,7 @@ use Rattle.heavy_windows.specs.declared.report.Report.{Report}
 use Rattle.datasketches_cli.specs.Requests.{Request, Act, OpenWindows, AddTo, TurnOf, ReportOf}
 use Rattle.datasketches_cli.specs.Answers.{Answer, Replied, Reported}
 use Rattle.datasketches_cli.specs.declared.state.State.{State}
-use Rattle.datasketches_cli.specs.Texts.{Text, text_input, text_slot}
+use Rattle.datasketches_cli.specs.Texts.{Text, text_input, text_items, text_slot}
 
 -- the windows of tenants, if any
 abbrev pub Windows : Type 0
@@ -105,7 +105,7 @@ DidSpelled (action.ListRows name kind threshold) old reply new = Did (action.Lis
 -- a string of these bytes was added, or there was no memory for it
 abbrev pub DidByBytes : List ℕ → List ℕ → ℕ → SessionState Text → Result ⊤ Refusal → SessionState Text → Type 0
 DidByBytes name bytes weight old result new =
-    PerformedByKey text_slot string_eq text_input text_codec string_bytes name (λ x. bytes_eq bytes (string_bytes x)) weight
+    PerformedByKey text_items name (λ x. bytes_eq bytes (string_bytes x)) weight
     old result new
 
 -- the effect of a request. An action is a step of the session; the others are calls on the windows. New windows

@@ -3,7 +3,7 @@ use counter_table::{EqualClone, ItemKey, Keys, ReversePurgeItemHashMap, Slot};
 use sketch_base::{SketchBytes, Strs, Words};
 use sketch_frequencies::{
     Error, ErrorType, FrequentItemValue, FrequentItemsImageOptions, FrequentItemsSizes,
-    FrequentItemsSketch, HashKey, ItemBounds, Row, TableKey, suggest_max_map_size,
+    FrequentItemsSketch, ItemBounds, Row, TableKey, suggest_max_map_size,
 };
 use std::alloc::{AllocError, Global};
 
@@ -203,10 +203,4 @@ pub fn has_word(text: &str, word: &String) -> bool {
         }
     }
     false
-}
-
-/// Creates a sketch whose table hashes under a random key.
-pub fn senders(alloc: Global, random: &[u8; 16]) -> Result<FrequentItemsSketch<u64>, Error> {
-    let key = TableKey::Keyed(HashKey::from_bytes(random));
-    FrequentItemsSketch::with_key(alloc, 1024, key)
 }

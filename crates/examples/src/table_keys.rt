@@ -1,5 +1,4 @@
 //! Examples of frequent items that others choose, and the test of these and of the other examples with keys.
-use crate::frequent_items::senders;
 use crate::map_keys::{ages, key_of};
 use crate::session::{keyed_session, session_of_strangers};
 use crate::windows::{keyed_load, load_of_strangers};
@@ -11,6 +10,12 @@ use sketch_frequencies::{
 use std::alloc::Global;
 use std::hash::RandomState;
 use std::test::Fail;
+
+/// Creates a sketch whose table hashes under a random key.
+pub fn senders(alloc: Global, random: &[u8; 16]) -> Result<FrequentItemsSketch<u64>, Error> {
+    let key = TableKey::Keyed(HashKey::from_bytes(random));
+    FrequentItemsSketch::with_key(alloc, 1024, key)
+}
 
 /// Returns options for untrusted images: a limit of a MiB, and a key.
 pub fn options_for_untrusted(key: TableKey) -> FrequentItemsImageOptions {

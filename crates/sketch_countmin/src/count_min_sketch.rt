@@ -3,12 +3,13 @@ ghost use Rattle.std.specs.Prelude.{◌≡◌, ◌≢◌, ℕ, ◌+◌, ◌*◌,
 ghost use Rattle.sketch_base.specs.Errors.{invalid_argument, no_memory, refusal_of};
 ghost use Rattle.sketch_base.specs.Hashes.{fed_bytes, seed_hash};
 ghost use Rattle.sketch_countmin.specs.History.{CountHistory, IsNonnegative, IsExact, own_value, others_share};
-ghost use Rattle.sketch_countmin.specs.History.CountHistory.{New, Update, Merge, Halve, Decay};
+ghost use Rattle.sketch_countmin.specs.History.CountHistory.{New, Update, Merge};
 ghost use Rattle.sketch_countmin.specs.Rows.{cell_at};
 ghost use Rattle.sketch_countmin.specs.Shapes.{shape_fault};
 ghost use Rattle.sketch_countmin.specs.Stands.{StandsFor, Extends, ExtendsBoth};
-ghost use Rattle.sketch_countmin.specs.State.{IsCountState, SameShape, Counts, Joins, IsMin, IsMinCell, empty_state, halved_state, decayed_state, upper_bound_of};
+ghost use Rattle.sketch_countmin.specs.State.{IsCountState, SameShape, Counts, Joins, IsMin, IsMinCell, empty_state, upper_bound_of};
 
+mod aging;
 mod batches;
 mod images;
 
@@ -19,7 +20,6 @@ use crate::grid::Grid;
 use crate::limits::{MAX_TABLE_ENTRIES, MIN_NUM_BUCKETS};
 use crate::margin::with_margin;
 use crate::row_item::RowItem;
-use crate::unsigned_count_min_value::UnsignedCountMinValue;
 use sketch_base::{DEFAULT_UPDATE_SEED, Error, ErrorKind, Fault, compute_seed_hash};
 use std::alloc::{AllocError, Global};
 use std::fmt;
@@ -526,42 +526,6 @@ impl<T: CountMinValue> Clone for CountMinSketch<T> {
             total: self.total,
             seed: self.seed,
         })
-    }
-}
-
-impl<T: UnsignedCountMinValue> CountMinSketch<T> {
-    /// Halves each cell and the total, rounded down. Does not allocate.
-    pub fn halve(&mut self)
-        ensures value { self.new ≡ halved_state self.old }
-        ensures state { IsCountState T.greatest self.new }
-        ensures stands { Extends self.old self.new Halve }
-    {
-        self.grid.halve();
-        self.total = self.total.halve();
-    }
-
-    /// Multiplies each cell and the total by `numerator / denominator`, rounded down. Does not allocate.
-    ///
-    /// `0 < numerator <= denominator` is required.
-    ///
-    /// # Examples
-    ///
-    /// ```
-    /// use sketch_countmin::CountMinSketch;
-    ///
-    /// fn age(traffic: &mut CountMinSketch<u64>) {
-    ///     traffic.decay(9, 10);
-    /// }
-    /// ```
-    pub fn decay(&mut self, numerator: u64, denominator: u64)
-        requires positive { 0 < numerator }
-        requires at_most_one { numerator ≤ denominator }
-        ensures value { self.new ≡ decayed_state numerator denominator self.old }
-        ensures state { IsCountState T.greatest self.new }
-        ensures stands { Extends self.old self.new (λ h. Decay h numerator denominator) }
-    {
-        self.grid.scale(numerator, denominator);
-        self.total = self.total.scale_nonnegative(numerator, denominator as u128);
     }
 }
 

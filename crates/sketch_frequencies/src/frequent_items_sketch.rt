@@ -135,7 +135,7 @@ impl<T: Eq + Hash + Drop> FrequentItemsSketch<T> {
     ///
     /// ```
     /// use sketch_frequencies::{Error, FrequentItemsSketch, HashKey, TableKey};
-    /// use std::alloc::{AllocError, Global};
+    /// use std::alloc::Global;
     ///
     /// fn senders(alloc: Global, random: &[u8; 16]) -> Result<FrequentItemsSketch<u64>, Error> {
     ///     let key = TableKey::Keyed(HashKey::from_bytes(random));

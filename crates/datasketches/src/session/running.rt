@@ -14,7 +14,7 @@ ghost use Rattle.datasketches.specs.Steps.{Step, Run};
 
 use crate::command::Command;
 use crate::reply::{Refusal, Reply};
-use crate::session::{Session, told};
+use crate::session::{OfItems, Session, told};
 use sketch_base::Error;
 use sketch_bloom::BloomFilterBuilder;
 use sketch_countmin::CountMinSizes;
@@ -41,7 +41,7 @@ impl<T: FrequentItemValue + EqualClone + Drop> Session<T> {
 
     /// Makes the call that a command names.
     fn perform(&mut self, command: Command<T>) -> Reply<T>
-        ensures { Performed (option_bytes T.row) T.eq T.hash_input T.codec T.content
+        ensures { Performed (⟦<Session<T> as OfItems>⟧.items)
             (action_of command) self.old result self.new }
     {
         match command {
