@@ -42,17 +42,18 @@ int main(void)
 {
     ds_sketch filter = DS_NONE, count = DS_NONE, frequent = DS_NONE;
     uint64_t sum = 0, estimate;
+    const ds_items all = ds_items_u64(items, ITEMS), with_sign = ds_items_i64((const int64_t *)items, ITEMS);
     for (uint64_t i = 0; i < ITEMS; i++) {
         items[i] = mix(i + 0x9e3779b97f4a7c15u) >> 1;
         snprintf(texts[i], 8, "t%06llx", (unsigned long long)(items[i] & 0xffffff));
     }
     if (ds_bloom_new(&filter, 1 << 20, 7, 9001) || ds_count_min_new(&count, DS_COUNT_MIN_U64, 4, 1 << 16, 9001)) return 1;
-    TIME("filter_insert_all", ds_reset(&filter), ds_bloom_insert_all_u64(&filter, items, ITEMS));
-    TIME("filter_contains_all", , ds_bloom_contains_all_u64(&filter, items, ITEMS, answers, ITEMS));
-    TIME("count_update_all", , ds_count_min_u64_update_all_u64(&count, items, ITEMS));
-    TIME("count_estimate_all", , ds_count_min_u64_estimate_all_u64(&count, items, ITEMS, estimates, ITEMS));
+    TIME("filter_insert_all", ds_reset(&filter), ds_bloom_insert_all(&filter, &all));
+    TIME("filter_contains_all", , ds_bloom_contains_all(&filter, &all, answers, ITEMS));
+    TIME("count_update_all", , ds_update_all(&count, &all));
+    TIME("count_estimate_all", , ds_count_min_u64_estimate_all(&count, &all, estimates, ITEMS));
     TIME("frequent_update_all", ds_frequent_items_new(&frequent, DS_FREQUENT_ITEMS_I64, 1 << 16, 1024, NULL),
-         ds_frequent_items_i64_update_all(&frequent, (const int64_t *)items, ITEMS));
+         ds_update_all(&frequent, &with_sign));
     TIME("filter_insert_all_texts", ds_reset(&filter),
          for (size_t i = 0; i < ITEMS; i++) ds_bloom_insert_string(&filter, (const uint8_t *)texts[i], 7));
     TIME("filter_insert_one", ds_reset(&filter), for (size_t i = 0; i < ITEMS; i++) ds_bloom_insert_u64(&filter, items[i]));

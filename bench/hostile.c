@@ -7,94 +7,16 @@
  * rounds, or of fewer once a row has taken a second. The exit status is 1 if a ratio of a keyed library exceeds 2. */
 #define _GNU_SOURCE
 #include "hostile_items.h"
-#include <datasketches.h>
-#include <dlfcn.h>
+#include "hostile_library.h"
 #include <fcntl.h>
 #include <math.h>
 #include <stdio.h>
-#include <sys/random.h>
 #include <sys/resource.h>
 #include <sys/wait.h>
 #include <time.h>
 #include <unistd.h>
 
-enum { SLOTS = 1 << 16, SAMPLE = 1024, MOST = SLOTS / 4 * 3, ROUNDS = 15 };
-
-/* --- The libraries --- */
-
-#define CALLS(X, kind) X(kind, update) X(kind, update_all) X(kind, bounds_all)
-#define FIELD(kind, call) __typeof__(&ds_frequent_items_##kind##_##call) kind##_##call;
-
-/* The calls of the library with keys that create and read a sketch of a kind under a key. Its archive exports them. */
-typedef int32_t new_frequent_items(ds_sketch *, int32_t, size_t, size_t, uint64_t, uint64_t);
-typedef int32_t read_image_call(ds_sketch *, int32_t, const uint8_t *, size_t, size_t, uint64_t, uint64_t, uint64_t, size_t *);
-
-/* The functions of a library. One without keys has calls of each kind, for numbers and for strings: `create` and `read`. One with
- * keys has `create_under_key` and `read_under_key` of any kind. */
-struct library {
-    const char *label, *program;
-    bool is_keyed;
-    CALLS(FIELD, i64)
-    CALLS(FIELD, string)
-    __typeof__(&ds_frequent_items_i64_update_all_weighted) i64_update_all_weighted;
-    int32_t (*create[2])(ds_sketch *, size_t, size_t);
-    int32_t (*read[2])(ds_sketch *, const uint8_t *, size_t, size_t);
-    new_frequent_items *create_under_key;
-    read_image_call *read_under_key;
-    __typeof__(&ds_merge) merge[2];
-    __typeof__(&ds_serialize) serialize[2];
-    __typeof__(&ds_clone) clone;
-    __typeof__(&ds_free) free;
-};
-
-static void check(bool holds, const char *what)
-{
-    if (holds) return;
-    fprintf(stderr, "hostile: %s\n", what);
-    exit(2);
-}
-
-static void *function(void *object, const char *name)
-{
-    void *found = dlsym(object, name);
-    check(found, dlerror());
-    return found;
-}
-
-static struct library opened(const char *path, const char *program)
-{
-    void *object = dlopen(path, RTLD_NOW | RTLD_LOCAL);
-    check(object, dlerror());
-    struct library library = {.program = program};
-    library.is_keyed = dlsym(object, "ds_new_frequent_items") != NULL;
-    library.label = library.is_keyed ? "keyed" : "plain";
-#define LOAD(kind, call) library.kind##_##call = function(object, "ds_frequent_items_" #kind "_" #call);
-    CALLS(LOAD, i64)
-    CALLS(LOAD, string)
-    LOAD(i64, update_all_weighted)
-    for (int strings = 0; strings < 2; strings++) {
-        char name[80];
-#define LOAD_NAMED(field, call) \
-    snprintf(name, sizeof name, "ds_frequent_items_%s_%s", strings ? "string" : "i64", call), \
-        library.field[strings] = function(object, name);
-        if (library.is_keyed) {
-            library.merge[strings] = function(object, "ds_merge");
-            library.serialize[strings] = function(object, "ds_serialize");
-        } else {
-            LOAD_NAMED(create, "new")
-            LOAD_NAMED(read, "deserialize")
-            LOAD_NAMED(merge, "merge")
-            LOAD_NAMED(serialize, "serialize")
-        }
-    }
-    if (library.is_keyed) {
-        library.create_under_key = function(object, "ds_new_frequent_items");
-        library.read_under_key = function(object, "ds_read_image");
-    }
-    library.clone = function(object, "ds_clone");
-    library.free = function(object, dlsym(object, "ds_free") ? "ds_free" : "ds_free_handle");
-    return library;
-}
+enum { SLOTS = 1 << 16, MOST = SLOTS / 4 * 3, ROUNDS = 15 };
 
 /* --- Items --- */
 
@@ -212,40 +134,20 @@ static uint8_t *image_of(const struct items *items, size_t *length)
 
 /* --- Operations --- */
 
-/* A word of a key, which no item depends on. */
-static uint64_t key_word(void)
+/* Returns the items as an argument of calls. */
+static ds_items as_argument(const struct items *items)
 {
-    static uint64_t start = 0, count = 0;
-    if (!start) check(getrandom(&start, sizeof start, 0) == sizeof start, "getrandom");
-    return random_of(start + count++);
-}
-
-static int32_t kind_of(bool numbers)
-{
-    return numbers ? DS_FREQUENT_ITEMS_I64 : DS_FREQUENT_ITEMS_STRING;
-}
-
-static void create(const struct library *library, ds_sketch *sketch, bool numbers, size_t slots)
-{
-    size_t sample = slots / 4 * 3 < SAMPLE ? slots / 4 * 3 : SAMPLE;
-    check(!(library->is_keyed ? library->create_under_key(sketch, kind_of(numbers), slots, sample, key_word(), key_word())
-                              : library->create[!numbers](sketch, slots, sample)),
-          "new");
-}
-
-static int32_t read_image(const struct library *library, ds_sketch *sketch, bool numbers, const uint8_t *image, size_t length)
-{
-    size_t used;
-    if (!library->is_keyed) return library->read[!numbers](sketch, image, length, SIZE_MAX);
-    return library->read_under_key(sketch, kind_of(numbers), image, length, SIZE_MAX, 0, key_word(), key_word(), &used);
+    if (items->numbers) return ds_items_i64(items->numbers, items->count);
+    return ds_items_offsets(items->bytes, items->offsets[items->count], items->offsets, items->count + 1);
 }
 
 static void update_all(const struct library *library, ds_sketch *sketch, const struct items *items)
 {
-    int32_t result = items->numbers ? library->i64_update_all(sketch, items->numbers, items->count)
-                                    : library->string_update_all(sketch, items->bytes, items->offsets[items->count], items->offsets,
-                                                                 items->count + 1);
-    check(!result, "update_all");
+    const ds_items all = as_argument(items);
+    check(!(library->is_keyed ? library->update_all(sketch, &all)
+            : items->numbers  ? library->plain.i64_update_all(sketch, all.i64s, all.num_i64s)
+                              : library->plain.string_update_all(sketch, all.bytes, all.num_bytes, all.offsets, all.num_offsets)),
+          "update_all");
 }
 
 static void update_each(const struct library *library, ds_sketch *sketch, const struct items *items)
@@ -263,10 +165,13 @@ static void update_each(const struct library *library, ds_sketch *sketch, const 
 static void bounds_all(const struct library *library, ds_sketch *sketch, const struct items *items,
                        ds_frequent_items_bounds *bounds)
 {
-    int32_t result = items->numbers ? library->i64_bounds_all(sketch, items->numbers, items->count, bounds, items->count)
-                                    : library->string_bounds_all(sketch, items->bytes, items->offsets[items->count], items->offsets,
-                                                                 items->count + 1, bounds, items->count);
-    check(!result, "bounds_all");
+    const ds_items all = as_argument(items);
+    size_t count = items->count;
+    check(!(library->is_keyed ? library->bounds_all(sketch, &all, bounds, count)
+            : items->numbers
+                ? library->plain.i64_bounds_all(sketch, all.i64s, count, bounds, count)
+                : library->plain.string_bounds_all(sketch, all.bytes, all.num_bytes, all.offsets, all.num_offsets, bounds, count)),
+          "bounds_all");
 }
 
 enum operation { INSERT, AGAIN, EACH, PRESENT, ABSENT, WRITE, READ, MERGE, WEIGHTED };
@@ -288,6 +193,14 @@ static struct work work_on(struct items items, struct items absent)
     struct work work = {.slots = SLOTS, .items = items, .order = shuffled(&items), .absent = absent};
     work.image = image_of(&items, &work.image_length);
     return work;
+}
+
+static int32_t update_all_weighted(const struct library *library, ds_sketch *sketch, const struct work *work)
+{
+    const ds_items all = as_argument(&work->items);
+    size_t count = work->items.count;
+    if (library->is_keyed) return library->update_all_weighted(sketch, &all, work->weights, count);
+    return library->plain.i64_update_all_weighted(sketch, all.i64s, count, work->weights, count);
 }
 
 static double now(void)
@@ -333,7 +246,7 @@ static double run(const struct library *library, enum operation operation, struc
     case WRITE: result = library->serialize[!numbers](held, buffer, sizeof buffer, &written); break;
     case READ: result = read_image(library, &sketch, numbers, work->image, work->image_length); break;
     case MERGE: result = library->merge[!numbers](&sketch, held); break;
-    case WEIGHTED: result = library->i64_update_all_weighted(&sketch, work->items.numbers, count, work->weights, count); break;
+    case WEIGHTED: result = update_all_weighted(library, &sketch, work); break;
     }
     double took = now() - began;
     check(!result, OPERATIONS[operation]);

@@ -6,6 +6,7 @@
  *     costs --names FILE      the same of names, which have 8 bytes
  *     costs FILE              makes the calls, with these numbers */
 #include "../../bench/hostile_items.h"
+#include "../../bindings/c/tests/options.h"
 #include <datasketches.h>
 #include <stdio.h>
 #include <valgrind/callgrind.h>
@@ -14,7 +15,7 @@ enum { N = 1000, MOST = 10 * N, SLOTS = 1 << 14, SAMPLE = 1024, WORD = 8 };
 
 static uint64_t numbers[2 * MOST], one_home[MOST], weights[MOST], offsets[MOST + 1], estimates[MOST];
 static int32_t offsets_32[MOST + 1];
-static int64_t signed_weights[MOST];
+static int64_t signed_weights[MOST], signed_estimates[MOST];
 static ds_frequent_items_bounds bounds[MOST];
 static bool answers[MOST];
 static size_t positions[MOST];
@@ -78,6 +79,34 @@ static void new_strings(ds_sketch *handle)
     check(!ds_frequent_items_new(handle, DS_FREQUENT_ITEMS_STRING, SLOTS, SAMPLE, NULL), "strings");
 }
 
+/* Returns n items of a kind. */
+static ds_items items_of(int32_t kind, size_t n)
+{
+    switch (kind) {
+    case DS_ITEMS_U64: return ds_items_u64(numbers, n);
+    case DS_ITEMS_I64: return ds_items_i64((const int64_t *)numbers, n);
+    case DS_ITEMS_OFFSETS: return ds_items_offsets(words, WORD * n, offsets, n + 1);
+    case DS_ITEMS_OFFSETS32: return ds_items_offsets32(words, WORD * n, (const uint32_t *)offsets_32, n + 1);
+    case DS_ITEMS_STRINGS: return ds_items_strings(strings, n);
+    case DS_ITEMS_WORDS: return ds_items_words(words, WORD * n);
+    default: return ds_items_lines(lines, WORD * n);
+    }
+}
+
+/* The kinds of items, as names of costs have them. */
+static const char *const KINDS[] = {"u64s", "i64s", "offsets", "offsets32", "strings", "words", "lines"};
+
+/* Returns the name of a call on items. */
+static const char *named(const char *call, const char *items)
+{
+    static char name[100];
+    snprintf(name, sizeof name, "%s of %s", call, items);
+    return name;
+}
+
+/* The cost of a call on `items`: n of a kind. */
+#define COST_OF_KIND(name, prepare, call) COST(named(name, KINDS[kind]), const ds_items items = items_of(kind, n); prepare, call)
+
 /* Writes the image of `other` n times, one after another, and returns the length of all. */
 static size_t images_of(size_t n)
 {
@@ -99,26 +128,18 @@ static void filters(void)
 {
     size_t length = 0;
     new_filter(&sketch, 1 << 20);
-    COST("bloom_insert_all_u64", , ds_bloom_insert_all_u64(&sketch, numbers, n))
-    COST("bloom_contains_all_u64", , ds_bloom_contains_all_u64(&sketch, numbers, n, answers, n))
-    COST("bloom_insert_all_string", , ds_bloom_insert_all_string(&sketch, words, WORD * n, offsets, n + 1))
-    COST("bloom_contains_all_string", , ds_bloom_contains_all_string(&sketch, words, WORD * n, offsets, n + 1, answers, n))
-    COST("bloom_insert_all_string_pairs", , ds_bloom_insert_all_string_pairs(&sketch, strings, n))
-    COST("bloom_contains_all_string_pairs", , ds_bloom_contains_all_string_pairs(&sketch, strings, n, answers, n))
-    COST("bloom_contains_and_insert_all_u64", , ds_bloom_contains_and_insert_all_u64(&sketch, numbers, n, answers, n))
-    COST("bloom_contains_and_insert_all_string", ,
-         ds_bloom_contains_and_insert_all_string(&sketch, words, WORD * n, offsets, n + 1, answers, n))
-    COST("bloom_contains_and_insert_all_string_pairs", ,
-         ds_bloom_contains_and_insert_all_string_pairs(&sketch, strings, n, answers, n))
-    COST("bloom_image_contains_all_u64", check(!ds_serialize(&sketch, image, sizeof image, &length), "image"),
-         ds_bloom_image_contains_all_u64(image, length, numbers, n, answers, n))
+    for (int32_t kind = DS_ITEMS_U64; kind <= DS_ITEMS_LINES; kind++) {
+        COST_OF_KIND("bloom_insert_all", , ds_bloom_insert_all(&sketch, &items))
+        COST_OF_KIND("bloom_contains_all", , ds_bloom_contains_all(&sketch, &items, answers, n))
+        COST_OF_KIND("bloom_contains_and_insert_all", , ds_bloom_contains_and_insert_all(&sketch, &items, answers, n))
+        COST_OF_KIND("bloom_image_contains_all", check(!ds_serialize(&sketch, image, sizeof image, &length), "image"),
+                     ds_bloom_image_contains_all(image, length, &items, answers, n))
+    }
+    COST("bloom_insert_all of spaces", , ds_bloom_insert_all(&sketch, AS_ITEMS(words, spaces, WORD * n)))
+    COST("bloom_insert_all of one word", , ds_bloom_insert_all(&sketch, AS_ITEMS(words, one_word, WORD * n)))
     COST("bloom_insert_string", , ds_bloom_insert_string(&sketch, one_word, WORD * n))
     COST_OF("bloom_image_contains_string", check(!ds_serialize(&sketch, image, sizeof image, &length), "image"),
             ds_bloom_image_contains_string(image, length, one_word, WORD * n) >= 0, true)
-    COST("bloom_insert_words", , ds_bloom_insert_words(&sketch, words, WORD * n))
-    COST("bloom_insert_words of spaces", , ds_bloom_insert_words(&sketch, spaces, WORD * n))
-    COST("bloom_insert_words of one word", , ds_bloom_insert_words(&sketch, one_word, WORD * n))
-    COST("bloom_insert_lines", , ds_bloom_insert_lines(&sketch, lines, WORD * n))
     COST("bloom_deserialize", new_filter(&other, 64 * n); ds_bloom_insert_u64(&other, 1);
          check(!ds_serialize(&other, image, sizeof image, &length), "image"),
          ds_deserialize(&sketch, DS_BLOOM, image, length, &unlimited))
@@ -139,21 +160,15 @@ static void counts(void)
 {
     size_t length = 0;
     new_count(&sketch, 1 << 12);
-    COST("count_min_update_all_u64", , ds_count_min_u64_update_all_u64(&sketch, numbers, n))
-    COST("count_min_update_all_weighted_u64", , ds_count_min_u64_update_all_weighted_u64(&sketch, numbers, n, weights, n))
-    COST("count_min_estimate_all_u64", , ds_count_min_u64_estimate_all_u64(&sketch, numbers, n, estimates, n))
-    COST("count_min_update_all_string", , ds_count_min_u64_update_all_string(&sketch, words, WORD * n, offsets, n + 1))
-    COST("count_min_update_all_weighted_string", ,
-         ds_count_min_u64_update_all_weighted_string(&sketch, words, WORD * n, offsets, n + 1, weights, n))
-    COST("count_min_estimate_all_string", ,
-         ds_count_min_u64_estimate_all_string(&sketch, words, WORD * n, offsets, n + 1, estimates, n))
-    COST("count_min_update_all_string_pairs", , ds_count_min_u64_update_all_string_pairs(&sketch, strings, n))
+    for (int32_t kind = DS_ITEMS_U64; kind <= DS_ITEMS_LINES; kind++) {
+        COST_OF_KIND("count_min_update_all", , ds_update_all(&sketch, &items))
+        COST_OF_KIND("count_min_update_all_weighted", , ds_update_all_weighted(&sketch, &items, weights, n))
+        COST_OF_KIND("count_min_estimate_all", , ds_count_min_u64_estimate_all(&sketch, &items, estimates, n))
+    }
+    COST("count_min_update_all of spaces", , ds_update_all(&sketch, AS_ITEMS(words, spaces, WORD * n)))
     COST("count_min_update_string", , ds_count_min_u64_update_string(&sketch, one_word, WORD * n, 1))
     COST("count_min_image_estimate_string", check(!ds_serialize(&sketch, image, sizeof image, &length), "image"),
          ds_count_min_u64_image_estimate_string(image, length, 9001, one_word, WORD * n, estimates))
-    COST("count_min_update_words", , ds_count_min_u64_update_words(&sketch, words, WORD * n))
-    COST("count_min_update_words of spaces", , ds_count_min_u64_update_words(&sketch, spaces, WORD * n))
-    COST("count_min_update_lines", , ds_count_min_u64_update_lines(&sketch, lines, WORD * n))
     COST("count_min_deserialize", new_count(&other, n); ds_count_min_u64_update_u64(&other, 1, 1);
          check(!ds_serialize(&other, image, sizeof image, &length), "image"),
          ds_deserialize(&sketch, DS_COUNT_MIN_U64, image, length, &unlimited))
@@ -171,8 +186,12 @@ static void counts(void)
          for (size_t i = 0; i < n; i++) new_count(&others[i], 3), ds_merge_all(&sketch, others, n))
     COST("count_min_reset", new_count(&sketch, n); ds_count_min_u64_update_u64(&sketch, 1, 1), ds_reset(&sketch))
     new_signed(1 << 12);
-    COST("count_min_i64_update_all_weighted_u64", ,
-         ds_count_min_i64_update_all_weighted_u64(&sketch, numbers, n, signed_weights, n))
+    for (int32_t kind = DS_ITEMS_U64; kind <= DS_ITEMS_LINES; kind++) {
+        COST_OF_KIND("count_min_i64_update_all", , ds_update_all(&sketch, &items))
+        COST_OF_KIND("count_min_i64_update_all_weighted", ,
+                     ds_count_min_i64_update_all_weighted(&sketch, &items, signed_weights, n))
+        COST_OF_KIND("count_min_i64_estimate_all", , ds_count_min_i64_estimate_all(&sketch, &items, signed_estimates, n))
+    }
 }
 
 /* Writes an image of n numbers of weight 1 in this order, in a table of 2^14 slots. Returns its length. */
@@ -190,20 +209,19 @@ static size_t image_of(const uint64_t *items, size_t n)
 
 static void frequent_numbers(const char *kind, const uint64_t *items)
 {
-    char name[80];
-#define NAMED(call) (snprintf(name, sizeof name, "frequent_items_%s, %s", call, kind), name)
-    COST(NAMED("update_all"), new_numbers(&sketch), ds_frequent_items_u64_update_all(&sketch, items, n))
-    COST(NAMED("update_all_weighted"), new_numbers(&sketch),
-         ds_frequent_items_u64_update_all_weighted(&sketch, items, n, weights, n))
-    COST(NAMED("bounds_all"), , ds_frequent_items_u64_bounds_all(&sketch, items, n, bounds, n))
-    COST(NAMED("deserialize"), size_t length = image_of(items, n),
+    COST(named("frequent_items_update_all", kind), new_numbers(&sketch), ds_update_all(&sketch, AS_ITEMS(u64, items, n)))
+    COST(named("frequent_items_update_all_weighted", kind), new_numbers(&sketch),
+         ds_update_all_weighted(&sketch, AS_ITEMS(u64, items, n), weights, n))
+    COST(named("frequent_items_bounds_all", kind), , ds_frequent_items_bounds_all(&sketch, AS_ITEMS(u64, items, n), bounds, n))
+    COST(named("frequent_items_deserialize", kind), size_t length = image_of(items, n),
          ds_deserialize(&sketch, DS_FREQUENT_ITEMS_U64, image, length, &unlimited))
-    COST(NAMED("serialized_bytes"), size_t length; new_numbers(&sketch);
-         ds_frequent_items_u64_update_all(&sketch, items, n), ds_serialized_bytes(&sketch, &length))
-    COST(NAMED("serialize"), size_t length; new_numbers(&sketch);
-         ds_frequent_items_u64_update_all(&sketch, items, n), ds_serialize(&sketch, image, sizeof image, &length))
-    COST(NAMED("merge"), new_numbers(&sketch); new_numbers(&other); ds_frequent_items_u64_update_all(&sketch, items, n / 2);
-         ds_frequent_items_u64_update_all(&other, items + n / 2, n / 2), ds_merge(&sketch, &other))
+    COST(named("frequent_items_serialized_bytes", kind), size_t length; new_numbers(&sketch);
+         ds_update_all(&sketch, AS_ITEMS(u64, items, n)), ds_serialized_bytes(&sketch, &length))
+    COST(named("frequent_items_serialize", kind), size_t length; new_numbers(&sketch);
+         ds_update_all(&sketch, AS_ITEMS(u64, items, n)), ds_serialize(&sketch, image, sizeof image, &length))
+    COST(named("frequent_items_merge", kind), new_numbers(&sketch); new_numbers(&other);
+         ds_update_all(&sketch, AS_ITEMS(u64, items, n / 2));
+         ds_update_all(&other, AS_ITEMS(u64, items + n / 2, n / 2)), ds_merge(&sketch, &other))
 }
 
 static void frequent_items(void)
@@ -216,20 +234,16 @@ static void frequent_items(void)
             ds_frequent_items_u64_update(&others[i], numbers[i], 1);
         },
                                                           ds_merge_all(&sketch, others, n))
-    COST("frequent_items_update_all_string", new_strings(&sketch),
-         ds_frequent_items_string_update_all(&sketch, words, WORD * n, offsets, n + 1))
-    COST("frequent_items_update_all_weighted_string", new_strings(&sketch),
-         ds_frequent_items_string_update_all_weighted(&sketch, words, WORD * n, offsets, n + 1, weights, n))
-    COST("frequent_items_bounds_all_string", ,
-         ds_frequent_items_string_bounds_all(&sketch, words, WORD * n, offsets, n + 1, bounds, n))
-    COST("frequent_items_update_all_pairs", new_strings(&sketch), ds_frequent_items_string_update_all_pairs(&sketch, strings, n))
+    for (int32_t kind = DS_ITEMS_OFFSETS; kind <= DS_ITEMS_LINES; kind++) {
+        COST_OF_KIND("frequent_items_update_all", new_strings(&sketch), ds_update_all(&sketch, &items))
+        COST_OF_KIND("frequent_items_update_all_weighted", new_strings(&sketch),
+                     ds_update_all_weighted(&sketch, &items, weights, n))
+        COST_OF_KIND("frequent_items_bounds_all", , ds_frequent_items_bounds_all(&sketch, &items, bounds, n))
+    }
     COST("frequent_items_update_string", new_strings(&sketch), ds_frequent_items_string_update(&sketch, one_word, WORD * n, 1))
-    COST("frequent_items_update_words", new_strings(&sketch), ds_frequent_items_string_update_words(&sketch, words, WORD * n))
-    COST("frequent_items_update_words of spaces", new_strings(&sketch),
-         ds_frequent_items_string_update_words(&sketch, spaces, WORD * n))
-    COST("frequent_items_update_lines", new_strings(&sketch), ds_frequent_items_string_update_lines(&sketch, lines, WORD * n))
+    COST("frequent_items_update_all of spaces", new_strings(&sketch), ds_update_all(&sketch, AS_ITEMS(words, spaces, WORD * n)))
     COST("frequent_items_deserialize, strings", new_strings(&other);
-         ds_frequent_items_string_update_all(&other, words, WORD * n, offsets, n + 1);
+         ds_update_all(&other, AS_ITEMS(offsets, words, WORD * n, offsets, n + 1));
          check(!ds_serialize(&other, image, sizeof image, &length), "image"),
          ds_deserialize(&sketch, DS_FREQUENT_ITEMS_STRING, image, length, &unlimited))
     COST_OF("frequent_items_deserialize_prefix of each image, numbers", new_numbers(&other);
@@ -238,19 +252,19 @@ static void frequent_items(void)
             ds_frequent_items_string_update(&other, words, WORD, 1);
             length = images_of(n), read_images(DS_FREQUENT_ITEMS_STRING, length), n)
     COST("frequent_items_serialized_bytes, strings", new_strings(&other);
-         ds_frequent_items_string_update_all(&other, words, WORD * n, offsets, n + 1), ds_serialized_bytes(&other, &length))
+         ds_update_all(&other, AS_ITEMS(offsets, words, WORD * n, offsets, n + 1)), ds_serialized_bytes(&other, &length))
     COST("frequent_items_serialize, strings", new_strings(&other);
-         ds_frequent_items_string_update_all(&other, words, WORD * n, offsets, n + 1),
+         ds_update_all(&other, AS_ITEMS(offsets, words, WORD * n, offsets, n + 1)),
          ds_serialize(&other, image, sizeof image, &length))
     COST_OF("frequent_items_deserialize, rejected at the end", new_strings(&other);
-            ds_frequent_items_string_update_all(&other, words, WORD * n, offsets, n + 1);
+            ds_update_all(&other, AS_ITEMS(offsets, words, WORD * n, offsets, n + 1));
             check(!ds_serialize(&other, image, sizeof image, &length), "image");
             image[length - 1] = 0xff, ds_deserialize(&sketch, DS_FREQUENT_ITEMS_STRING, image, length, &unlimited), DS_INVALID_UTF8)
-    COST_OF("frequent_items_update_all_string, bad offset at the end", uint64_t last = offsets[n];
-            offsets[n] = 0, ds_frequent_items_string_update_all(&sketch, words, WORD * n, offsets, n + 1),
+    COST_OF("frequent_items_update_all, bad offset at the end", uint64_t last = offsets[n];
+            offsets[n] = 0, ds_update_all(&sketch, AS_ITEMS(offsets, words, WORD * n, offsets, n + 1)),
             (offsets[n] = last, DS_BAD_OFFSETS))
-    COST_OF("frequent_items_update_words, bad byte at the end", uint8_t last = words[WORD * n - 1];
-            words[WORD * n - 1] = 0xff, ds_frequent_items_string_update_words(&sketch, words, WORD * n),
+    COST_OF("frequent_items_update_all of words, bad byte at the end", uint8_t last = words[WORD * n - 1];
+            words[WORD * n - 1] = 0xff, ds_update_all(&sketch, AS_ITEMS(words, words, WORD * n)),
             (words[WORD * n - 1] = last, DS_INVALID_UTF8))
 }
 
@@ -260,12 +274,13 @@ static void hostile_items(void)
     enum { EACH = COLLIDING_LENGTH };
     frequent_numbers("numbers of one home", one_home);
     COST("frequent_items_update_all, numbers of one home, given key", new_keyed(&sketch),
-         ds_frequent_items_u64_update_all(&sketch, one_home, n))
-    COST("frequent_items_update_all_string, strings of one hash", new_strings(&sketch);
+         ds_update_all(&sketch, AS_ITEMS(u64, one_home, n)))
+    COST("frequent_items_update_all, strings of one hash", new_strings(&sketch);
          for (size_t i = 0; i <= n * 4 / 5; i++) offsets[i] = EACH * i,
-         ds_frequent_items_string_update_all(&sketch, colliding, EACH * (n * 4 / 5), offsets, n * 4 / 5 + 1))
-    COST("frequent_items_bounds_all_string, strings of one hash", ,
-         ds_frequent_items_string_bounds_all(&sketch, colliding, EACH * (n * 4 / 5), offsets, n * 4 / 5 + 1, bounds, n * 4 / 5))
+         ds_update_all(&sketch, AS_ITEMS(offsets, colliding, EACH * (n * 4 / 5), offsets, n * 4 / 5 + 1)))
+    COST("frequent_items_bounds_all, strings of one hash", ,
+         ds_frequent_items_bounds_all(&sketch, AS_ITEMS(offsets, colliding, EACH * (n * 4 / 5), offsets, n * 4 / 5 + 1), bounds,
+                                      n * 4 / 5))
 }
 
 /* Tables under one key, as those of a session or of a tenant's windows. A walk yields the items of one table in an order of homes,
@@ -273,14 +288,13 @@ static void hostile_items(void)
 static void one_key(void)
 {
     COST("frequent_items_merge, tables of one key and size", new_keyed(&sketch); new_keyed(&other);
-         ds_frequent_items_u64_update_all(&sketch, numbers, n / 2);
-         ds_frequent_items_u64_update_all(&other, numbers + n / 2, n / 2), ds_merge(&sketch, &other))
+         ds_update_all(&sketch, AS_ITEMS(u64, numbers, n / 2));
+         ds_update_all(&other, AS_ITEMS(u64, numbers + n / 2, n / 2)), ds_merge(&sketch, &other))
     COST("frequent_items_merge, an empty table of the same key", new_keyed(&sketch); new_keyed(&other);
-         ds_frequent_items_u64_update_all(&other, numbers, n), ds_merge(&sketch, &other))
+         ds_update_all(&other, AS_ITEMS(u64, numbers, n)), ds_merge(&sketch, &other))
     COST("frequent_items_deserialize, an image of a table of the same key", size_t length; new_keyed(&other);
-         ds_frequent_items_u64_update_all(&other, numbers, n);
-         check(!ds_serialize(&other, image, sizeof image, &length), "image"),
-         ds_deserialize(&sketch, DS_FREQUENT_ITEMS_U64, image, length, &keyed))
+         ds_update_all(&other, AS_ITEMS(u64, numbers, n)); check(!ds_serialize(&other, image, sizeof image, &length), "image"),
+                                                           ds_deserialize(&sketch, DS_FREQUENT_ITEMS_U64, image, length, &keyed))
 }
 
 static void others_calls(void)

@@ -7,17 +7,15 @@
  * A number is hashed as 8 bytes, lowest first. So a number from 0 to 2^63 - 1 is the same item as `uint64_t` and as `int64_t`.
  * A string is bytes and their number, without an end mark. It must be valid UTF-8.
  *
- * Many strings are one buffer of bytes with offsets, as in Arrow's `large_utf8`. String i is the bytes from offset i up to
- * offset i + 1, so n strings have n + 1 offsets. The first offset may be above 0. Pass offsets in `int64_t` by a cast of the
- * pointer. The calls whose names end in `_pairs` take the same strings as an array of `ds_string`: a pointer and a length each.
- * `ds_strings_from_utf8` makes it from offsets of 32 bits, and from strings some of which are null. The library keeps neither
- * bytes nor offsets nor pairs.
+ * A call on many items takes a `ds_items`, which says where they are: numbers, strings in one of three forms, or the words or the
+ * lines of a string. The library reads the items during the call, and keeps no pointer to them.
  *
  * A call returns the first error in this order:
  *
- *  1. DS_BAD_ARGUMENT, by the checks of `datasketches_checks.h` (see below).
- *  2. Errors of arguments: DS_BAD_OFFSETS, DS_NO_ROOM if items and their weights or results differ in number,
- *     DS_INVALID_UTF8, DS_BAD_FRACTION.
+ *  1. DS_BAD_ARGUMENT, by the checks of `datasketches_checks.h` (see below), and if the `kind` of a `ds_items` is none of the
+ *     seven kinds of items.
+ *  2. Errors of arguments: DS_BAD_OFFSETS, DS_INVALID_UTF8, DS_NO_ROOM if items and their weights or results differ in number,
+ *     DS_BAD_FRACTION.
  *  3. Errors of handles: DS_NO_SKETCH if the handle has no sketch, DS_WRONG_KIND if its sketch is of a kind without this call,
  *     or is shared and the call changes it; of several handles, the first one's that has such an error, in the order of arguments
  *     and of an array. All calls return these but `ds_free`, those whose names end in `_new`, `ds_deserialize` and
@@ -31,10 +29,10 @@
  *  1. A handle is created as `DS_NONE`, is changed by these calls alone, and is not copied. What it holds belongs to the
  *     library: `ds_free` frees it, and so does a call that puts another sketch into the handle.
  *  2. Pointers are not null, but for those of `ds_free` and of keys, are aligned for their type, and point to as many values as
- *     their count says. A caller may read these values, and write them where there is no `const`. No two arguments of a call
- *     overlap. The strings of pairs may overlap one another, but not the array of pairs or another argument. The pointer of an
- *     empty string is not null either. While a call runs, nothing else writes what it reads or writes, also in a file that is
- *     mapped, and nothing unmaps or truncates it.
+ *     their count says. This holds for all pointers of a `ds_items`, also for those that its kind does not use. A caller may read
+ *     these values, and write them where there is no `const`. No two arguments of a call overlap. The strings of an array may
+ *     overlap one another, but not the array or another argument. The pointer of an empty string is not null either. While a
+ *     call runs, nothing else writes what it reads or writes, also in a file that is mapped, and nothing unmaps or truncates it.
  *  3. One call at a time uses a handle. Another thread may use it later if a lock, a thread's start or a join lies between.
  *     Two threads may use two handles at once, also two of one shared sketch. So threads that read one sketch at once have a
  *     handle each: see `ds_share`.
@@ -42,17 +40,17 @@
  *  5. The program has one `malloc`, `realloc` and `free`, which the library calls, or those of `ds_set_allocator` do as it says.
  *  6. A `bool` that the library reads is 0 or 1.
  *
- * `datasketches_checks.h`, which this header includes, checks parts of rule 2, at next to no cost. The same handle twice, a handle
- * that is also in the array of others, a null pointer with a count above 0, in a pair, or for the options of an image returns
- * DS_BAD_ARGUMENT. A null pointer with the count 0 means no values. These checks are macros of the calls' names, so callers from
- * other languages have none. `(ds_merge)(a, b)`, in brackets, is the call without them. Define `DS_NO_CHECKS` before this header to
- * leave all out.
+ * `datasketches_checks.h`, which this header includes, checks parts of rule 2, at next to no cost. A call returns DS_BAD_ARGUMENT
+ * for the same handle twice, and for a handle that is also in the array of others. It returns it, too, for a null pointer with a
+ * count above 0, in a `ds_items` or its array of strings, or for the options of an image. A null pointer with the count 0 means
+ * no values. These checks are macros of the calls' names, so callers from other languages have none. `(ds_merge)(a, b)`, in
+ * brackets, is the call without them. Define `DS_NO_CHECKS` before this header to leave all out.
  *
  * The interface of the library file is fixed within a soname (`libdatasketches.so.0`). A call keeps its name, its result and its
  * parameters, with their types and order. A result keeps its number. A structure keeps its members, their types and order, and
- * its size: it never grows. A call that writes other numbers gets another structure and another name, so the name of a call is the
- * version of what it writes. A later library of the same soname may have more calls, more errors and other messages. So take each
- * number below 0 as an error, also one that this header does not name. The functions and macros of these headers, and
+ * its size: it never grows. A call that writes other numbers gets another structure and another name, so the name of a call is
+ * the version of what it writes. A later library of the same soname may have more calls, more errors and other messages. So take
+ * each number below 0 as an error, also one that this header does not name. The functions and macros of these headers, and
  * `DS_MIN_RESULT`, are compiled into a program: they are no part of that interface and may change with each version.
  */
 #ifndef DATASKETCHES_H
@@ -83,7 +81,7 @@ typedef struct ds_sketch {
 /* The handle of no sketch: `ds_sketch filter = DS_NONE;` */
 #define DS_NONE {0}
 
-/* A string as a pair. The pointer is not null, even if the length is 0. */
+/* A string. The pointer is not null, even if the length is 0. */
 typedef struct ds_string {
     const uint8_t *bytes;
     size_t length;
@@ -98,7 +96,7 @@ enum {
     DS_WRONG_KIND = -2,    /* no call for this kind, or no such kind; or the sketch is shared and the call changes it */
     DS_NO_ROOM = -3,       /* a buffer of the caller has not the length that the call needs */
     DS_BAD_FRACTION = -4,  /* a fraction is not above 0 and at most 1 */
-    DS_BAD_ARGUMENT = -5,  /* from checks alone: the same handle twice, or null with a count above 0, in a pair, or as options */
+    DS_BAD_ARGUMENT = -5,  /* items of no kind; from checks: the same handle twice, or null where there are values or options */
     DS_NO_RANDOM = -7      /* a key was to be drawn, and the system has no random bytes */
 };
 
@@ -174,9 +172,9 @@ int32_t ds_reset(ds_sketch *handle);
 
 /* Merges the other handle's sketch, of the same kind, into this one, which then stands for both histories. The other sketch stays
  * as it was. A filter gets the other's positions, as a union. A Count-Min sketch gets the other's cells and total. A sketch of
- * frequent items keeps its own sizes. Returns DS_WRONG_KIND if the kinds differ. Returns DS_MISMATCH if two filters differ in bits,
- * hashes or seed, or two Count-Min sketches in hashes, buckets or seed. Returns DS_WEIGHT_OVERFLOW if the totals together exceed
- * 2^64 - 1, or 2^63 - 1 for weights in int64_t. Only frequent items allocate, and return DS_NO_MEMORY. */
+ * frequent items keeps its own sizes. Returns DS_WRONG_KIND if the kinds differ. Returns DS_MISMATCH if two filters differ in
+ * bits, hashes or seed, or two Count-Min sketches in hashes, buckets or seed. Returns DS_WEIGHT_OVERFLOW if the totals together
+ * exceed 2^64 - 1, or 2^63 - 1 for weights in int64_t. Only frequent items allocate, and return DS_NO_MEMORY. */
 int32_t ds_merge(ds_sketch *handle, ds_sketch *other);
 
 /* Merges the sketches of all other handles, of an array, into this one, in order and in one call. All are of the same kind. A
@@ -191,8 +189,8 @@ int32_t ds_merge_all(ds_sketch *handle, ds_sketch *others, size_t count);
 int32_t ds_equal(ds_sketch *handle, ds_sketch *other);
 
 /* Writes how many bytes the handle's sketch takes, by a formula. A filter takes 8 for each 64 bits. A Count-Min sketch takes 8
- * for each cell and each row. A frequent-items sketch takes 28 for each slot of a table of numbers, or 44 for each slot of a table
- * of strings and the bytes of the strings. Returns DS_NO_SKETCH if the handle has none. */
+ * for each cell and each row. A frequent-items sketch takes 28 for each slot of a table of numbers, or 44 for each slot of a
+ * table of strings and the bytes of the strings. Returns DS_NO_SKETCH if the handle has none. */
 int32_t ds_memory_bytes(ds_sketch *handle, size_t *bytes);
 
 /* A sketch's numbers. Those of other kinds are 0. */
@@ -222,9 +220,9 @@ int32_t ds_get_status(ds_sketch *handle, ds_status *status);
 int32_t ds_serialized_bytes(ds_sketch *handle, size_t *bytes);
 
 /* Writes the sketch's image to the front of `out`, and the image's length in bytes to `written`. The rest of `out` stays as it
- * was. The image of a Count-Min sketch is without its seed, and that of frequent items without its sample size and its key. Returns
- * the error of the call above, or DS_NO_ROOM if the image is longer than `capacity`: then `written` is its length. Does not
- * allocate. */
+ * was. The image of a Count-Min sketch is without its seed, and that of frequent items without its sample size and its key.
+ * Returns the error of the call above, or DS_NO_ROOM if the image is longer than `capacity`: then `written` is its length. Does
+ * not allocate. */
 int32_t ds_serialize(ds_sketch *handle, uint8_t *out, size_t capacity, size_t *written);
 
 /* A key of two words, under which the table of a sketch of frequent items hashes. */
@@ -246,31 +244,31 @@ typedef struct ds_image_options {
 /* The options with a limit, the default seed and no key: `ds_image_options options = DS_IMAGE_OPTIONS(1 << 20);` */
 #define DS_IMAGE_OPTIONS(max_bytes) {(max_bytes), DS_DEFAULT_SEED, NULL}
 
-/* Reads a sketch of a kind from its image and puts it into the handle. The bytes after the image are ignored. A sketch of frequent
- * items gets the largest sample size.
+/* Reads a sketch of a kind from its image and puts it into the handle. The bytes after the image are ignored. A sketch of
+ * frequent items gets the largest sample size.
  *
  * Returns DS_WRONG_KIND if `kind` is no kind. Returns DS_NO_RANDOM if a key is drawn and the system has no random bytes. Returns
- * the error of the image's first failed check. Returns DS_TABLE_TOO_LARGE if the sketch takes more than `max_bytes`, where a string
- * counts the bytes that it takes in the image, 4 more than its own. Returns DS_NO_MEMORY. Both come after the checks of the
- * image's length and fields. The checks of the number of set bits, of the total and the cells, or of the weights and the items
- * come last. */
+ * the error of the image's first failed check. Returns DS_TABLE_TOO_LARGE if the sketch takes more than `max_bytes`, where a
+ * string counts the bytes that it takes in the image, 4 more than its own. Returns DS_NO_MEMORY. Both come after the checks of
+ * the image's length and fields. The checks of the number of set bits, of the total and the cells, or of the weights and the
+ * items come last. */
 int32_t ds_deserialize(ds_sketch *handle, int32_t kind, const uint8_t *image, size_t length, const ds_image_options *options);
 
-/* Reads a sketch from the image at the front of `image` and puts it into the handle, as `ds_deserialize` does. Writes the number of
- * bytes that the image takes to `used`. The bytes after it are ignored, so images can stand one after another. */
+/* Reads a sketch from the image at the front of `image` and puts it into the handle, as `ds_deserialize` does. Writes the number
+ * of bytes that the image takes to `used`. The bytes after it are ignored, so images can stand one after another. */
 int32_t ds_deserialize_prefix(ds_sketch *handle, int32_t kind, const uint8_t *image, size_t length,
                               const ds_image_options *options, size_t *used);
 
 /* --- Sharing: several handles of one sketch, as for threads that read it at once. Calls that read a sketch take a shared one:
- * queries, statuses, images, rows, clones and comparisons, and merges as one of the others. They need no lock. Calls that change a
- * shared sketch return DS_WRONG_KIND. `ds_free` drops the handle's share, and frees the sketch with the last one. --- */
+ * queries, statuses, images, rows, clones and comparisons, and merges as one of the others. They need no lock. Calls that change
+ * a shared sketch return DS_WRONG_KIND. `ds_free` drops the handle's share, and frees the sketch with the last one. --- */
 
 /* Makes the handle's sketch shared, so that `ds_share` takes it and no call changes it until `ds_thaw`. Does nothing to a shared
  * sketch. Returns DS_NO_SKETCH, or DS_NO_MEMORY for a sketch that is not shared. */
 int32_t ds_freeze(ds_sketch *handle);
 
-/* Puts one more share of the sketch of `shared` into the handle, without a copy. The handle may then go to another thread. Returns
- * DS_NO_SKETCH if `shared` has no sketch, DS_WRONG_KIND if its sketch is not shared, and DS_NO_MEMORY. */
+/* Puts one more share of the sketch of `shared` into the handle, without a copy. The handle may then go to another thread.
+ * Returns DS_NO_SKETCH if `shared` has no sketch, DS_WRONG_KIND if its sketch is not shared, and DS_NO_MEMORY. */
 int32_t ds_share(ds_sketch *handle, ds_sketch *shared);
 
 /* Returns DS_YES if no other handle shares the handle's sketch: calls may then change it again. Returns DS_NO if another one
@@ -294,6 +292,127 @@ typedef struct ds_allocator {
  * has asked for memory before. Then nothing changes. */
 int32_t ds_set_allocator(const ds_allocator *allocator);
 
+/* --- Many items, the argument of one call on all of them. The functions of this section create it:
+ *
+ *     uint64_t numbers[3] = {3, 4, 3};
+ *     ds_items items = ds_items_u64(numbers, 3);
+ *     int32_t result = ds_bloom_insert_all(&filter, &items);
+ *
+ * They take a null pointer with the count 0 as no items. --- */
+
+/* The kinds of items. A call returns DS_BAD_ARGUMENT for another number. */
+enum {
+    DS_ITEMS_U64 = 0,       /* numbers in uint64_t */
+    DS_ITEMS_I64 = 1,       /* numbers in int64_t */
+    DS_ITEMS_OFFSETS = 2,   /* strings in one buffer, by offsets of 64 bits */
+    DS_ITEMS_OFFSETS32 = 3, /* strings in one buffer, by offsets of 32 bits */
+    DS_ITEMS_STRINGS = 4,   /* strings in an array of ds_string */
+    DS_ITEMS_WORDS = 5,     /* the words of a string */
+    DS_ITEMS_LINES = 6      /* the lines of a string */
+};
+
+/* Many items of one kind, where they are. The members of other kinds are pointers to no values, and never null. */
+typedef struct ds_items {
+    int32_t kind;
+    const uint64_t *u64s;
+    size_t num_u64s;
+    const int64_t *i64s;
+    size_t num_i64s;
+    const uint8_t *bytes; /* of strings by offsets, and of the string that has words or lines */
+    size_t num_bytes;
+    const uint64_t *offsets;
+    size_t num_offsets;
+    const uint32_t *offsets32;
+    size_t num_offsets32;
+    const ds_string *strings;
+    size_t num_strings;
+} ds_items;
+
+/* Returns a pointer to no values. */
+static inline void *ds_no_values(void)
+{
+    static uint64_t none;
+    return &none;
+}
+
+/* Returns a structure of a kind whose pointers are to no values. */
+static inline ds_items ds_no_items(int32_t kind)
+{
+    void *none = ds_no_values();
+    ds_items items = {kind, (uint64_t *)none, 0, (int64_t *)none, 0, (uint8_t *)none, 0, (uint64_t *)none, 0, (uint32_t *)none, 0,
+                      (ds_string *)none, 0};
+    return items;
+}
+
+/* Return numbers in an array as items. */
+static inline ds_items ds_items_u64(const uint64_t *numbers, size_t count)
+{
+    ds_items items = ds_no_items(DS_ITEMS_U64);
+    if (numbers || count) items.u64s = numbers;
+    items.num_u64s = count;
+    return items;
+}
+
+static inline ds_items ds_items_i64(const int64_t *numbers, size_t count)
+{
+    ds_items items = ds_no_items(DS_ITEMS_I64);
+    if (numbers || count) items.i64s = numbers;
+    items.num_i64s = count;
+    return items;
+}
+
+/* Returns strings in an array as items. Calls return DS_INVALID_UTF8 if a string is not UTF-8. */
+static inline ds_items ds_items_strings(const ds_string *strings, size_t count)
+{
+    ds_items items = ds_no_items(DS_ITEMS_STRINGS);
+    if (strings || count) items.strings = strings;
+    items.num_strings = count;
+    return items;
+}
+
+/* Returns items of a kind whose bytes are one buffer. */
+static inline ds_items ds_items_in(int32_t kind, const uint8_t *bytes, size_t num_bytes)
+{
+    ds_items items = ds_no_items(kind);
+    if (bytes || num_bytes) items.bytes = bytes;
+    items.num_bytes = num_bytes;
+    return items;
+}
+
+/* Return the strings of one buffer of bytes as items. String i is the bytes from offset i up to offset i + 1, so there is one
+ * more offset than strings. The first offset may be above 0. Offsets of 64 bits are those of Arrow's `large_utf8`, and offsets of
+ * 32 bits those of its `utf8`. Pass offsets in `int64_t` or `int32_t` by a cast of the pointer. Calls return DS_BAD_OFFSETS if
+ * there is no offset, an offset is below the one before it, or the last offset exceeds the number of bytes. They return
+ * DS_INVALID_UTF8 if a string is not UTF-8. */
+static inline ds_items ds_items_offsets(const uint8_t *bytes, size_t num_bytes, const uint64_t *offsets, size_t num_offsets)
+{
+    ds_items items = ds_items_in(DS_ITEMS_OFFSETS, bytes, num_bytes);
+    if (offsets || num_offsets) items.offsets = offsets;
+    items.num_offsets = num_offsets;
+    return items;
+}
+
+static inline ds_items ds_items_offsets32(const uint8_t *bytes, size_t num_bytes, const uint32_t *offsets, size_t num_offsets)
+{
+    ds_items items = ds_items_in(DS_ITEMS_OFFSETS32, bytes, num_bytes);
+    if (offsets || num_offsets) items.offsets32 = offsets;
+    items.num_offsets32 = num_offsets;
+    return items;
+}
+
+/* Return the words or the lines of a string as items, in order. A word is a longest run of bytes that are not ASCII white space
+ * (space, tab, LF, FF or CR). A line ends at LF or at the end of the string. It has neither the LF nor a CR before it. Calls
+ * return DS_INVALID_UTF8 if the string is not UTF-8. */
+static inline ds_items ds_items_words(const uint8_t *text, size_t length)
+{
+    return ds_items_in(DS_ITEMS_WORDS, text, length);
+}
+
+static inline ds_items ds_items_lines(const uint8_t *text, size_t length)
+{
+    return ds_items_in(DS_ITEMS_LINES, text, length);
+}
+
 /* --- Bloom filters: sets of items. An item that was inserted is contained, unless a later intersection, difference or reset
  * removed some of its positions. An item that was not inserted may be contained too: a false positive. --- */
 
@@ -305,43 +424,23 @@ int32_t ds_bloom_new(ds_sketch *handle, uint64_t num_bits, uint16_t num_hashes, 
 int32_t ds_bloom_insert_u64(ds_sketch *handle, uint64_t item);
 int32_t ds_bloom_insert_string(ds_sketch *handle, const uint8_t *item, size_t length);
 
-/* Inserts many numbers, as one after another, and faster. */
-int32_t ds_bloom_insert_all_u64(ds_sketch *handle, const uint64_t *items, size_t count);
-
-/* Inserts many strings, as one after another. */
-int32_t ds_bloom_insert_all_string(ds_sketch *handle, const uint8_t *bytes, size_t num_bytes, const uint64_t *offsets,
-                                   size_t num_offsets);
-int32_t ds_bloom_insert_all_string_pairs(ds_sketch *handle, const ds_string *strings, size_t count);
-
-/* Inserts each word or each line of a string. A word is a longest run of bytes that are not ASCII white space (space, tab, LF, FF
- * or CR). A line ends at LF or at the end of the string. It has neither the LF nor a CR before it. Returns DS_INVALID_UTF8 if
- * the bytes are not UTF-8: then none is inserted. */
-int32_t ds_bloom_insert_words(ds_sketch *handle, const uint8_t *text, size_t length);
-int32_t ds_bloom_insert_lines(ds_sketch *handle, const uint8_t *text, size_t length);
+/* Inserts many items, as one after another. */
+int32_t ds_bloom_insert_all(ds_sketch *handle, const ds_items *items);
 
 /* Returns DS_YES if the filter contains the item, and DS_NO otherwise. */
 int32_t ds_bloom_contains_u64(ds_sketch *handle, uint64_t item);
 int32_t ds_bloom_contains_string(ds_sketch *handle, const uint8_t *item, size_t length);
 
 /* Writes for each item whether the filter contains it. Returns DS_NO_ROOM unless `num_results` is the number of items. */
-int32_t ds_bloom_contains_all_u64(ds_sketch *handle, const uint64_t *items, size_t count, bool *results, size_t num_results);
-int32_t ds_bloom_contains_all_string(ds_sketch *handle, const uint8_t *bytes, size_t num_bytes, const uint64_t *offsets,
-                                     size_t num_offsets, bool *results, size_t num_results);
-int32_t ds_bloom_contains_all_string_pairs(ds_sketch *handle, const ds_string *strings, size_t count, bool *results,
-                                           size_t num_results);
+int32_t ds_bloom_contains_all(ds_sketch *handle, const ds_items *items, bool *results, size_t num_results);
 
 /* Inserts an item. Returns DS_YES if the filter contained it before, and DS_NO otherwise. */
 int32_t ds_bloom_contains_and_insert_u64(ds_sketch *handle, uint64_t item);
 int32_t ds_bloom_contains_and_insert_string(ds_sketch *handle, const uint8_t *item, size_t length);
 
-/* Inserts many items, as one after another. Writes for each whether the filter contained it before, so also whether an earlier one
- * of the same call put it there. Returns DS_NO_ROOM unless `num_results` is the number of items. */
-int32_t ds_bloom_contains_and_insert_all_u64(ds_sketch *handle, const uint64_t *items, size_t count, bool *results,
-                                             size_t num_results);
-int32_t ds_bloom_contains_and_insert_all_string(ds_sketch *handle, const uint8_t *bytes, size_t num_bytes,
-                                                const uint64_t *offsets, size_t num_offsets, bool *results, size_t num_results);
-int32_t ds_bloom_contains_and_insert_all_string_pairs(ds_sketch *handle, const ds_string *strings, size_t count, bool *results,
-                                                      size_t num_results);
+/* Inserts many items, as one after another. Writes for each whether the filter contained it before, so also whether an earlier
+ * item of the same call put it there. Returns DS_NO_ROOM unless `num_results` is the number of items. */
+int32_t ds_bloom_contains_and_insert_all(ds_sketch *handle, const ds_items *items, bool *results, size_t num_results);
 
 /* Keeps the positions that both filters have, or removes the other's. The other filter stays as it was. `ds_merge` unites.
  * Returns DS_MISMATCH if bits, hashes or seeds differ. */
@@ -354,10 +453,24 @@ int32_t ds_bloom_difference(ds_sketch *handle, ds_sketch *other);
 int32_t ds_bloom_image_contains_u64(const uint8_t *image, size_t length, uint64_t item);
 int32_t ds_bloom_image_contains_string(const uint8_t *image, size_t length, const uint8_t *item, size_t item_length);
 
-/* Writes for each number whether the filter in an image contains it. Returns DS_NO_ROOM unless `num_results` is the number of
+/* Writes for each item whether the filter in an image contains it. Returns DS_NO_ROOM unless `num_results` is the number of
  * items, and then the errors of the calls above. Does not allocate. */
-int32_t ds_bloom_image_contains_all_u64(const uint8_t *image, size_t length, const uint64_t *items, size_t count, bool *results,
-                                        size_t num_results);
+int32_t ds_bloom_image_contains_all(const uint8_t *image, size_t length, const ds_items *items, bool *results,
+                                    size_t num_results);
+
+/* --- Weights of many items, of Count-Min sketches and of frequent items. A Count-Min sketch takes items of each kind. A sketch
+ * of frequent items takes numbers of its own type, or strings, words and lines, and returns DS_WRONG_KIND for other items. --- */
+
+/* Adds 1 to the weight of each item, in order. Returns the error of the first item whose own update returns one: then the items
+ * before it are added, and no others. It is DS_WEIGHT_OVERFLOW if the total would exceed 2^64 - 1, or 2^63 - 1 for weights in
+ * int64_t. It may be DS_NO_MEMORY for frequent items. */
+int32_t ds_update_all(ds_sketch *handle, const ds_items *items);
+
+/* Adds a weight to each item's, in order, in a Count-Min sketch with weights in uint64_t or in frequent items. Returns DS_NO_ROOM
+ * unless `num_weights` is the number of items. Returns DS_WEIGHT_OVERFLOW if the total would exceed 2^64 - 1 with all weights:
+ * then none is added. Frequent items return DS_NO_MEMORY for the first item without memory: then the items before it are added,
+ * and no others. */
+int32_t ds_update_all_weighted(ds_sketch *handle, const ds_items *items, const uint64_t *weights, size_t num_weights);
 
 /* --- Count-Min sketches with weights in uint64_t. An estimate is at most the total, and at least the item's own weight: what
  * was added for the item, halved and decayed as often as the sketch, and rounded down each time. --- */
@@ -371,40 +484,12 @@ int32_t ds_count_min_new(ds_sketch *handle, int32_t kind, uint8_t num_hashes, ui
 int32_t ds_count_min_u64_update_u64(ds_sketch *handle, uint64_t item, uint64_t weight);
 int32_t ds_count_min_u64_update_string(ds_sketch *handle, const uint8_t *item, size_t length, uint64_t weight);
 
-/* Adds 1 to the weight of each item, in order. Returns DS_WEIGHT_OVERFLOW if the total would exceed 2^64 - 1: then the items
- * before the first that does not fit are counted. */
-int32_t ds_count_min_u64_update_all_u64(ds_sketch *handle, const uint64_t *items, size_t count);
-int32_t ds_count_min_u64_update_all_string(ds_sketch *handle, const uint8_t *bytes, size_t num_bytes, const uint64_t *offsets,
-                                           size_t num_offsets);
-int32_t ds_count_min_u64_update_all_string_pairs(ds_sketch *handle, const ds_string *strings, size_t count);
-
-/* Adds a weight to each item's, in order. Returns DS_NO_ROOM unless there are as many weights as items. Returns
- * DS_WEIGHT_OVERFLOW if the total would exceed 2^64 - 1 with all weights: then none is added. */
-int32_t ds_count_min_u64_update_all_weighted_u64(ds_sketch *handle, const uint64_t *items, size_t count, const uint64_t *weights,
-                                                 size_t num_weights);
-int32_t ds_count_min_u64_update_all_weighted_string(ds_sketch *handle, const uint8_t *bytes, size_t num_bytes,
-                                                    const uint64_t *offsets, size_t num_offsets, const uint64_t *weights,
-                                                    size_t num_weights);
-int32_t ds_count_min_u64_update_all_weighted_string_pairs(ds_sketch *handle, const ds_string *strings, size_t count,
-                                                          const uint64_t *weights, size_t num_weights);
-
-/* Adds 1 to the weight of each word or each line of a string, in order, as `ds_bloom_insert_words` and `ds_bloom_insert_lines`
- * split it. Returns DS_INVALID_UTF8 if the bytes are not UTF-8: then none is counted. Returns DS_WEIGHT_OVERFLOW if the total
- * would exceed 2^64 - 1: then those before the first that does not fit are counted. */
-int32_t ds_count_min_u64_update_words(ds_sketch *handle, const uint8_t *text, size_t length);
-int32_t ds_count_min_u64_update_lines(ds_sketch *handle, const uint8_t *text, size_t length);
-
 /* Writes the estimate of the item's weight: the minimum of its cells. */
 int32_t ds_count_min_u64_estimate_u64(ds_sketch *handle, uint64_t item, uint64_t *estimate);
 int32_t ds_count_min_u64_estimate_string(ds_sketch *handle, const uint8_t *item, size_t length, uint64_t *estimate);
 
 /* Writes the estimate of each item's weight. Returns DS_NO_ROOM unless `num_estimates` is the number of items. */
-int32_t ds_count_min_u64_estimate_all_u64(ds_sketch *handle, const uint64_t *items, size_t count, uint64_t *estimates,
-                                          size_t num_estimates);
-int32_t ds_count_min_u64_estimate_all_string(ds_sketch *handle, const uint8_t *bytes, size_t num_bytes, const uint64_t *offsets,
-                                             size_t num_offsets, uint64_t *estimates, size_t num_estimates);
-int32_t ds_count_min_u64_estimate_all_string_pairs(ds_sketch *handle, const ds_string *strings, size_t count, uint64_t *estimates,
-                                                   size_t num_estimates);
+int32_t ds_count_min_u64_estimate_all(ds_sketch *handle, const ds_items *items, uint64_t *estimates, size_t num_estimates);
 
 /* Writes the estimate plus a margin: e times the total over the buckets, rounded down. The sum stops at 2^64 - 1. */
 int32_t ds_count_min_u64_upper_bound_u64(ds_sketch *handle, uint64_t item, uint64_t *bound);
@@ -418,10 +503,10 @@ int32_t ds_count_min_u64_halve(ds_sketch *handle);
 int32_t ds_count_min_u64_decay(ds_sketch *handle, uint64_t numerator, uint64_t denominator);
 
 /* Writes the estimate of the item's weight by the sketch in an image, which was written under this seed. The image is read in
- * place, at any address, as in a mapped file, to which rule 2 applies, too. Returns the error of the image's first failed
- * check: each of `ds_deserialize` but those of `max_bytes` and of the cells, in constant time. A cell that it rejects
- * is read as the nearest that it accepts. Each call hashes a number for each row first, so many estimates are faster from a sketch
- * that was read. Does not allocate. */
+ * place, at any address, as in a mapped file, to which rule 2 applies, too. Returns the error of the image's first failed check:
+ * each of `ds_deserialize` but those of `max_bytes` and of the cells, in constant time. A cell that it rejects is read as the
+ * nearest that it accepts. Each call hashes a number for each row first, so many estimates are faster from a sketch that was
+ * read. Does not allocate. */
 int32_t ds_count_min_u64_image_estimate_u64(const uint8_t *image, size_t length, uint64_t seed, uint64_t item,
                                             uint64_t *estimate);
 int32_t ds_count_min_u64_image_estimate_string(const uint8_t *image, size_t length, uint64_t seed, const uint8_t *item,
@@ -429,32 +514,16 @@ int32_t ds_count_min_u64_image_estimate_string(const uint8_t *image, size_t leng
 
 /* --- Count-Min sketches with weights in int64_t, which may be below 0. --- */
 
-/* As the calls in uint64_t, with weights, estimates and bounds in int64_t. The total counts each weight without its sign, and
- * DS_WEIGHT_OVERFLOW is returned if it would exceed 2^63 - 1. An estimate is at least the item's own weight if no weight is
- * below 0. If some weight is below 0, it may be less. There is no halving and no decay. */
+/* As `ds_update_all_weighted` and the calls in uint64_t, with weights, estimates and bounds in int64_t. The total counts each
+ * weight without its sign, and DS_WEIGHT_OVERFLOW is returned if it would exceed 2^63 - 1. An estimate is at least the item's own
+ * weight if no weight is below 0. If some weight is below 0, it may be less. There is no halving and no decay. */
 int32_t ds_count_min_i64_update_u64(ds_sketch *handle, uint64_t item, int64_t weight);
 int32_t ds_count_min_i64_update_string(ds_sketch *handle, const uint8_t *item, size_t length, int64_t weight);
-int32_t ds_count_min_i64_update_all_u64(ds_sketch *handle, const uint64_t *items, size_t count);
-int32_t ds_count_min_i64_update_all_string(ds_sketch *handle, const uint8_t *bytes, size_t num_bytes, const uint64_t *offsets,
-                                           size_t num_offsets);
-int32_t ds_count_min_i64_update_all_string_pairs(ds_sketch *handle, const ds_string *strings, size_t count);
-int32_t ds_count_min_i64_update_all_weighted_u64(ds_sketch *handle, const uint64_t *items, size_t count, const int64_t *weights,
-                                                 size_t num_weights);
-int32_t ds_count_min_i64_update_all_weighted_string(ds_sketch *handle, const uint8_t *bytes, size_t num_bytes,
-                                                    const uint64_t *offsets, size_t num_offsets, const int64_t *weights,
-                                                    size_t num_weights);
-int32_t ds_count_min_i64_update_all_weighted_string_pairs(ds_sketch *handle, const ds_string *strings, size_t count,
-                                                          const int64_t *weights, size_t num_weights);
-int32_t ds_count_min_i64_update_words(ds_sketch *handle, const uint8_t *text, size_t length);
-int32_t ds_count_min_i64_update_lines(ds_sketch *handle, const uint8_t *text, size_t length);
+int32_t ds_count_min_i64_update_all_weighted(ds_sketch *handle, const ds_items *items, const int64_t *weights,
+                                             size_t num_weights);
 int32_t ds_count_min_i64_estimate_u64(ds_sketch *handle, uint64_t item, int64_t *estimate);
 int32_t ds_count_min_i64_estimate_string(ds_sketch *handle, const uint8_t *item, size_t length, int64_t *estimate);
-int32_t ds_count_min_i64_estimate_all_u64(ds_sketch *handle, const uint64_t *items, size_t count, int64_t *estimates,
-                                          size_t num_estimates);
-int32_t ds_count_min_i64_estimate_all_string(ds_sketch *handle, const uint8_t *bytes, size_t num_bytes, const uint64_t *offsets,
-                                             size_t num_offsets, int64_t *estimates, size_t num_estimates);
-int32_t ds_count_min_i64_estimate_all_string_pairs(ds_sketch *handle, const ds_string *strings, size_t count, int64_t *estimates,
-                                                   size_t num_estimates);
+int32_t ds_count_min_i64_estimate_all(ds_sketch *handle, const ds_items *items, int64_t *estimates, size_t num_estimates);
 int32_t ds_count_min_i64_upper_bound_u64(ds_sketch *handle, uint64_t item, int64_t *bound);
 int32_t ds_count_min_i64_upper_bound_string(ds_sketch *handle, const uint8_t *item, size_t length, int64_t *bound);
 int32_t ds_count_min_i64_image_estimate_u64(const uint8_t *image, size_t length, uint64_t seed, uint64_t item, int64_t *estimate);
@@ -469,20 +538,9 @@ static inline int32_t ds_bloom_insert_i64(ds_sketch *handle, int64_t item)
     return ds_bloom_insert_u64(handle, (uint64_t)item);
 }
 
-static inline int32_t ds_bloom_insert_all_i64(ds_sketch *handle, const int64_t *items, size_t count)
-{
-    return ds_bloom_insert_all_u64(handle, (const uint64_t *)items, count);
-}
-
 static inline int32_t ds_bloom_contains_i64(ds_sketch *handle, int64_t item)
 {
     return ds_bloom_contains_u64(handle, (uint64_t)item);
-}
-
-static inline int32_t ds_bloom_contains_all_i64(ds_sketch *handle, const int64_t *items, size_t count, bool *results,
-                                                size_t num_results)
-{
-    return ds_bloom_contains_all_u64(handle, (const uint64_t *)items, count, results, num_results);
 }
 
 static inline int32_t ds_bloom_contains_and_insert_i64(ds_sketch *handle, int64_t item)
@@ -490,21 +548,9 @@ static inline int32_t ds_bloom_contains_and_insert_i64(ds_sketch *handle, int64_
     return ds_bloom_contains_and_insert_u64(handle, (uint64_t)item);
 }
 
-static inline int32_t ds_bloom_contains_and_insert_all_i64(ds_sketch *handle, const int64_t *items, size_t count, bool *results,
-                                                           size_t num_results)
-{
-    return ds_bloom_contains_and_insert_all_u64(handle, (const uint64_t *)items, count, results, num_results);
-}
-
 static inline int32_t ds_bloom_image_contains_i64(const uint8_t *image, size_t length, int64_t item)
 {
     return ds_bloom_image_contains_u64(image, length, (uint64_t)item);
-}
-
-static inline int32_t ds_bloom_image_contains_all_i64(const uint8_t *image, size_t length, const int64_t *items, size_t count,
-                                                      bool *results, size_t num_results)
-{
-    return ds_bloom_image_contains_all_u64(image, length, (const uint64_t *)items, count, results, num_results);
 }
 
 static inline int32_t ds_count_min_u64_update_i64(ds_sketch *handle, int64_t item, uint64_t weight)
@@ -512,26 +558,9 @@ static inline int32_t ds_count_min_u64_update_i64(ds_sketch *handle, int64_t ite
     return ds_count_min_u64_update_u64(handle, (uint64_t)item, weight);
 }
 
-static inline int32_t ds_count_min_u64_update_all_i64(ds_sketch *handle, const int64_t *items, size_t count)
-{
-    return ds_count_min_u64_update_all_u64(handle, (const uint64_t *)items, count);
-}
-
-static inline int32_t ds_count_min_u64_update_all_weighted_i64(ds_sketch *handle, const int64_t *items, size_t count,
-                                                               const uint64_t *weights, size_t num_weights)
-{
-    return ds_count_min_u64_update_all_weighted_u64(handle, (const uint64_t *)items, count, weights, num_weights);
-}
-
 static inline int32_t ds_count_min_u64_estimate_i64(ds_sketch *handle, int64_t item, uint64_t *estimate)
 {
     return ds_count_min_u64_estimate_u64(handle, (uint64_t)item, estimate);
-}
-
-static inline int32_t ds_count_min_u64_estimate_all_i64(ds_sketch *handle, const int64_t *items, size_t count,
-                                                        uint64_t *estimates, size_t num_estimates)
-{
-    return ds_count_min_u64_estimate_all_u64(handle, (const uint64_t *)items, count, estimates, num_estimates);
 }
 
 static inline int32_t ds_count_min_u64_upper_bound_i64(ds_sketch *handle, int64_t item, uint64_t *bound)
@@ -550,26 +579,9 @@ static inline int32_t ds_count_min_i64_update_i64(ds_sketch *handle, int64_t ite
     return ds_count_min_i64_update_u64(handle, (uint64_t)item, weight);
 }
 
-static inline int32_t ds_count_min_i64_update_all_i64(ds_sketch *handle, const int64_t *items, size_t count)
-{
-    return ds_count_min_i64_update_all_u64(handle, (const uint64_t *)items, count);
-}
-
-static inline int32_t ds_count_min_i64_update_all_weighted_i64(ds_sketch *handle, const int64_t *items, size_t count,
-                                                               const int64_t *weights, size_t num_weights)
-{
-    return ds_count_min_i64_update_all_weighted_u64(handle, (const uint64_t *)items, count, weights, num_weights);
-}
-
 static inline int32_t ds_count_min_i64_estimate_i64(ds_sketch *handle, int64_t item, int64_t *estimate)
 {
     return ds_count_min_i64_estimate_u64(handle, (uint64_t)item, estimate);
-}
-
-static inline int32_t ds_count_min_i64_estimate_all_i64(ds_sketch *handle, const int64_t *items, size_t count, int64_t *estimates,
-                                                        size_t num_estimates)
-{
-    return ds_count_min_i64_estimate_all_u64(handle, (const uint64_t *)items, count, estimates, num_estimates);
 }
 
 static inline int32_t ds_count_min_i64_upper_bound_i64(ds_sketch *handle, int64_t item, int64_t *bound)
@@ -586,8 +598,8 @@ static inline int32_t ds_count_min_i64_image_estimate_i64(const uint8_t *image, 
 /* --- Frequent items: the items of the largest weights, in at most three quarters of `max_map_size` counters.
  *
  * A sketch's table hashes items by SipHash-1-3 under a key of two words. With a secret key, no way is known to choose items that
- * slow the sketch down. This holds for callers who see no images, rows, walks or times of calls of sketches under the key. A clone
- * has the key of its original. A merge keeps the handle's own key. An image has no key.
+ * slow the sketch down. This holds for callers who see no images, rows, walks or times of calls of sketches under the key. A
+ * clone has the key of its original. A merge keeps the handle's own key. An image has no key.
  *
  * `ds_frequent_items_new`, `ds_deserialize` and `ds_deserialize_prefix` draw a key if the caller gives none. The first call of a
  * process asks the system for two random words. Each call counts the first word up, so no two sketches of a process get the same
@@ -625,47 +637,15 @@ int32_t ds_frequent_items_u64_update(ds_sketch *handle, uint64_t item, uint64_t 
 int32_t ds_frequent_items_i64_update(ds_sketch *handle, int64_t item, uint64_t weight);
 int32_t ds_frequent_items_string_update(ds_sketch *handle, const uint8_t *item, size_t length, uint64_t weight);
 
-/* Adds 1 to the weight of each word or each line of a string, in order, as `ds_bloom_insert_words` and `ds_bloom_insert_lines`
- * split it. Returns DS_INVALID_UTF8 if the bytes are not UTF-8: then none is added. Returns the error of the first word or line
- * whose own update returns one: then those before it are added, and no others. */
-int32_t ds_frequent_items_string_update_words(ds_sketch *handle, const uint8_t *text, size_t length);
-int32_t ds_frequent_items_string_update_lines(ds_sketch *handle, const uint8_t *text, size_t length);
-
 /* Writes the item's bounds. Does not allocate. */
 int32_t ds_frequent_items_u64_bounds(ds_sketch *handle, uint64_t item, ds_frequent_items_bounds *bounds);
 int32_t ds_frequent_items_i64_bounds(ds_sketch *handle, int64_t item, ds_frequent_items_bounds *bounds);
 int32_t ds_frequent_items_string_bounds(ds_sketch *handle, const uint8_t *item, size_t length, ds_frequent_items_bounds *bounds);
 
-/* Writes the bounds of each item. Returns DS_NO_ROOM unless `num_bounds` is the number of items. Does not allocate. */
-int32_t ds_frequent_items_u64_bounds_all(ds_sketch *handle, const uint64_t *items, size_t count, ds_frequent_items_bounds *bounds,
-                                         size_t num_bounds);
-int32_t ds_frequent_items_i64_bounds_all(ds_sketch *handle, const int64_t *items, size_t count, ds_frequent_items_bounds *bounds,
-                                         size_t num_bounds);
-int32_t ds_frequent_items_string_bounds_all(ds_sketch *handle, const uint8_t *bytes, size_t num_bytes, const uint64_t *offsets,
-                                            size_t num_offsets, ds_frequent_items_bounds *bounds, size_t num_bounds);
-int32_t ds_frequent_items_string_bounds_all_pairs(ds_sketch *handle, const ds_string *strings, size_t count,
-                                                  ds_frequent_items_bounds *bounds, size_t num_bounds);
-
-/* Adds 1 to the weight of each item, in order. Returns the error of the first item whose own update returns one: then the items
- * before it are added, and no others. */
-int32_t ds_frequent_items_u64_update_all(ds_sketch *handle, const uint64_t *items, size_t count);
-int32_t ds_frequent_items_i64_update_all(ds_sketch *handle, const int64_t *items, size_t count);
-int32_t ds_frequent_items_string_update_all(ds_sketch *handle, const uint8_t *bytes, size_t num_bytes, const uint64_t *offsets,
-                                            size_t num_offsets);
-int32_t ds_frequent_items_string_update_all_pairs(ds_sketch *handle, const ds_string *strings, size_t count);
-
-/* Adds a weight to each item's, in order. Returns DS_NO_ROOM unless there are as many weights as items. Returns
- * DS_WEIGHT_OVERFLOW if the total would exceed 2^64 - 1 with all weights: then none is added. Returns DS_NO_MEMORY for the
- * first item without memory: then the items before it are added, and no others. */
-int32_t ds_frequent_items_u64_update_all_weighted(ds_sketch *handle, const uint64_t *items, size_t count, const uint64_t *weights,
-                                                  size_t num_weights);
-int32_t ds_frequent_items_i64_update_all_weighted(ds_sketch *handle, const int64_t *items, size_t count, const uint64_t *weights,
-                                                  size_t num_weights);
-int32_t ds_frequent_items_string_update_all_weighted(ds_sketch *handle, const uint8_t *bytes, size_t num_bytes,
-                                                     const uint64_t *offsets, size_t num_offsets, const uint64_t *weights,
-                                                     size_t num_weights);
-int32_t ds_frequent_items_string_update_all_weighted_pairs(ds_sketch *handle, const ds_string *strings, size_t count,
-                                                           const uint64_t *weights, size_t num_weights);
+/* Writes the bounds of each item, in frequent items of every kind, which take the items that they take for `ds_update_all`.
+ * Returns DS_NO_ROOM unless `num_bounds` is the number of items. Does not allocate. */
+int32_t ds_frequent_items_bounds_all(ds_sketch *handle, const ds_items *items, ds_frequent_items_bounds *bounds,
+                                     size_t num_bounds);
 
 /* Sets how many counters later purges sample: an even number from 2 to three quarters of `max_map_size`, at most 1024. So a
  * sketch that was read from an image, which has no sample size, gets back the one that it had. Nothing else changes. Returns
@@ -689,10 +669,11 @@ int32_t ds_frequent_items_string_rows(ds_sketch *handle, bool no_false_negatives
                                       size_t room_for_bytes, uint64_t *offsets, size_t num_offsets,
                                       ds_frequent_items_bounds *bounds, size_t num_bounds, size_t *count, size_t *num_bytes);
 
-/* --- Columns with nulls, and columns with offsets of 32 bits, as in Arrow. These functions of the header allocate nothing. A
- * bitmap `validity` says which items are there: item i is there if bit `validity_offset` + i is set, where bit k is the bit
- * k % 8, lowest first, of byte k / 8. If `validity` is null, all items are there. For a slice of a column, pass pointers to its
- * first offset and number, and the slice's start as `validity_offset`. --- */
+/* --- Columns with nulls, as in Arrow. Columns of strings without nulls need none of these functions: `ds_items_offsets` and
+ * `ds_items_offsets32` take their offsets. These functions of the header allocate nothing. A bitmap `validity` says which items
+ * are there: item i is there if bit `validity_offset` + i is set, where bit k is the bit k % 8, lowest first, of byte k / 8. If
+ * `validity` is null, all items are there. For a slice of a column, pass pointers to its first offset and number, and the slice's
+ * start as `validity_offset`. --- */
 
 /* Returns whether item i is there. `validity` is not null. */
 static inline bool ds_is_valid(const uint8_t *validity, size_t validity_offset, size_t i)
@@ -701,9 +682,9 @@ static inline bool ds_is_valid(const uint8_t *validity, size_t validity_offset, 
     return validity[k / 8] >> k % 8 & 1;
 }
 
-/* Makes pairs from the strings of Arrow's `utf8` and `large_utf8` that are there, in order. String i is the bytes from offset i
- * up to offset i + 1, so `count` strings have `count` + 1 offsets. If `count` is 0, no offset is read. `strings` has room for
- * `count` pairs. The pairs point into `bytes`. `num_strings` is their number.
+/* Makes an array of the strings of Arrow's `utf8` and `large_utf8` that are there, in order, for `ds_items_strings`. String i is
+ * the bytes from offset i up to offset i + 1, so `count` strings have `count` + 1 offsets. If `count` is 0, no offset is read.
+ * `strings` has room for `count` strings. They point into `bytes`. `num_strings` is their number.
  *
  * Returns DS_BAD_ARGUMENT if `bytes`, `offsets` or `strings` is null with a count above 0. Returns DS_BAD_OFFSETS if the first
  * offset is below 0, an offset is below the one before it, or the last offset passes the end of the bytes. The offsets of

@@ -1,7 +1,7 @@
 /* datasketches.hpp: Bloom filters, Count-Min sketches and frequent items for C++17 and later, over `datasketches.h`.
  *
  * It includes the parts in `datasketches/`: `bloom_filter.hpp`, `count_min_sketch.hpp` and `frequent_items.hpp`, and `text.hpp` for
- * hashes and the parts of a text. Each may be included alone.
+ * hashes and chunks of a text. Each may be included alone.
  *
  * Each class owns one sketch, and frees it. It moves and swaps, and does not copy: `clone()` makes a copy. After a move, and after
  * construction without arguments, there is no sketch, and calls return DS_NO_SKETCH. Each member converts its arguments and makes
@@ -19,9 +19,10 @@
  * to 64 bits, and is no `bool` and no character. A number from 0 to 2^63 - 1 is the same item in each type. A weight, and an item
  * of `frequent_items`, is of a type all whose values the sketch's type has: a weight for `std::uint64_t` is unsigned, as `5u`.
  *
- * Many items are a range:
+ * Many items are a range, or the strings that `offset_strings`, `words` or `lines` return. Each becomes a `ds_items`:
  *
- *  - contiguous numbers of 64 bits, contiguous `ds_string`, or `offset_strings`: one C call on the range itself, without a copy;
+ *  - contiguous numbers of 64 bits, contiguous `ds_string`, `offset_strings`, `words` and `lines`: one C call on the items where
+ *    they are, without a copy;
  *  - other integers, and strings: C calls on blocks of at most 1024 items. Memory stays bounded. An error in a block leaves the
  *    blocks before it added, also where the C call on all items would have added none. Strings that live only until the next step
  *    of an iterator are passed one by one.

@@ -2,11 +2,11 @@
  *
  * A call with a check is a macro of the call's name. It passes the call and its arguments to the function of this header that
  * checks arguments of that form, and each argument is evaluated once. So `ds_merge(a, b)` is checked, and arguments may have
- * commas: `ds_bloom_insert_all_u64(&seen, (uint64_t[]){1, 2, 3}, 3)`.
+ * commas.
  *
- * The checks return DS_BAD_ARGUMENT for the same handle twice and for a handle that is also in the array of others. They return it
- * for a null pointer with a count above 0, in a pair, or for the options of an image. They pass a pointer to no values in place of
- * null with the count 0.
+ * The checks return DS_BAD_ARGUMENT for the same handle twice and for a handle that is also in the array of others. They return
+ * it for a null pointer with a count above 0, in a `ds_items` or its array of strings, or for the options of an image. They pass
+ * a pointer to no values in place of null with the count 0, but for a null pointer in a `ds_items`.
  *
  * To leave out the check of one call, put its name in brackets: `(ds_merge)(a, b)`. To leave out all, define `DS_NO_CHECKS`
  * before `datasketches.h`. A pointer to a function, as `&ds_merge`, is to the call without checks. */
@@ -19,13 +19,6 @@
 extern "C" {
 #endif
 
-/* Returns the pointer that is passed in place of null if the count is 0. */
-static inline void *ds_no_values(void)
-{
-    static uint64_t none;
-    return &none;
-}
-
 /* Returns whether there are strings at null, or a string is at null. */
 static inline bool ds_have_null(const ds_string *strings, size_t count)
 {
@@ -33,6 +26,13 @@ static inline bool ds_have_null(const ds_string *strings, size_t count)
     if (!strings) return count > 0;
     for (size_t i = 0; i < count; i++) found |= !strings[i].bytes;
     return found;
+}
+
+/* Returns whether a pointer of the items is null, or a string is at null. */
+static inline bool ds_items_have_null(const ds_items *items)
+{
+    return !items || !items->u64s || !items->i64s || !items->bytes || !items->offsets || !items->offsets32 || !items->strings ||
+           ds_have_null(items->strings, items->num_strings);
 }
 
 /* Returns whether there are handles at null, or the handle is one of them. */
@@ -82,25 +82,26 @@ static inline int32_t ds_check_prefix(int32_t (*call)(ds_sketch *, int32_t, cons
     return call(handle, kind, image ? image : (const uint8_t *)ds_no_values(), length, options, used);
 }
 
-/* An image in place, and an item or many numbers. */
+/* An image in place, and an item or many items. */
 #define DS_CHECK_IMAGE(item_form, type) \
     static inline int32_t ds_check_image_##item_form(int32_t (*call)(const uint8_t *, size_t, type), const uint8_t *image, \
                                                      size_t length, type item) \
     { \
         if (!image && length) return DS_BAD_ARGUMENT; \
         return call(image ? image : (const uint8_t *)ds_no_values(), length, item); \
-    } \
-    static inline int32_t ds_check_image_##item_form##s( \
-        int32_t (*call)(const uint8_t *, size_t, const type *, size_t, bool *, size_t), const uint8_t *image, size_t length, \
-        const type *items, size_t count, bool *results, size_t num_results) \
-    { \
-        if ((!image && length) || (!items && count) || (!results && num_results)) return DS_BAD_ARGUMENT; \
-        return call(image ? image : (const uint8_t *)ds_no_values(), length, items ? items : (const type *)ds_no_values(), count, \
-                    results ? results : (bool *)ds_no_values(), num_results); \
     }
 DS_CHECK_IMAGE(u64, uint64_t)
 DS_CHECK_IMAGE(i64, int64_t)
 #undef DS_CHECK_IMAGE
+
+static inline int32_t ds_check_image_items(int32_t (*call)(const uint8_t *, size_t, const ds_items *, bool *, size_t),
+                                           const uint8_t *image, size_t length, const ds_items *items, bool *results,
+                                           size_t num_results)
+{
+    if ((!image && length) || ds_items_have_null(items) || (!results && num_results)) return DS_BAD_ARGUMENT;
+    return call(image ? image : (const uint8_t *)ds_no_values(), length, items, results ? results : (bool *)ds_no_values(),
+                num_results);
+}
 
 static inline int32_t ds_check_image_string(int32_t (*call)(const uint8_t *, size_t, const uint8_t *, size_t),
                                             const uint8_t *image, size_t length, const uint8_t *item, size_t item_length)
@@ -147,18 +148,13 @@ static inline uint64_t ds_check_hash(uint64_t (*call)(const uint8_t *, size_t, u
     return call(bytes ? bytes : (const uint8_t *)ds_no_values(), bytes ? length : 0, k0, k1);
 }
 
-/* Items, as numbers or as the bytes of a string. */
-#define DS_CHECK_ITEMS(form, type) \
-    static inline int32_t ds_check_##form(int32_t (*call)(ds_sketch *, const type *, size_t), ds_sketch *handle, \
-                                          const type *items, size_t count) \
-    { \
-        if (!items && count) return DS_BAD_ARGUMENT; \
-        return call(handle, items ? items : (const type *)ds_no_values(), count); \
-    }
-DS_CHECK_ITEMS(bytes, uint8_t)
-DS_CHECK_ITEMS(u64s, uint64_t)
-DS_CHECK_ITEMS(i64s, int64_t)
-#undef DS_CHECK_ITEMS
+/* The bytes of a string. */
+static inline int32_t ds_check_bytes(int32_t (*call)(ds_sketch *, const uint8_t *, size_t), ds_sketch *handle,
+                                     const uint8_t *bytes, size_t count)
+{
+    if (!bytes && count) return DS_BAD_ARGUMENT;
+    return call(handle, bytes ? bytes : (const uint8_t *)ds_no_values(), count);
+}
 
 /* Bytes and one more argument. */
 #define DS_CHECK_BYTES_AND(form, type) \
@@ -175,59 +171,26 @@ DS_CHECK_BYTES_AND(i64_out, int64_t *)
 DS_CHECK_BYTES_AND(bounds_out, ds_frequent_items_bounds *)
 #undef DS_CHECK_BYTES_AND
 
-static inline int32_t ds_check_offsets(int32_t (*call)(ds_sketch *, const uint8_t *, size_t, const uint64_t *, size_t),
-                                       ds_sketch *handle, const uint8_t *bytes, size_t num_bytes, const uint64_t *offsets,
-                                       size_t num_offsets)
+/* Many items. */
+static inline int32_t ds_check_items(int32_t (*call)(ds_sketch *, const ds_items *), ds_sketch *handle, const ds_items *items)
 {
-    if ((!bytes && num_bytes) || (!offsets && num_offsets)) return DS_BAD_ARGUMENT;
-    return call(handle, bytes ? bytes : (const uint8_t *)ds_no_values(), num_bytes,
-                offsets ? offsets : (const uint64_t *)ds_no_values(), num_offsets);
+    return ds_items_have_null(items) ? DS_BAD_ARGUMENT : call(handle, items);
 }
 
-static inline int32_t ds_check_pairs(int32_t (*call)(ds_sketch *, const ds_string *, size_t), ds_sketch *handle,
-                                     const ds_string *strings, size_t count)
-{
-    if (ds_have_null(strings, count)) return DS_BAD_ARGUMENT;
-    return call(handle, strings ? strings : (const ds_string *)ds_no_values(), count);
-}
-
-/* Items or strings, with an array of results or weights. */
-#define DS_CHECK_ITEMS_WITH(form, type, other) \
-    static inline int32_t ds_check_##form(int32_t (*call)(ds_sketch *, const type *, size_t, other *, size_t), \
-                                          ds_sketch *handle, const type *items, size_t count, other *others, \
-                                          size_t num_others) \
+/* Many items, with an array of results or weights. */
+#define DS_CHECK_ITEMS_WITH(form, other) \
+    static inline int32_t ds_check_items_with_##form(int32_t (*call)(ds_sketch *, const ds_items *, other *, size_t), \
+                                                     ds_sketch *handle, const ds_items *items, other *others, size_t num_others) \
     { \
-        if ((!items && count) || (!others && num_others)) return DS_BAD_ARGUMENT; \
-        return call(handle, items ? items : (const type *)ds_no_values(), count, others ? others : (other *)ds_no_values(), \
-                    num_others); \
+        if (ds_items_have_null(items) || (!others && num_others)) return DS_BAD_ARGUMENT; \
+        return call(handle, items, others ? others : (other *)ds_no_values(), num_others); \
     }
-#define DS_CHECK_WITH(form, other) \
-    DS_CHECK_ITEMS_WITH(u64s_with_##form, uint64_t, other) \
-    DS_CHECK_ITEMS_WITH(i64s_with_##form, int64_t, other) \
-    static inline int32_t ds_check_offsets_with_##form( \
-        int32_t (*call)(ds_sketch *, const uint8_t *, size_t, const uint64_t *, size_t, other *, size_t), ds_sketch *handle, \
-        const uint8_t *bytes, size_t num_bytes, const uint64_t *offsets, size_t num_offsets, other *others, size_t num_others) \
-    { \
-        if ((!bytes && num_bytes) || (!offsets && num_offsets) || (!others && num_others)) return DS_BAD_ARGUMENT; \
-        return call(handle, bytes ? bytes : (const uint8_t *)ds_no_values(), num_bytes, \
-                    offsets ? offsets : (const uint64_t *)ds_no_values(), num_offsets, \
-                    others ? others : (other *)ds_no_values(), num_others); \
-    } \
-    static inline int32_t ds_check_pairs_with_##form( \
-        int32_t (*call)(ds_sketch *, const ds_string *, size_t, other *, size_t), ds_sketch *handle, const ds_string *strings, \
-        size_t count, other *others, size_t num_others) \
-    { \
-        if (ds_have_null(strings, count) || (!others && num_others)) return DS_BAD_ARGUMENT; \
-        return call(handle, strings ? strings : (const ds_string *)ds_no_values(), count, \
-                    others ? others : (other *)ds_no_values(), num_others); \
-    }
-DS_CHECK_WITH(bools, bool)
-DS_CHECK_WITH(u64s, uint64_t)
-DS_CHECK_WITH(i64s, int64_t)
-DS_CHECK_WITH(bounds, ds_frequent_items_bounds)
-DS_CHECK_WITH(weights_u64, const uint64_t)
-DS_CHECK_WITH(weights_i64, const int64_t)
-#undef DS_CHECK_WITH
+DS_CHECK_ITEMS_WITH(bools, bool)
+DS_CHECK_ITEMS_WITH(u64s, uint64_t)
+DS_CHECK_ITEMS_WITH(i64s, int64_t)
+DS_CHECK_ITEMS_WITH(bounds, ds_frequent_items_bounds)
+DS_CHECK_ITEMS_WITH(weights_u64, const uint64_t)
+DS_CHECK_ITEMS_WITH(weights_i64, const int64_t)
 #undef DS_CHECK_ITEMS_WITH
 
 /* Buffers for rows. */
@@ -274,102 +237,38 @@ static inline int32_t ds_check_string_rows(int32_t (*call)(ds_sketch *, bool, ui
 #define ds_deserialize_prefix(...) ds_check_prefix(ds_deserialize_prefix, __VA_ARGS__)
 #define ds_share(...) ds_check_two_handles(ds_share, __VA_ARGS__)
 #define ds_bloom_insert_string(...) ds_check_bytes(ds_bloom_insert_string, __VA_ARGS__)
-#define ds_bloom_insert_all_u64(...) ds_check_u64s(ds_bloom_insert_all_u64, __VA_ARGS__)
-#define ds_bloom_insert_all_i64(...) ds_check_i64s(ds_bloom_insert_all_i64, __VA_ARGS__)
-#define ds_bloom_insert_all_string(...) ds_check_offsets(ds_bloom_insert_all_string, __VA_ARGS__)
-#define ds_bloom_insert_all_string_pairs(...) ds_check_pairs(ds_bloom_insert_all_string_pairs, __VA_ARGS__)
-#define ds_bloom_insert_words(...) ds_check_bytes(ds_bloom_insert_words, __VA_ARGS__)
-#define ds_bloom_insert_lines(...) ds_check_bytes(ds_bloom_insert_lines, __VA_ARGS__)
+#define ds_bloom_insert_all(...) ds_check_items(ds_bloom_insert_all, __VA_ARGS__)
 #define ds_bloom_contains_string(...) ds_check_bytes(ds_bloom_contains_string, __VA_ARGS__)
-#define ds_bloom_contains_all_u64(...) ds_check_u64s_with_bools(ds_bloom_contains_all_u64, __VA_ARGS__)
-#define ds_bloom_contains_all_i64(...) ds_check_i64s_with_bools(ds_bloom_contains_all_i64, __VA_ARGS__)
-#define ds_bloom_contains_all_string(...) ds_check_offsets_with_bools(ds_bloom_contains_all_string, __VA_ARGS__)
-#define ds_bloom_contains_all_string_pairs(...) ds_check_pairs_with_bools(ds_bloom_contains_all_string_pairs, __VA_ARGS__)
+#define ds_bloom_contains_all(...) ds_check_items_with_bools(ds_bloom_contains_all, __VA_ARGS__)
 #define ds_bloom_contains_and_insert_string(...) ds_check_bytes(ds_bloom_contains_and_insert_string, __VA_ARGS__)
-#define ds_bloom_contains_and_insert_all_u64(...) ds_check_u64s_with_bools(ds_bloom_contains_and_insert_all_u64, __VA_ARGS__)
-#define ds_bloom_contains_and_insert_all_i64(...) ds_check_i64s_with_bools(ds_bloom_contains_and_insert_all_i64, __VA_ARGS__)
-#define ds_bloom_contains_and_insert_all_string(...) \
-    ds_check_offsets_with_bools(ds_bloom_contains_and_insert_all_string, __VA_ARGS__)
-#define ds_bloom_contains_and_insert_all_string_pairs(...) \
-    ds_check_pairs_with_bools(ds_bloom_contains_and_insert_all_string_pairs, __VA_ARGS__)
+#define ds_bloom_contains_and_insert_all(...) ds_check_items_with_bools(ds_bloom_contains_and_insert_all, __VA_ARGS__)
 #define ds_bloom_intersect(...) ds_check_two_handles(ds_bloom_intersect, __VA_ARGS__)
 #define ds_bloom_difference(...) ds_check_two_handles(ds_bloom_difference, __VA_ARGS__)
 #define ds_bloom_image_contains_u64(...) ds_check_image_u64(ds_bloom_image_contains_u64, __VA_ARGS__)
 #define ds_bloom_image_contains_i64(...) ds_check_image_i64(ds_bloom_image_contains_i64, __VA_ARGS__)
 #define ds_bloom_image_contains_string(...) ds_check_image_string(ds_bloom_image_contains_string, __VA_ARGS__)
-#define ds_bloom_image_contains_all_u64(...) ds_check_image_u64s(ds_bloom_image_contains_all_u64, __VA_ARGS__)
-#define ds_bloom_image_contains_all_i64(...) ds_check_image_i64s(ds_bloom_image_contains_all_i64, __VA_ARGS__)
+#define ds_bloom_image_contains_all(...) ds_check_image_items(ds_bloom_image_contains_all, __VA_ARGS__)
+#define ds_update_all(...) ds_check_items(ds_update_all, __VA_ARGS__)
+#define ds_update_all_weighted(...) ds_check_items_with_weights_u64(ds_update_all_weighted, __VA_ARGS__)
 #define ds_count_min_u64_update_string(...) ds_check_bytes_and_u64(ds_count_min_u64_update_string, __VA_ARGS__)
-#define ds_count_min_u64_update_all_u64(...) ds_check_u64s(ds_count_min_u64_update_all_u64, __VA_ARGS__)
-#define ds_count_min_u64_update_all_i64(...) ds_check_i64s(ds_count_min_u64_update_all_i64, __VA_ARGS__)
-#define ds_count_min_u64_update_all_string(...) ds_check_offsets(ds_count_min_u64_update_all_string, __VA_ARGS__)
-#define ds_count_min_u64_update_all_string_pairs(...) ds_check_pairs(ds_count_min_u64_update_all_string_pairs, __VA_ARGS__)
-#define ds_count_min_u64_update_all_weighted_u64(...) \
-    ds_check_u64s_with_weights_u64(ds_count_min_u64_update_all_weighted_u64, __VA_ARGS__)
-#define ds_count_min_u64_update_all_weighted_i64(...) \
-    ds_check_i64s_with_weights_u64(ds_count_min_u64_update_all_weighted_i64, __VA_ARGS__)
-#define ds_count_min_u64_update_all_weighted_string(...) \
-    ds_check_offsets_with_weights_u64(ds_count_min_u64_update_all_weighted_string, __VA_ARGS__)
-#define ds_count_min_u64_update_all_weighted_string_pairs(...) \
-    ds_check_pairs_with_weights_u64(ds_count_min_u64_update_all_weighted_string_pairs, __VA_ARGS__)
-#define ds_count_min_u64_update_words(...) ds_check_bytes(ds_count_min_u64_update_words, __VA_ARGS__)
-#define ds_count_min_u64_update_lines(...) ds_check_bytes(ds_count_min_u64_update_lines, __VA_ARGS__)
 #define ds_count_min_u64_estimate_string(...) ds_check_bytes_and_u64_out(ds_count_min_u64_estimate_string, __VA_ARGS__)
-#define ds_count_min_u64_estimate_all_u64(...) ds_check_u64s_with_u64s(ds_count_min_u64_estimate_all_u64, __VA_ARGS__)
-#define ds_count_min_u64_estimate_all_i64(...) ds_check_i64s_with_u64s(ds_count_min_u64_estimate_all_i64, __VA_ARGS__)
-#define ds_count_min_u64_estimate_all_string(...) ds_check_offsets_with_u64s(ds_count_min_u64_estimate_all_string, __VA_ARGS__)
-#define ds_count_min_u64_estimate_all_string_pairs(...) \
-    ds_check_pairs_with_u64s(ds_count_min_u64_estimate_all_string_pairs, __VA_ARGS__)
+#define ds_count_min_u64_estimate_all(...) ds_check_items_with_u64s(ds_count_min_u64_estimate_all, __VA_ARGS__)
 #define ds_count_min_u64_upper_bound_string(...) ds_check_bytes_and_u64_out(ds_count_min_u64_upper_bound_string, __VA_ARGS__)
 #define ds_count_min_u64_image_estimate_u64(...) ds_check_u64_image_u64(ds_count_min_u64_image_estimate_u64, __VA_ARGS__)
 #define ds_count_min_u64_image_estimate_i64(...) ds_check_u64_image_i64(ds_count_min_u64_image_estimate_i64, __VA_ARGS__)
 #define ds_count_min_u64_image_estimate_string(...) ds_check_u64_image_string(ds_count_min_u64_image_estimate_string, __VA_ARGS__)
 #define ds_count_min_i64_update_string(...) ds_check_bytes_and_i64(ds_count_min_i64_update_string, __VA_ARGS__)
-#define ds_count_min_i64_update_all_u64(...) ds_check_u64s(ds_count_min_i64_update_all_u64, __VA_ARGS__)
-#define ds_count_min_i64_update_all_i64(...) ds_check_i64s(ds_count_min_i64_update_all_i64, __VA_ARGS__)
-#define ds_count_min_i64_update_all_string(...) ds_check_offsets(ds_count_min_i64_update_all_string, __VA_ARGS__)
-#define ds_count_min_i64_update_all_string_pairs(...) ds_check_pairs(ds_count_min_i64_update_all_string_pairs, __VA_ARGS__)
-#define ds_count_min_i64_update_all_weighted_u64(...) \
-    ds_check_u64s_with_weights_i64(ds_count_min_i64_update_all_weighted_u64, __VA_ARGS__)
-#define ds_count_min_i64_update_all_weighted_i64(...) \
-    ds_check_i64s_with_weights_i64(ds_count_min_i64_update_all_weighted_i64, __VA_ARGS__)
-#define ds_count_min_i64_update_all_weighted_string(...) \
-    ds_check_offsets_with_weights_i64(ds_count_min_i64_update_all_weighted_string, __VA_ARGS__)
-#define ds_count_min_i64_update_all_weighted_string_pairs(...) \
-    ds_check_pairs_with_weights_i64(ds_count_min_i64_update_all_weighted_string_pairs, __VA_ARGS__)
-#define ds_count_min_i64_update_words(...) ds_check_bytes(ds_count_min_i64_update_words, __VA_ARGS__)
-#define ds_count_min_i64_update_lines(...) ds_check_bytes(ds_count_min_i64_update_lines, __VA_ARGS__)
+#define ds_count_min_i64_update_all_weighted(...) \
+    ds_check_items_with_weights_i64(ds_count_min_i64_update_all_weighted, __VA_ARGS__)
 #define ds_count_min_i64_estimate_string(...) ds_check_bytes_and_i64_out(ds_count_min_i64_estimate_string, __VA_ARGS__)
-#define ds_count_min_i64_estimate_all_u64(...) ds_check_u64s_with_i64s(ds_count_min_i64_estimate_all_u64, __VA_ARGS__)
-#define ds_count_min_i64_estimate_all_i64(...) ds_check_i64s_with_i64s(ds_count_min_i64_estimate_all_i64, __VA_ARGS__)
-#define ds_count_min_i64_estimate_all_string(...) ds_check_offsets_with_i64s(ds_count_min_i64_estimate_all_string, __VA_ARGS__)
-#define ds_count_min_i64_estimate_all_string_pairs(...) \
-    ds_check_pairs_with_i64s(ds_count_min_i64_estimate_all_string_pairs, __VA_ARGS__)
+#define ds_count_min_i64_estimate_all(...) ds_check_items_with_i64s(ds_count_min_i64_estimate_all, __VA_ARGS__)
 #define ds_count_min_i64_upper_bound_string(...) ds_check_bytes_and_i64_out(ds_count_min_i64_upper_bound_string, __VA_ARGS__)
 #define ds_count_min_i64_image_estimate_u64(...) ds_check_i64_image_u64(ds_count_min_i64_image_estimate_u64, __VA_ARGS__)
 #define ds_count_min_i64_image_estimate_i64(...) ds_check_i64_image_i64(ds_count_min_i64_image_estimate_i64, __VA_ARGS__)
 #define ds_count_min_i64_image_estimate_string(...) ds_check_i64_image_string(ds_count_min_i64_image_estimate_string, __VA_ARGS__)
 #define ds_frequent_items_string_update(...) ds_check_bytes_and_u64(ds_frequent_items_string_update, __VA_ARGS__)
-#define ds_frequent_items_string_update_words(...) ds_check_bytes(ds_frequent_items_string_update_words, __VA_ARGS__)
-#define ds_frequent_items_string_update_lines(...) ds_check_bytes(ds_frequent_items_string_update_lines, __VA_ARGS__)
 #define ds_frequent_items_string_bounds(...) ds_check_bytes_and_bounds_out(ds_frequent_items_string_bounds, __VA_ARGS__)
-#define ds_frequent_items_u64_bounds_all(...) ds_check_u64s_with_bounds(ds_frequent_items_u64_bounds_all, __VA_ARGS__)
-#define ds_frequent_items_i64_bounds_all(...) ds_check_i64s_with_bounds(ds_frequent_items_i64_bounds_all, __VA_ARGS__)
-#define ds_frequent_items_string_bounds_all(...) ds_check_offsets_with_bounds(ds_frequent_items_string_bounds_all, __VA_ARGS__)
-#define ds_frequent_items_string_bounds_all_pairs(...) \
-    ds_check_pairs_with_bounds(ds_frequent_items_string_bounds_all_pairs, __VA_ARGS__)
-#define ds_frequent_items_u64_update_all(...) ds_check_u64s(ds_frequent_items_u64_update_all, __VA_ARGS__)
-#define ds_frequent_items_i64_update_all(...) ds_check_i64s(ds_frequent_items_i64_update_all, __VA_ARGS__)
-#define ds_frequent_items_string_update_all(...) ds_check_offsets(ds_frequent_items_string_update_all, __VA_ARGS__)
-#define ds_frequent_items_string_update_all_pairs(...) ds_check_pairs(ds_frequent_items_string_update_all_pairs, __VA_ARGS__)
-#define ds_frequent_items_u64_update_all_weighted(...) \
-    ds_check_u64s_with_weights_u64(ds_frequent_items_u64_update_all_weighted, __VA_ARGS__)
-#define ds_frequent_items_i64_update_all_weighted(...) \
-    ds_check_i64s_with_weights_u64(ds_frequent_items_i64_update_all_weighted, __VA_ARGS__)
-#define ds_frequent_items_string_update_all_weighted(...) \
-    ds_check_offsets_with_weights_u64(ds_frequent_items_string_update_all_weighted, __VA_ARGS__)
-#define ds_frequent_items_string_update_all_weighted_pairs(...) \
-    ds_check_pairs_with_weights_u64(ds_frequent_items_string_update_all_weighted_pairs, __VA_ARGS__)
+#define ds_frequent_items_bounds_all(...) ds_check_items_with_bounds(ds_frequent_items_bounds_all, __VA_ARGS__)
 #define ds_frequent_items_u64_rows(...) ds_check_u64_rows(ds_frequent_items_u64_rows, __VA_ARGS__)
 #define ds_frequent_items_i64_rows(...) ds_check_i64_rows(ds_frequent_items_i64_rows, __VA_ARGS__)
 #define ds_frequent_items_string_rows(...) ds_check_string_rows(ds_frequent_items_string_rows, __VA_ARGS__)

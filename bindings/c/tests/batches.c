@@ -1,11 +1,13 @@
 /* Performs the program's lines `bloom`, `countu`, `frequent`, `insert`, `add` and `ask` with calls of the C library that take
- * many strings, and prints the program's replies. Makes one call for each run of lines that begin with the same two words. With
- * an argument the strings are passed as pairs, and otherwise as a buffer with offsets. */
+ * many strings, and prints the program's replies. Makes one call for each run of lines that begin with the same two words. The
+ * argument is the kind of items as which the strings are passed, such as 2 for DS_ITEMS_OFFSETS. */
 #include <datasketches.h>
 #include <inttypes.h>
 #include <stdio.h>
 #include <stdlib.h>
 #include <string.h>
+
+#include "forms.h"
 
 enum { NAMES = 16, RUN = 512, WORDS = 5 };
 
@@ -13,15 +15,12 @@ struct line {
     char words[WORDS][64];
 };
 
-/* A run's strings, as the calls take them. A byte that belongs to no string comes before the first string. */
-struct strings {
-    uint8_t bytes[1 + RUN * 64];
-    uint64_t offsets[RUN + 1], weights[RUN];
-    ds_string pairs[RUN];
-    size_t count, length;
-};
+/* A run's strings, and their weights. */
+static struct forms strings;
+static uint64_t weights[RUN];
 
-static bool as_pairs;
+/* The kind of items as which strings are passed. */
+static int32_t kind_of_items;
 
 /* The words of the key whose bytes are 0 to 15, under which the program runs too. */
 static const uint64_t K0 = 0x0706050403020100, K1 = 0x0f0e0d0c0b0a0908;
@@ -53,71 +52,36 @@ static void create(const struct line *it)
     puts("ok");
 }
 
-static void collect(struct strings *all, const struct line *lines, size_t count, int place)
+/* Takes the strings and weights of lines, and returns the strings as items. */
+static ds_items collect(const struct line *lines, size_t count, int place)
 {
-    size_t end = 1;
-    all->bytes[0] = 0xff;
-    all->count = count;
+    clear_forms(&strings);
     for (size_t i = 0; i < count; i++) {
-        const char *text = lines[i].words[place];
-        all->offsets[i] = end;
-        all->weights[i] = strtoull(lines[i].words[2], 0, 10);
-        memcpy(all->bytes + end, text, strlen(text));
-        end += strlen(text);
+        add_string(&strings, lines[i].words[place], strlen(lines[i].words[place]));
+        weights[i] = strtoull(lines[i].words[2], 0, 10);
     }
-    all->offsets[count] = all->length = end;
-    const int64_t *offsets = (const int64_t *)all->offsets;
-    size_t found;
-    int32_t made = ds_strings_from_large_utf8(all->bytes, end, offsets, count, NULL, 0, all->pairs, &found);
-    if (made != DS_OK || found != count) abort();
+    return strings_of(&strings, kind_of_items, 0, count);
 }
 
-static void insert(ds_sketch *handle, struct strings *all)
+static void insert(ds_sketch *handle, const ds_items *items)
 {
-    int32_t answer = as_pairs ? ds_bloom_insert_all_string_pairs(handle, all->pairs, all->count)
-                              : ds_bloom_insert_all_string(handle, all->bytes, all->length, all->offsets, all->count + 1);
-    if (answer != DS_OK) abort();
-    for (size_t i = 0; i < all->count; i++) puts("ok");
+    if (ds_bloom_insert_all(handle, items) != DS_OK) abort();
+    for (size_t i = 0; i < strings.count; i++) puts("ok");
 }
 
 /* Returns whether all weights are 1. */
-static int are_ones(const struct strings *all)
+static int are_ones(void)
 {
-    for (size_t i = 0; i < all->count; i++)
-        if (all->weights[i] != 1) return 0;
+    for (size_t i = 0; i < strings.count; i++)
+        if (weights[i] != 1) return 0;
     return 1;
 }
 
-static int32_t add_ones(ds_sketch *handle, struct strings *all)
+static void add(ds_sketch *handle, const ds_items *items)
 {
-    if (as_pairs) {
-        int32_t counted = ds_count_min_u64_update_all_string_pairs(handle, all->pairs, all->count);
-        return counted != DS_WRONG_KIND ? counted : ds_frequent_items_string_update_all_pairs(handle, all->pairs, all->count);
-    }
-    int32_t answer = ds_count_min_u64_update_all_string(handle, all->bytes, all->length, all->offsets, all->count + 1);
-    if (answer != DS_WRONG_KIND) return answer;
-    return ds_frequent_items_string_update_all(handle, all->bytes, all->length, all->offsets, all->count + 1);
-}
-
-static int32_t add_weights(ds_sketch *handle, struct strings *all)
-{
-    size_t count = all->count;
-    if (as_pairs) {
-        int32_t counted = ds_count_min_u64_update_all_weighted_string_pairs(handle, all->pairs, count, all->weights, count);
-        if (counted != DS_WRONG_KIND) return counted;
-        return ds_frequent_items_string_update_all_weighted_pairs(handle, all->pairs, count, all->weights, count);
-    }
-    int32_t answer =
-        ds_count_min_u64_update_all_weighted_string(handle, all->bytes, all->length, all->offsets, count + 1, all->weights, count);
-    if (answer != DS_WRONG_KIND) return answer;
-    return ds_frequent_items_string_update_all_weighted(handle, all->bytes, all->length, all->offsets, count + 1, all->weights,
-                                                        count);
-}
-
-static void add(ds_sketch *handle, struct strings *all)
-{
-    if ((are_ones(all) ? add_ones : add_weights)(handle, all) != DS_OK) abort();
-    for (size_t i = 0; i < all->count; i++) puts("ok");
+    if ((are_ones() ? ds_update_all(handle, items) : ds_update_all_weighted(handle, items, weights, strings.count)) != DS_OK)
+        abort();
+    for (size_t i = 0; i < strings.count; i++) puts("ok");
 }
 
 static void show(uint64_t estimate, uint64_t lower, uint64_t upper)
@@ -125,44 +89,36 @@ static void show(uint64_t estimate, uint64_t lower, uint64_t upper)
     printf("estimate %" PRIu64 " lower %" PRIu64 " upper %" PRIu64 "\n", estimate, lower, upper);
 }
 
-static void ask(ds_sketch *handle, struct strings *all)
+static void ask(ds_sketch *handle, const ds_items *items)
 {
-    bool answers[RUN];
-    uint64_t estimates[RUN];
-    size_t count = all->count;
-    int32_t contains, counts;
-    if (as_pairs) {
-        contains = ds_bloom_contains_all_string_pairs(handle, all->pairs, count, answers, count);
-        counts = ds_count_min_u64_estimate_all_string_pairs(handle, all->pairs, count, estimates, count);
-    } else {
-        contains = ds_bloom_contains_all_string(handle, all->bytes, all->length, all->offsets, count + 1, answers, count);
-        counts = ds_count_min_u64_estimate_all_string(handle, all->bytes, all->length, all->offsets, count + 1, estimates, count);
-    }
+    static bool answers[RUN];
+    static uint64_t estimates[RUN];
+    static ds_frequent_items_bounds bounds[RUN];
+    size_t count = strings.count;
+    int32_t contains = ds_bloom_contains_all(handle, items, answers, count);
+    int32_t counts = ds_count_min_u64_estimate_all(handle, items, estimates, count);
+    if (contains != DS_OK && counts != DS_OK && ds_frequent_items_bounds_all(handle, items, bounds, count) != DS_OK) abort();
     for (size_t i = 0; i < count; i++) {
-        const uint8_t *text = all->bytes + all->offsets[i];
-        size_t length = (size_t)(all->offsets[i + 1] - all->offsets[i]);
-        ds_frequent_items_bounds bounds;
+        const ds_string *text = &strings.strings[i];
         uint64_t upper;
         if (contains == DS_OK) puts(answers[i] ? "yes" : "no");
         else if (counts == DS_OK) {
-            if (ds_count_min_u64_upper_bound_string(handle, text, length, &upper) != DS_OK) abort();
+            if (ds_count_min_u64_upper_bound_string(handle, text->bytes, text->length, &upper) != DS_OK) abort();
             show(estimates[i], estimates[i], upper);
         } else {
-            if (ds_frequent_items_string_bounds(handle, text, length, &bounds) != DS_OK) abort();
-            show(bounds.estimate, bounds.lower_bound, bounds.upper_bound);
+            show(bounds[i].estimate, bounds[i].lower_bound, bounds[i].upper_bound);
         }
     }
 }
 
 static void play(const struct line *lines, size_t count)
 {
-    static struct strings all;
     const char *verb = lines->words[0];
     ds_sketch *handle = look_up(lines->words[1]);
-    collect(&all, lines, count, strcmp(verb, "add") == 0 ? 3 : 2);
-    if (strcmp(verb, "insert") == 0) insert(handle, &all);
-    else if (strcmp(verb, "add") == 0) add(handle, &all);
-    else if (strcmp(verb, "ask") == 0) ask(handle, &all);
+    const ds_items items = collect(lines, count, strcmp(verb, "add") == 0 ? 3 : 2);
+    if (strcmp(verb, "insert") == 0) insert(handle, &items);
+    else if (strcmp(verb, "add") == 0) add(handle, &items);
+    else if (strcmp(verb, "ask") == 0) ask(handle, &items);
     else
         for (size_t i = 0; i < count; i++) create(&lines[i]);
 }
@@ -174,8 +130,7 @@ static int is_of_run(const struct line *first, const struct line *it)
 
 int main(int argc, char **argv)
 {
-    (void)argv;
-    as_pairs = argc > 1;
+    kind_of_items = argc > 1 ? atoi(argv[1]) : -1;
     static char text[1 << 10];
     static struct line lines[RUN + 1];
     size_t count = 0;

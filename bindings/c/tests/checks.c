@@ -10,6 +10,16 @@
 
 _Static_assert(sizeof(ds_sketch) == sizeof(void *), "a handle is one word");
 _Static_assert(sizeof(ds_string) == 16 && offsetof(ds_string, length) == 8, "ds_string");
+_Static_assert(sizeof(ds_items) == 104 && offsetof(ds_items, kind) == 0 && offsetof(ds_items, u64s) == 8 &&
+                   offsetof(ds_items, num_u64s) == 16 && offsetof(ds_items, i64s) == 24 && offsetof(ds_items, num_i64s) == 32 &&
+                   offsetof(ds_items, bytes) == 40 && offsetof(ds_items, num_bytes) == 48 && offsetof(ds_items, offsets) == 56 &&
+                   offsetof(ds_items, num_offsets) == 64 && offsetof(ds_items, offsets32) == 72 &&
+                   offsetof(ds_items, num_offsets32) == 80 && offsetof(ds_items, strings) == 88 &&
+                   offsetof(ds_items, num_strings) == 96,
+               "ds_items");
+_Static_assert(DS_ITEMS_U64 == 0 && DS_ITEMS_I64 == 1 && DS_ITEMS_OFFSETS == 2 && DS_ITEMS_OFFSETS32 == 3 &&
+                   DS_ITEMS_STRINGS == 4 && DS_ITEMS_WORDS == 5 && DS_ITEMS_LINES == 6,
+               "kinds of items");
 _Static_assert(sizeof(ds_key) == 16 && offsetof(ds_key, k0) == 0 && offsetof(ds_key, k1) == 8, "ds_key");
 _Static_assert(sizeof(ds_image_options) == 24 && offsetof(ds_image_options, max_bytes) == 0 &&
                    offsetof(ds_image_options, seed) == 8 && offsetof(ds_image_options, key) == 16,
@@ -49,17 +59,22 @@ static void commas(void)
     size_t length = 0, rows = 0, used = 0;
 
     CHECK(ds_bloom_new(&sketches[0], 959, 7, 9001) == DS_OK && ds_clone(&sketches[1], &sketches[0]) == DS_OK);
-    CHECK(ds_bloom_insert_all_u64(&sketches[0], (const uint64_t[]){1, 2, 3}, 3) == DS_OK);
-    CHECK(ds_bloom_insert_all_i64(&sketches[0], (const int64_t[]){-1, -2}, 2) == DS_OK);
-    CHECK(ds_bloom_contains_all_i64(&sketches[0], (const int64_t[]){-2, 3, 77}, 3, found, 3) == DS_OK);
+    CHECK(ds_bloom_insert_all(&sketches[0], AS_ITEMS(u64, (const uint64_t[]){1, 2, 3}, 3)) == DS_OK);
+    CHECK(ds_bloom_insert_all(&sketches[0], AS_ITEMS(i64, (const int64_t[]){-1, -2}, 2)) == DS_OK);
+    CHECK(ds_bloom_contains_all(&sketches[0], AS_ITEMS(i64, (const int64_t[]){-2, 3, 77}, 3), found, 3) == DS_OK);
     CHECK(found[0] && found[1] && !found[2]);
     CHECK(ds_bloom_insert_string(&sketches[0], (const uint8_t[]){'a', 'b'}, 2) == DS_OK);
     CHECK(ds_bloom_contains_string(&sketches[0], (const uint8_t *){(const uint8_t *)"ab"}, 2) == DS_YES);
-    CHECK(ds_bloom_insert_all_string(&sketches[0], (const uint8_t[]){'c', 'd'}, 2, (const uint64_t[]){0, 1, 2}, 3) == DS_OK);
-    CHECK(ds_bloom_insert_all_string_pairs(&sketches[0], (const ds_string[]){{(const uint8_t *)"ef", 2}, {(const uint8_t *)"", 0}},
-                                           2) == DS_OK);
-    CHECK(ds_bloom_contains_all_string_pairs(&sketches[0], (const ds_string[]){{(const uint8_t *)"c", 1}, {(const uint8_t *)"", 0}},
-                                             2, (bool *[2]){found + 1, NULL}[0], 2) == DS_OK);
+    CHECK(ds_bloom_insert_all(&sketches[0], AS_ITEMS(offsets, (const uint8_t[]){'c', 'd'}, 2, (const uint64_t[]){0, 1, 2}, 3)) ==
+          DS_OK);
+    CHECK(ds_bloom_insert_all(&sketches[0], AS_ITEMS(offsets32, (const uint8_t[]){'g', 'h'}, 2, (const uint32_t[]){0, 2}, 2)) ==
+          DS_OK);
+    CHECK(ds_bloom_insert_all(&sketches[0],
+                              AS_ITEMS(strings, (const ds_string[]){{(const uint8_t *)"ef", 2}, {(const uint8_t *)"", 0}}, 2)) ==
+          DS_OK);
+    CHECK(ds_bloom_contains_and_insert_all(
+              &sketches[0], AS_ITEMS(strings, (const ds_string[]){{(const uint8_t *)"c", 1}, {(const uint8_t *)"", 0}}, 2),
+              (bool *[2]){found + 1, NULL}[0], 2) == DS_OK);
     CHECK(found[1] && found[2]);
     CHECK(ds_merge_all(&sketches[1], (ds_sketch *[2]){&sketches[0], NULL}[0], 1) == DS_OK);
     CHECK(ds_equal(&sketches[1], (ds_sketch *[2]){&sketches[0], NULL}[0]) == DS_YES);
@@ -73,14 +88,14 @@ static void commas(void)
 
     CHECK(ds_count_min_new(&count, DS_COUNT_MIN_U64, 4, 128, 9001) == DS_OK);
     CHECK(ds_count_min_new(&signs, DS_COUNT_MIN_I64, 4, 128, 9001) == DS_OK);
-    CHECK(ds_count_min_u64_update_all_weighted_u64(&count, (const uint64_t[]){1, 2}, 2, (const uint64_t[]){5, 6}, 2) == DS_OK);
-    CHECK(ds_count_min_u64_estimate_all_u64(&count, (const uint64_t[]){2, 1}, 2, estimates, 2) == DS_OK);
+    CHECK(ds_update_all_weighted(&count, AS_ITEMS(u64, (const uint64_t[]){1, 2}, 2), (const uint64_t[]){5, 6}, 2) == DS_OK);
+    CHECK(ds_count_min_u64_estimate_all(&count, AS_ITEMS(u64, (const uint64_t[]){2, 1}, 2), estimates, 2) == DS_OK);
     CHECK(estimates[0] == 6 && estimates[1] == 5);
-    CHECK(ds_count_min_i64_update_all_weighted_string_pairs(
-              &signs, (const ds_string[]){{(const uint8_t *)"a", 1}, {(const uint8_t *)"b", 1}}, 2, (const int64_t[]){-5, 6}, 2) ==
-          DS_OK);
-    CHECK(ds_count_min_i64_estimate_all_string(&signs, (const uint8_t *)"ba", 2, (const uint64_t[]){0, 1, 2}, 3, of_signs, 2) ==
-          DS_OK);
+    CHECK(ds_count_min_i64_update_all_weighted(
+              &signs, AS_ITEMS(strings, (const ds_string[]){{(const uint8_t *)"a", 1}, {(const uint8_t *)"b", 1}}, 2),
+              (const int64_t[]){-5, 6}, 2) == DS_OK);
+    CHECK(ds_count_min_i64_estimate_all(&signs, AS_ITEMS(offsets, (const uint8_t *)"ba", 2, (const uint64_t[]){0, 1, 2}, 3),
+                                        of_signs, 2) == DS_OK);
     CHECK(of_signs[0] == 6 && of_signs[1] == -5);
     CHECK(ds_serialize(&count, image, sizeof image, &length) == DS_OK);
     CHECK(ds_deserialize(&count, DS_COUNT_MIN_U64, image, length, &(ds_image_options){1 << 14, (uint64_t[2]){9001, 1}[0], NULL}) ==
@@ -90,13 +105,13 @@ static void commas(void)
 
     CHECK(ds_frequent_items_new(&heavy, DS_FREQUENT_ITEMS_STRING, 64, 48, &(ds_key){K0, K1}) == DS_OK);
     CHECK(ds_frequent_items_string_update(&heavy, (const uint8_t[]){'x', 'y'}, 2, (uint64_t[2]){9, 0}[0]) == DS_OK);
-    CHECK(ds_frequent_items_string_update_words(&heavy, (const uint8_t[]){'x', ' ', 'y'}, 3) == DS_OK);
+    CHECK(ds_update_all(&heavy, AS_ITEMS(words, (const uint8_t[]){'x', ' ', 'y'}, 3)) == DS_OK);
     CHECK(ds_frequent_items_string_bounds(&heavy, (const uint8_t[]){'x', 'y'}, 2, &bounds[0]) == DS_OK && bounds[0].estimate == 9);
     CHECK(ds_frequent_items_string_rows(&heavy, true, 1, bytes, sizeof bytes, (uint64_t *[2]){offsets, NULL}[0], 3, bounds, 2,
                                         &rows, &length) == DS_OK);
     CHECK(rows == 1 && length == 2 && bytes[1] == 'y');
     CHECK(ds_frequent_items_new(&numbers, DS_FREQUENT_ITEMS_U64, 64, 48, NULL) == DS_OK);
-    CHECK(ds_frequent_items_u64_update_all(&numbers, (const uint64_t[]){7, 8, 7}, 3) == DS_OK);
+    CHECK(ds_update_all(&numbers, AS_ITEMS(u64, (const uint64_t[]){7, 8, 7}, 3)) == DS_OK);
     CHECK(ds_frequent_items_u64_rows(&numbers, true, 1, (uint64_t *[2]){items, NULL}[0], 2, bounds, 2, &rows) == DS_OK);
     CHECK(rows == 1 && items[0] == 7 && bounds[0].estimate == 2);
     CHECK(ds_serialize(&numbers, image, sizeof image, &length) == DS_OK);
@@ -126,14 +141,60 @@ static void functions(void)
     void (*release)(ds_sketch *) = &ds_free;
 
     CHECK(ds_bloom_new(&a, 64, 1, 9001) == DS_OK && (ds_clone)(&b, &a) == DS_OK);
-    CHECK(join(&a, &b) == DS_OK && (ds_bloom_insert_all_u64)(&a, (const uint64_t[]){1, 2}, 2) == DS_OK);
+    CHECK(join(&a, &b) == DS_OK && (ds_bloom_insert_all)(&a, AS_ITEMS(u64, (const uint64_t[]){1, 2}, 2)) == DS_OK);
     CHECK(ds_bloom_contains_u64(&a, 2) == DS_YES);
+    CHECK((ds_bloom_insert_all)(&a, (const ds_items[]){ds_no_items(DS_ITEMS_LINES + 1)}) == DS_BAD_ARGUMENT);
     (ds_free)(&a);
     release(&b);
     CHECK(ds_reset(&a) == DS_NO_SKETCH && ds_reset(&b) == DS_NO_SKETCH);
     ds_free(NULL);
     (ds_free)(NULL);
     release(NULL);
+}
+
+/* Checks that items have only these arrays: those of the others are there, and have no values. */
+static void holds_only(const ds_items *it, int32_t kind, size_t u64s, size_t i64s, size_t bytes, size_t offsets, size_t offsets32,
+                       size_t strings)
+{
+    CHECK(it->kind == kind && it->num_u64s == u64s && it->num_i64s == i64s && it->num_bytes == bytes);
+    CHECK(it->num_offsets == offsets && it->num_offsets32 == offsets32 && it->num_strings == strings);
+    CHECK(it->u64s && it->i64s && it->bytes && it->offsets && it->offsets32 && it->strings);
+}
+
+/* The functions that make items. */
+static void items(void)
+{
+    const uint64_t u64s[3] = {0, 1, 2};
+    const int64_t i64s[2] = {-1, 1};
+    const uint32_t offsets[3] = {0, 1, 2};
+    const uint8_t *bytes = (const uint8_t *)"a b";
+    const ds_string strings[2] = {{bytes, 1}, {bytes, 3}};
+    const ds_items made[7] = {ds_items_u64(u64s, 3),
+                              ds_items_i64(i64s, 2),
+                              ds_items_offsets(bytes, 3, u64s, 3),
+                              ds_items_offsets32(bytes, 3, offsets, 3),
+                              ds_items_strings(strings, 2),
+                              ds_items_words(bytes, 3),
+                              ds_items_lines(bytes, 3)};
+    const ds_items empty[7] = {ds_items_u64(NULL, 0),
+                               ds_items_i64(NULL, 0),
+                               ds_items_offsets(NULL, 0, NULL, 0),
+                               ds_items_offsets32(NULL, 0, NULL, 0),
+                               ds_items_strings(NULL, 0),
+                               ds_items_words(NULL, 0),
+                               ds_items_lines(NULL, 0)};
+
+    holds_only(&made[0], DS_ITEMS_U64, 3, 0, 0, 0, 0, 0);
+    holds_only(&made[1], DS_ITEMS_I64, 0, 2, 0, 0, 0, 0);
+    holds_only(&made[2], DS_ITEMS_OFFSETS, 0, 0, 3, 3, 0, 0);
+    holds_only(&made[3], DS_ITEMS_OFFSETS32, 0, 0, 3, 0, 3, 0);
+    holds_only(&made[4], DS_ITEMS_STRINGS, 0, 0, 0, 0, 0, 2);
+    holds_only(&made[5], DS_ITEMS_WORDS, 0, 0, 3, 0, 0, 0);
+    holds_only(&made[6], DS_ITEMS_LINES, 0, 0, 3, 0, 0, 0);
+    CHECK(made[0].u64s == u64s && made[1].i64s == i64s && made[2].bytes == bytes && made[2].offsets == u64s);
+    CHECK(made[3].bytes == bytes && made[3].offsets32 == offsets && made[4].strings == strings);
+    CHECK(made[5].bytes == bytes && made[6].bytes == bytes);
+    for (int32_t kind = 0; kind < 7; kind++) holds_only(&empty[kind], kind, 0, 0, 0, 0, 0, 0);
 }
 
 /* Names and messages as calls of the library. */
@@ -149,7 +210,7 @@ static void names(void)
     CHECK(strcmp(ds_result_message(DS_NO_SKETCH), "the handle has no sketch") == 0);
     CHECK(strcmp(ds_result_message(DS_BAD_OFFSETS), "offsets missing, descending or out of range") == 0);
     CHECK(strcmp(ds_result_message(DS_BAD_ARGUMENT),
-                 "the same handle twice, or null with a count above 0, in a pair, or as options") == 0);
+                 "items of no kind, the same handle twice, or null where there are values or options") == 0);
 #define IS_NAMED(number, constant, name, message) \
     CHECK(strcmp(ds_result_name(number), name) == 0 && strcmp(ds_result_message(constant), message) == 0);
     DS_SKETCH_ERRORS(IS_NAMED)
@@ -171,7 +232,55 @@ static ds_sketch none = DS_NONE;
 
 static const uint8_t B[1] = {'a'};
 static const uint64_t ENDS[2] = {0, 1};
+static const uint32_t ENDS32[2] = {0, 1};
+static const int64_t NUMBER[1] = {7};
 static const ds_string NULLS[2] = {{B, 1}, {NULL, 0}};
+
+/* One item of each kind, no items of each kind, and items with a null pointer. */
+enum { ITEM_KINDS = 7, MOST_NULLS = 64 };
+
+static ds_items one_item[ITEM_KINDS], no_items[ITEM_KINDS], null_items[MOST_NULLS];
+static size_t num_null_items;
+
+static void make_items(void)
+{
+    const ds_items one[ITEM_KINDS] = {ds_items_u64(ENDS, 1),
+                                      ds_items_i64(NUMBER, 1),
+                                      ds_items_offsets(B, 1, ENDS, 2),
+                                      ds_items_offsets32(B, 1, ENDS32, 2),
+                                      ds_items_strings(NULLS, 1),
+                                      ds_items_words(B, 1),
+                                      ds_items_lines(B, 1)};
+    const ds_items null[] = {ds_items_u64(NULL, 1),
+                             ds_items_i64(NULL, 1),
+                             ds_items_offsets(NULL, 1, ENDS, 2),
+                             ds_items_offsets(B, 1, NULL, 2),
+                             ds_items_offsets32(NULL, 1, ENDS32, 2),
+                             ds_items_offsets32(B, 1, NULL, 2),
+                             ds_items_strings(NULL, 1),
+                             ds_items_strings(NULLS, 2),
+                             ds_items_words(NULL, 1),
+                             ds_items_lines(NULL, 1)};
+    memcpy(one_item, one, sizeof one);
+    memcpy(null_items, null, sizeof null);
+    num_null_items = sizeof null / sizeof *null;
+    for (int32_t kind = 0; kind < ITEM_KINDS; kind++) {
+        no_items[kind] = ds_no_items(kind);
+        if (kind == DS_ITEMS_OFFSETS) no_items[kind] = ds_items_offsets(NULL, 0, ENDS, 1);
+        if (kind == DS_ITEMS_OFFSETS32) no_items[kind] = ds_items_offsets32(NULL, 0, ENDS32, 1);
+        /* the pointers of other kinds are checked too, also without values */
+        for (int pointer = 0; pointer < 6; pointer++) {
+            ds_items *it = &null_items[num_null_items++];
+            *it = one_item[kind];
+            if (pointer == 0) it->u64s = NULL;
+            if (pointer == 1) it->i64s = NULL;
+            if (pointer == 2) it->bytes = NULL;
+            if (pointer == 3) it->offsets = NULL;
+            if (pointer == 4) it->offsets32 = NULL;
+            if (pointer == 5) it->strings = NULL;
+        }
+    }
+}
 
 /* Calls for two sketches, and for a sketch and an array of others. */
 #define JOINS(two) \
@@ -192,40 +301,25 @@ static const ds_string NULLS[2] = {{B, 1}, {NULL, 0}};
     REJECTS(call(&none, NULL, 1, last)); \
     MAKES(call(&none, NULL, 0, last));
 
-/* Calls for many items of each form. */
-#define NUMBERS(call) \
-    REJECTS(call(&none, NULL, 1)); \
-    MAKES(call(&none, NULL, 0));
-#define OFFSETS(call) \
-    REJECTS(call(&none, NULL, 1, ENDS, 2)); \
-    REJECTS(call(&none, B, 1, NULL, 2)); \
-    CHECK(call(&none, NULL, 0, NULL, 0) == DS_BAD_OFFSETS); \
-    MAKES(call(&none, NULL, 0, ENDS, 1));
-#define PAIRS(call) \
-    REJECTS(call(&none, NULL, 1)); \
-    REJECTS(call(&none, NULLS, 2)); \
-    MAKES(call(&none, NULLS, 1)); \
-    MAKES(call(&none, NULL, 0));
+/* Calls for many items. */
+#define MANY(call) \
+    REJECTS(call(&none, NULL)); \
+    for (size_t i = 0; i < num_null_items; i++) REJECTS(call(&none, &null_items[i])); \
+    for (size_t i = 0; i < ITEM_KINDS; i++) { \
+        MAKES(call(&none, &one_item[i])); \
+        MAKES(call(&none, &no_items[i])); \
+    }
 
 /* The same with results or weights: one value of the type. */
-#define NUMBERS_WITH(call, item, type) \
-    REJECTS(call(&none, NULL, 1, &(type){0}, 1)); \
-    REJECTS(call(&none, &(item){0}, 1, NULL, 1)); \
-    CHECK(call(&none, &(item){0}, 1, NULL, 0) == DS_NO_ROOM); \
-    MAKES(call(&none, &(item){0}, 1, &(type){0}, 1)); \
-    MAKES(call(&none, NULL, 0, NULL, 0));
-#define OFFSETS_WITH(call, type) \
-    REJECTS(call(&none, NULL, 1, ENDS, 2, &(type){0}, 1)); \
-    REJECTS(call(&none, B, 1, NULL, 2, &(type){0}, 1)); \
-    REJECTS(call(&none, B, 1, ENDS, 2, NULL, 1)); \
-    CHECK(call(&none, NULL, 0, NULL, 0, NULL, 0) == DS_BAD_OFFSETS); \
-    MAKES(call(&none, B, 1, ENDS, 2, &(type){0}, 1));
-#define PAIRS_WITH(call, type) \
-    REJECTS(call(&none, NULL, 1, &(type){0}, 1)); \
-    REJECTS(call(&none, NULLS, 2, &(type){0}, 1)); \
-    REJECTS(call(&none, NULLS, 1, NULL, 1)); \
-    MAKES(call(&none, NULLS, 1, &(type){0}, 1)); \
-    MAKES(call(&none, NULL, 0, NULL, 0));
+#define MANY_WITH(call, type) \
+    REJECTS(call(&none, NULL, NULL, 0)); \
+    for (size_t i = 0; i < num_null_items; i++) REJECTS(call(&none, &null_items[i], &(type){0}, 1)); \
+    for (size_t i = 0; i < ITEM_KINDS; i++) { \
+        REJECTS(call(&none, &one_item[i], NULL, 1)); \
+        CHECK(call(&none, &one_item[i], NULL, 0) == DS_NO_ROOM); \
+        MAKES(call(&none, &one_item[i], &(type){0}, 1)); \
+        MAKES(call(&none, &no_items[i], NULL, 0)); \
+    }
 
 /* Calls of any kind. */
 static void any_kind(void)
@@ -261,17 +355,21 @@ static void filters(void)
     JOINS(ds_bloom_difference)
     BYTES(ds_bloom_insert_string)
     BYTES(ds_bloom_contains_string)
-    BYTES(ds_bloom_insert_words)
-    BYTES(ds_bloom_insert_lines)
-    NUMBERS(ds_bloom_insert_all_u64)
-    NUMBERS(ds_bloom_insert_all_i64)
-    OFFSETS(ds_bloom_insert_all_string)
-    PAIRS(ds_bloom_insert_all_string_pairs)
-    NUMBERS_WITH(ds_bloom_contains_all_u64, uint64_t, bool)
-    NUMBERS_WITH(ds_bloom_contains_all_i64, int64_t, bool)
-    OFFSETS_WITH(ds_bloom_contains_all_string, bool)
-    PAIRS_WITH(ds_bloom_contains_all_string_pairs, bool)
+    MANY(ds_bloom_insert_all)
+    MANY_WITH(ds_bloom_contains_all, bool)
+    MANY_WITH(ds_bloom_contains_and_insert_all, bool)
+    REJECTS(ds_bloom_image_contains_all(B, 1, NULL, NULL, 0));
+    REJECTS(ds_bloom_image_contains_all(NULL, 1, &one_item[0], &(bool){0}, 1));
+    REJECTS(ds_bloom_image_contains_all(B, 1, &one_item[0], NULL, 1));
+    for (size_t i = 0; i < num_null_items; i++) REJECTS(ds_bloom_image_contains_all(B, 1, &null_items[i], &(bool){0}, 1));
+    for (size_t i = 0; i < ITEM_KINDS; i++)
+        CHECK(ds_bloom_image_contains_all(NULL, 0, &no_items[i], NULL, 0) == DS_INSUFFICIENT_DATA);
 }
+
+/* Calls for Count-Min sketches and frequent items of each kind. */
+static void weights(void){MANY(ds_update_all) MANY_WITH(ds_update_all_weighted, uint64_t)
+                              MANY_WITH(ds_frequent_items_bounds_all, ds_frequent_items_bounds)
+                                  MANY_WITH(ds_count_min_i64_update_all_weighted, int64_t)}
 
 #define COUNTS(kind, weight) \
     static void counts_##kind(void) \
@@ -280,40 +378,22 @@ static void filters(void)
         BYTES_AND(ds_count_min_##kind##_update_string, 1) \
         BYTES_AND(ds_count_min_##kind##_estimate_string, &found) \
         BYTES_AND(ds_count_min_##kind##_upper_bound_string, &found) \
-        BYTES(ds_count_min_##kind##_update_words) \
-        BYTES(ds_count_min_##kind##_update_lines) \
-        NUMBERS(ds_count_min_##kind##_update_all_u64) \
-        NUMBERS(ds_count_min_##kind##_update_all_i64) \
-        OFFSETS(ds_count_min_##kind##_update_all_string) \
-        PAIRS(ds_count_min_##kind##_update_all_string_pairs) \
-        NUMBERS_WITH(ds_count_min_##kind##_update_all_weighted_u64, uint64_t, weight) \
-        NUMBERS_WITH(ds_count_min_##kind##_update_all_weighted_i64, int64_t, weight) \
-        OFFSETS_WITH(ds_count_min_##kind##_update_all_weighted_string, weight) \
-        PAIRS_WITH(ds_count_min_##kind##_update_all_weighted_string_pairs, weight) \
-        NUMBERS_WITH(ds_count_min_##kind##_estimate_all_u64, uint64_t, weight) \
-        NUMBERS_WITH(ds_count_min_##kind##_estimate_all_i64, int64_t, weight) \
-        OFFSETS_WITH(ds_count_min_##kind##_estimate_all_string, weight) \
-        PAIRS_WITH(ds_count_min_##kind##_estimate_all_string_pairs, weight) \
+        MANY_WITH(ds_count_min_##kind##_estimate_all, weight) \
         CHECK(found == 7); \
     }
-COUNTS(u64, uint64_t)
-COUNTS(i64, int64_t)
+COUNTS(u64, uint64_t) COUNTS(i64, int64_t)
 
 #define FREQUENT_NUMBERS(kind, item) \
     static void frequent_##kind(void) \
     { \
         size_t length = 0; \
-        NUMBERS(ds_frequent_items_##kind##_update_all) \
-        NUMBERS_WITH(ds_frequent_items_##kind##_update_all_weighted, item, uint64_t) \
-        NUMBERS_WITH(ds_frequent_items_##kind##_bounds_all, item, ds_frequent_items_bounds) \
         REJECTS(ds_frequent_items_##kind##_rows(&none, true, 0, NULL, 1, &(ds_frequent_items_bounds){0}, 1, &length)); \
         REJECTS(ds_frequent_items_##kind##_rows(&none, true, 0, &(item){0}, 1, NULL, 1, &length)); \
         MAKES(ds_frequent_items_##kind##_rows(&none, true, 0, NULL, 0, NULL, 0, &length)); \
     }
-FREQUENT_NUMBERS(u64, uint64_t)
-FREQUENT_NUMBERS(i64, int64_t)
+    FREQUENT_NUMBERS(u64, uint64_t) FREQUENT_NUMBERS(i64, int64_t)
 
-static void frequent_strings(void)
+        static void frequent_strings(void)
 {
     ds_frequent_items_bounds bounds[1];
     size_t length = 0, count = 0;
@@ -321,14 +401,6 @@ static void frequent_strings(void)
     uint8_t bytes[1];
     BYTES_AND(ds_frequent_items_string_update, 1)
     BYTES_AND(ds_frequent_items_string_bounds, bounds)
-    BYTES(ds_frequent_items_string_update_words)
-    BYTES(ds_frequent_items_string_update_lines)
-    OFFSETS(ds_frequent_items_string_update_all)
-    PAIRS(ds_frequent_items_string_update_all_pairs)
-    OFFSETS_WITH(ds_frequent_items_string_update_all_weighted, uint64_t)
-    PAIRS_WITH(ds_frequent_items_string_update_all_weighted_pairs, uint64_t)
-    OFFSETS_WITH(ds_frequent_items_string_bounds_all, ds_frequent_items_bounds)
-    PAIRS_WITH(ds_frequent_items_string_bounds_all_pairs, ds_frequent_items_bounds)
     REJECTS(ds_frequent_items_string_rows(&none, true, 0, NULL, 1, offsets, 1, bounds, 1, &count, &length));
     REJECTS(ds_frequent_items_string_rows(&none, true, 0, bytes, 1, NULL, 1, bounds, 1, &count, &length));
     REJECTS(ds_frequent_items_string_rows(&none, true, 0, bytes, 1, offsets, 1, NULL, 1, &count, &length));
@@ -347,13 +419,14 @@ static void text(void)
 static void once(void)
 {
     ds_sketch a = DS_NONE, b = DS_NONE, *handle = &a;
-    const uint64_t items[2] = {1, 2}, *item = items;
+    const uint64_t numbers[2] = {1, 2};
+    const ds_items items[2] = {ds_items_u64(numbers, 1), ds_items_u64(numbers + 1, 1)}, *item = items;
     bool found[2] = {false, false}, *result = found;
     size_t evaluated = 0, others = 0;
 
     CHECK(ds_bloom_new(&a, 64, 1, 9001) == DS_OK && ds_bloom_new(&b, 64, 1, 9001) == DS_OK);
-    CHECK(ds_bloom_insert_all_u64((evaluated++, handle), item++, 1) == DS_OK && evaluated == 1 && item == items + 1);
-    CHECK(ds_bloom_contains_all_u64(handle, --item, 1, result++, 1) == DS_OK && found[0] && result == found + 1);
+    CHECK(ds_bloom_insert_all((evaluated++, handle), item++) == DS_OK && evaluated == 1 && item == items + 1);
+    CHECK(ds_bloom_contains_all(handle, --item, result++, 1) == DS_OK && found[0] && result == found + 1);
     CHECK(ds_merge((evaluated++, &b), (others++, &a)) == DS_OK && evaluated == 2 && others == 1);
     ds_free((evaluated++, &a));
     ds_free((evaluated++, &b));
@@ -366,10 +439,13 @@ int main(void)
 {
     commas();
     functions();
+    items();
     names();
 #ifndef DS_NO_CHECKS
+    make_items();
     any_kind();
     filters();
+    weights();
     counts_u64();
     counts_i64();
     frequent_u64();

@@ -1,66 +1,17 @@
 /* Checks `datasketches.hpp`: its members beside the C calls that they make, and known results. Prints the checks that failed. Exits
- * with 1 if there is any. It is compiled with exceptions, and with DATASKETCHES_NO_EXCEPTIONS and -fno-exceptions. */
-#include <datasketches.hpp>
-
+ * with 1 if there is any. It is compiled with exceptions, and with DATASKETCHES_NO_EXCEPTIONS and -fno-exceptions, and so are
+ * `cpp_filters.cpp` and `cpp_images.cpp`. */
 #include <algorithm>
 #include <csignal>
 #include <cstring>
-#include <deque>
-#include <forward_list>
-#include <functional>
 #include <limits>
 #include <list>
 #include <map>
-#include <set>
-#include <sstream>
-#include <string>
 #include <sys/wait.h>
 #include <thread>
 #include <unistd.h>
-#include <vector>
 
-#include "check.h"
-
-namespace ds = datasketches;
-
-/* The error of a call, or DS_OK, and the value of a call that has one, in both forms. */
-#ifdef DATASKETCHES_NO_EXCEPTIONS
-template <class Call> std::int32_t code_of(Call call)
-{
-    auto got = call();
-    return got.ok() ? static_cast<std::int32_t>(DS_OK) : got.code();
-}
-template <class T> T take(ds::result<T> got)
-{
-    return std::move(got).value();
-}
-#else
-template <class Call> std::int32_t code_of(Call call)
-{
-    try {
-        (void)call();
-        return DS_OK;
-    } catch (const ds::error &failed) {
-        return failed.code();
-    }
-}
-template <class T> T take(T got)
-{
-    return got;
-}
-#endif
-
-#define DONE(...) CHECK(code_of([&] { return __VA_ARGS__; }) == DS_OK)
-#define FAILS(code, ...) CHECK(code_of([&] { return __VA_ARGS__; }) == (code))
-
-static const ds::key KEY = {0x0706050403020100, 0x0f0e0d0c0b0a0908};
-using image = std::vector<std::uint8_t>;
-using filter = ds::bloom_filter;
-using counts = ds::count_min_sketch<std::uint64_t>;
-using signed_counts = ds::count_min_sketch<std::int64_t>;
-using strings = ds::frequent_items<std::string>;
-using numbers = ds::frequent_items<std::uint64_t>;
-using signed_numbers = ds::frequent_items<std::int64_t>;
+#include "cpp_check.h"
 
 /* --- What the types say. --- */
 
@@ -77,542 +28,6 @@ static_assert(!std::is_convertible_v<std::size_t, strings> && !std::is_assignabl
 static_assert(!std::is_copy_constructible_v<ds::frequent_rows<std::string>> &&
               std::is_nothrow_move_constructible_v<ds::frequent_rows<std::string>>);
 static_assert(std::is_same_v<decltype(std::declval<numbers &>().clone()), ds::outcome<numbers>>);
-
-/* --- Filters. --- */
-
-static filter new_filter()
-{
-    return take(filter::create(1 << 15, 5));
-}
-
-/* The image of a filter into which C calls insert. */
-template <class Insert> image by_c(Insert insert)
-{
-    ds_sketch handle = DS_NONE;
-    image made(1 << 13);
-    std::size_t written = 0;
-    CHECK(ds_bloom_new(&handle, 1 << 15, 5, 9001) == DS_OK);
-    insert(&handle);
-    CHECK(ds_serialize(&handle, made.data(), made.size(), &written) == DS_OK);
-    made.resize(written);
-    ds_free(&handle);
-    return made;
-}
-
-static image of_strings(const std::vector<std::string> &items)
-{
-    return by_c([&](ds_sketch *handle) {
-        for (auto &item : items)
-            CHECK(ds_bloom_insert_string(handle, reinterpret_cast<const std::uint8_t *>(item.data()), item.size()) == DS_OK);
-    });
-}
-
-static image of_i64(const std::vector<std::int64_t> &items)
-{
-    return by_c([&](ds_sketch *handle) {
-        for (auto item : items) CHECK(ds_bloom_insert_i64(handle, item) == DS_OK);
-    });
-}
-
-static image of_u64(const std::vector<std::uint64_t> &items)
-{
-    return by_c([&](ds_sketch *handle) {
-        for (auto item : items) CHECK(ds_bloom_insert_u64(handle, item) == DS_OK);
-    });
-}
-
-template <class Item> image inserted(const Item &item)
-{
-    filter made = new_filter();
-    DONE(made.insert(item));
-    CHECK(take(made.contains(item)));
-    return take(made.serialize());
-}
-
-template <class Items> image all_inserted(Items &&items)
-{
-    filter made = new_filter();
-    DONE(made.insert_all(items));
-    return take(made.serialize());
-}
-
-static void single_items()
-{
-    const std::string word = "apple";
-    const char chars[] = "apple", *start = chars;
-    CHECK(inserted(word) == of_strings({"apple"}) && inserted("apple") == of_strings({"apple"}));
-    CHECK(inserted(std::string_view(word)) == of_strings({"apple"}) && inserted(start) == of_strings({"apple"}));
-    CHECK(inserted(std::string("a\0b", 3)) == of_strings({std::string("a\0b", 3)}));
-    CHECK(inserted("") == of_strings({""}) && inserted(std::string_view()) == of_strings({""}));
-    CHECK(inserted(static_cast<signed char>(-1)) == of_i64({-1}) && inserted(short{-2}) == of_i64({-2}));
-    CHECK(inserted(-3) == of_i64({-3}));
-    CHECK(inserted(-4L) == of_i64({-4}) && inserted(-5LL) == of_i64({-5}) && inserted(std::uint8_t{255}) == of_u64({255}));
-    CHECK(inserted(std::uint16_t{65535}) == of_u64({65535}) && inserted(~0u) == of_u64({0xffffffff}));
-    CHECK(inserted(~0ul) == of_u64({UINT64_MAX}) && inserted(~0ull) == of_u64({UINT64_MAX}));
-    /* a number from 0 to 2^63 - 1 is the same item in each type */
-    CHECK(inserted(7) == inserted(7ull) && inserted(-1) != inserted(1));
-
-    filter made = new_filter();
-    FAILS(DS_INVALID_UTF8, made.insert("\xff"));
-    FAILS(DS_INVALID_UTF8, made.contains("\xff"));
-    CHECK(!take(made.contains("apple")) && !take(made.contains(7)) && !take(made.contains(7u)));
-}
-
-/* An iterator whose strings live until the next step: it returns temporaries, and says that it is walked once. */
-struct temporaries {
-    using iterator_category = std::input_iterator_tag;
-    using value_type = std::string;
-    using difference_type = std::ptrdiff_t;
-    using pointer = void;
-    using reference = std::string;
-    std::size_t at;
-    std::string operator*() const
-    {
-        return "temporary string number " + std::to_string(at);
-    }
-    temporaries &operator++()
-    {
-        at++;
-        return *this;
-    }
-    bool operator!=(const temporaries &other) const
-    {
-        return at != other.at;
-    }
-    bool operator==(const temporaries &other) const
-    {
-        return at == other.at;
-    }
-};
-
-/* The same, but it says that it is walked more than once. */
-struct repeated_temporaries : temporaries {
-    using iterator_category = std::forward_iterator_tag;
-    repeated_temporaries &operator++()
-    {
-        at++;
-        return *this;
-    }
-};
-
-template <class Iterator> struct between {
-    Iterator first, last;
-    Iterator begin() const
-    {
-        return first;
-    }
-    Iterator end() const
-    {
-        return last;
-    }
-};
-
-/* Ranges of strings of each size around the blocks, and of each kind. */
-static void ranges_of_strings()
-{
-    for (std::size_t count : {0, 1, 2, 1023, 1024, 1025, 2048, 3000}) {
-        std::vector<std::string> items;
-        std::string lines;
-        for (std::size_t i = 0; i < count; i++) {
-            items.push_back("temporary string number " + std::to_string(i));
-            lines += "item" + std::to_string(i) + '\n';
-        }
-        image wanted = of_strings(items);
-        std::vector<std::string_view> views(items.begin(), items.end());
-        std::vector<const char *> pointers;
-        std::vector<ds_string> pairs;
-        std::string bytes;
-        std::vector<std::uint64_t> offsets{0};
-        for (auto &item : items) {
-            pointers.push_back(item.c_str());
-            pairs.push_back({reinterpret_cast<const std::uint8_t *>(item.data()), item.size()});
-            bytes += item;
-            offsets.push_back(bytes.size());
-        }
-        CHECK(all_inserted(items) == wanted && all_inserted(views) == wanted && all_inserted(pointers) == wanted);
-        CHECK(all_inserted(pairs) == wanted && all_inserted(ds::span(pairs.data(), pairs.size())) == wanted);
-        CHECK(all_inserted(ds::offset_strings(bytes, offsets.data(), offsets.size())) == wanted);
-        CHECK(all_inserted(std::list<std::string>(items.begin(), items.end())) == wanted);
-        CHECK(all_inserted(std::forward_list<std::string>(items.begin(), items.end())) == wanted);
-        CHECK(all_inserted(std::set<std::string>(items.begin(), items.end())) == wanted);
-        CHECK(all_inserted(between<temporaries>{{0}, {count}}) == wanted);
-        CHECK(all_inserted(between<repeated_temporaries>{{{0}}, {{count}}}) == wanted);
-        /* this iterator keeps one string, and returns a reference to it */
-        std::istringstream stream(lines);
-        std::vector<std::string> words;
-        for (std::size_t i = 0; i < count; i++) words.push_back("item" + std::to_string(i));
-        CHECK(all_inserted(between<std::istream_iterator<std::string>>{std::istream_iterator<std::string>(stream), {}}) ==
-              of_strings(words));
-
-        /* results: a vector, and a range of the caller's */
-        filter made = new_filter();
-        for (std::size_t i = 0; i < count; i += 3) DONE(made.insert(items[i]));
-        std::unique_ptr<bool[]> found(new bool[count + 1]());
-        bool same = true;
-        auto returned = take(made.contains_all(std::list<std::string>(items.begin(), items.end())));
-        DONE(made.contains_all(views, ds::span(found.get(), count)));
-        CHECK(returned.size() == count && take(made.contains_all(pairs)) == returned);
-        CHECK(take(made.contains_all(ds::offset_strings(bytes, offsets.data(), offsets.size()))) == returned);
-        for (std::size_t i = 0; i < count; i++)
-            same &= returned[i] == found[i] && found[i] == take(made.contains(items[i])) && (found[i] || i % 3 != 0);
-        CHECK(same);
-        found[count] = true;
-        FAILS(DS_NO_ROOM, made.contains_all(views, ds::span(found.get(), count + 1)));
-        FAILS(DS_NO_ROOM, made.contains_all(pairs, ds::span(found.get(), count + 1)));
-        CHECK(found[count]);
-    }
-    filter made = new_filter();
-    std::vector<std::string> bad(2000, "apple");
-    bad[1500] = "\xff";
-    FAILS(DS_INVALID_UTF8, made.insert_all(bad));
-    CHECK(take(made.contains("apple")));
-    made = new_filter();
-    bad[3] = "\xff";
-    FAILS(DS_INVALID_UTF8, made.insert_all(bad));
-    CHECK(!take(made.contains("apple")));
-    const std::uint64_t descending[3] = {0, 2, 1};
-    FAILS(DS_BAD_OFFSETS, made.insert_all(ds::offset_strings("abc", descending, 3)));
-    FAILS(DS_BAD_OFFSETS, made.insert_all(ds::offset_strings("", nullptr, 0)));
-    FAILS(DS_BAD_ARGUMENT, made.insert_all(ds::offset_strings("", nullptr, 3)));
-    FAILS(DS_BAD_ARGUMENT, made.insert_all(ds::span(static_cast<const ds_string *>(nullptr), 1)));
-    const char *none = nullptr;
-    FAILS(DS_BAD_ARGUMENT, made.insert_all(std::vector<std::string_view>{std::string_view(none, 1)}));
-    DONE(made.insert_all(std::vector<std::string_view>{std::string_view()}));
-    CHECK(take(made.contains("")));
-    made = new_filter();
-    DONE(made.insert_all({"pear", ""}));
-    DONE(made.insert_all({std::string("plum")}));
-    CHECK(take(made.contains_all({"pear", "", "plum", "apple"})) == std::vector<bool>{true, true, true, false});
-}
-
-template <class T> void ranges_of_numbers()
-{
-    for (std::size_t count : {0, 1, 1023, 1024, 1025, 2500}) {
-        std::vector<T> items(count);
-        for (std::size_t i = 0; i < count; i++) items[i] = static_cast<T>(i * 2654435761u - 77);
-        std::vector<std::int64_t> as_i64(items.begin(), items.end());
-        std::vector<std::uint64_t> as_u64(items.begin(), items.end());
-        image wanted = std::is_signed_v<T> ? of_i64(as_i64) : of_u64(as_u64);
-        const std::vector<T> &fixed = items;
-        CHECK(all_inserted(items) == wanted && all_inserted(fixed) == wanted);
-        CHECK(all_inserted(std::deque<T>(items.begin(), items.end())) == wanted);
-        CHECK(all_inserted(std::list<T>(items.begin(), items.end())) == wanted);
-        CHECK(all_inserted(ds::span(items.data(), count)) == wanted && all_inserted(ds::span(fixed.data(), count)) == wanted);
-
-        filter made = new_filter();
-        DONE(made.insert_all(ds::span(items.data(), count / 2)));
-        std::unique_ptr<bool[]> found(new bool[count + 1]());
-        auto returned = take(made.contains_all(items));
-        DONE(made.contains_all(std::list<T>(items.begin(), items.end()), ds::span(found.get(), count)));
-        bool same = true;
-        for (std::size_t i = 0; i < count; i++)
-            same &= returned[i] == found[i] && found[i] == take(made.contains(items[i])) && (found[i] || i >= count / 2);
-        CHECK(same && returned.size() == count);
-        FAILS(DS_NO_ROOM, made.contains_all(items, ds::span(found.get(), count + 1)));
-        if (count > 0) FAILS(DS_BAD_ARGUMENT, made.contains_all(items, ds::span(static_cast<bool *>(nullptr), count)));
-    }
-    filter made = new_filter();
-    if (sizeof(T) == 8) FAILS(DS_BAD_ARGUMENT, made.insert_all(ds::span(static_cast<const T *>(nullptr), 1)));
-    T some[3] = {1, 2, 3};
-    bool found[4];
-    DONE(made.insert_all(some));
-    DONE(made.insert_all({T{9}}));
-    DONE(made.contains_all(std::array<T, 4>{1, 9, 3, 77}, found));
-    CHECK(found[0] && found[1] && found[2] && !found[3]);
-}
-
-/* A handle of `datasketches.h` and its macros, in C++: arguments with commas too. */
-static void c_calls()
-{
-    filter made = new_filter();
-    CHECK(ds_bloom_insert_all_u64(made.get(), std::array<std::uint64_t, 2>{1, 2}.data(), 2) == DS_OK);
-    CHECK(take(made.contains(2)) && ds_bloom_insert_all_u64(made.get(), nullptr, 1) == DS_BAD_ARGUMENT);
-    /* a call may put a sketch of another kind into the handle */
-    CHECK(ds_count_min_new(made.get(), DS_COUNT_MIN_U64, 3, 64, 9001) == DS_OK);
-    FAILS(DS_WRONG_KIND, made.insert(1));
-    ds_free(nullptr);
-}
-
-static void filters()
-{
-    filter a = new_filter(), b = new_filter();
-    CHECK(take(filter::suggest_num_bits(1000, 100)) == 9603 && take(filter::suggest_num_hashes(9603, 1000)) == 7);
-    FAILS(DS_BAD_NUM_BITS, filter::suggest_num_bits(0, 100));
-    FAILS(DS_BAD_NUM_HASHES, filter::suggest_num_hashes(9603, 0));
-    FAILS(DS_BAD_NUM_BITS, filter::create(0, 7));
-    FAILS(DS_BAD_NUM_HASHES, filter::create(64, 0));
-    DONE(a.insert_words("to be\tor not"));
-    DONE(b.insert_lines("to be\r\nor not"));
-    CHECK(take(a.serialize()) == of_strings({"to", "be", "or", "not"}));
-    CHECK(take(b.serialize()) == of_strings({"to be", "or not"}));
-    FAILS(DS_INVALID_UTF8, a.insert_words("to \xff"));
-    DONE(a.insert_lines(std::string_view()));
-
-    filter joined = take(a.clone());
-    DONE(joined.merge(b));
-    CHECK(take(joined.serialize()) == of_strings({"to", "be", "or", "not", "to be", "or not"}));
-    CHECK(!take(a.contains("to be")) && take(b.contains("to be")));
-    CHECK(!take(a.equal(b)) && !take(a.equal(joined)));
-    DONE(joined.intersect(a));
-    CHECK(take(joined.equal(a)) && take(a.equal(joined)));
-    DONE(joined.difference(a));
-    CHECK(take(joined.status()).bits_used == 0 && take(a.status()).bits_used > 0);
-    FAILS(DS_BAD_ARGUMENT, a.merge(a));
-    FAILS(DS_BAD_ARGUMENT, a.intersect(a));
-    FAILS(DS_BAD_ARGUMENT, a.difference(a));
-    FAILS(DS_BAD_ARGUMENT, a.equal(a));
-    filter other = take(filter::create(64, 3, 7));
-    FAILS(DS_MISMATCH, a.merge(other));
-    auto status = take(other.status());
-    CHECK(status.num_bits == 64 && status.num_hashes == 3 && status.seed == 7 && take(a.status()).seed == 9001);
-    CHECK(take(other.memory_bytes()) == 8 && take(a.memory_bytes()) == 1 << 12);
-
-    /* many filters, in a vector and in an array */
-    std::vector<filter> many;
-    for (int i = 0; i < 9; i++) {
-        many.push_back(new_filter());
-        DONE(many.back().insert(i));
-    }
-    filter all = new_filter();
-    DONE(all.merge_all(many));
-    CHECK(take(all.serialize()) == of_i64({0, 1, 2, 3, 4, 5, 6, 7, 8}) && take(many[3].serialize()) == of_i64({3}));
-    DONE(many[0].merge_all(ds::span(&many[1], 2)));
-    CHECK(take(many[0].serialize()) == of_i64({0, 1, 2}));
-    FAILS(DS_BAD_ARGUMENT, many[4].merge_all(many));
-    filter few[2];
-    FAILS(DS_NO_SKETCH, all.merge_all(few));
-    DONE(all.merge_all(std::vector<filter>()));
-    DONE(all.reset());
-    CHECK(take(all.status()).bits_used == 0);
-}
-
-/* Images: the same as the C call's, in a vector and in a buffer, and read from each kind of range. */
-static void images()
-{
-    filter made = new_filter(), empty = new_filter();
-    DONE(made.insert_all({1, 2, 3}));
-    image written = take(made.serialize());
-    CHECK(take(made.serialized_size()) == written.size() && written.size() == 32 + 4096 && take(empty.serialized_size()) == 24);
-    image buffer(written.size() + 8, 0xaa);
-    CHECK(take(made.serialize(buffer.data(), buffer.size())) == written.size());
-    CHECK(std::equal(written.begin(), written.end(), buffer.begin()) && buffer.back() == 0xaa);
-    FAILS(DS_NO_ROOM, made.serialize(buffer.data(), written.size() - 1));
-    FAILS(DS_BAD_ARGUMENT, made.serialize(nullptr, 1));
-    FAILS(DS_NO_SKETCH, filter().serialize());
-    FAILS(DS_NO_SKETCH, filter().serialized_size());
-
-    filter read = take(filter::deserialize(written.data(), written.size(), 4096));
-    CHECK(take(read.equal(made)) && take(read.contains(3)) && !take(read.contains(4)));
-    FAILS(DS_TABLE_TOO_LARGE, filter::deserialize(written.data(), written.size(), 4095));
-    FAILS(DS_INSUFFICIENT_DATA, filter::deserialize(written.data(), written.size() - 1, 4096));
-    FAILS(DS_INSUFFICIENT_DATA, filter::deserialize(image(), 4096));
-    FAILS(DS_BAD_ARGUMENT, filter::deserialize(nullptr, 1, 4096));
-    std::string chars(written.begin(), written.end());
-    std::vector<std::byte> bytes(written.size());
-    std::memcpy(bytes.data(), written.data(), written.size());
-    read = take(filter::deserialize(chars, 4096));
-    empty = take(filter::deserialize(bytes, 4096));
-    CHECK(take(read.equal(made)) && take(empty.equal(made)));
-    FAILS(DS_TABLE_TOO_LARGE, filter::deserialize(written, 4095));
-
-    counts count = take(counts::create(3, 64, 7));
-    DONE(count.update("a", 5u));
-    written = take(count.serialize());
-    CHECK(written.size() == 24 + 3 * 64 * 8 && take(count.serialized_size()) == written.size());
-    CHECK(take(take(counts::deserialize(written, {1 << 14, 7})).equal(count)));
-    CHECK(take(take(counts::deserialize(written.data(), written.size(), {1 << 14, 7})).equal(count)));
-    FAILS(DS_SEED_HASH_MISMATCH, counts::deserialize(written, 1 << 14));
-    FAILS(DS_SEED_HASH_MISMATCH, counts::deserialize(written, {1 << 14, 9001}));
-    FAILS(DS_TABLE_TOO_LARGE, counts::deserialize(written, {3 * 64 * 8, 7}));
-    CHECK(take(count.serialize(buffer.data(), buffer.size())) == written.size());
-    FAILS(DS_BAD_ARGUMENT, counts::deserialize(nullptr, 1, {1 << 14, 7}));
-
-    /* a sketch of strings whose image is long, and one whose table is large and holds little */
-    strings heavy = take(strings::create(1 << 10)), wide = take(strings::create(8));
-    for (int i = 0; i < 500; i++) DONE(heavy.update("item " + std::to_string(i)));
-    DONE(wide.update(std::string(100000, 'x')));
-    for (strings *it : {&heavy, &wide}) {
-        written = take(it->serialize());
-        CHECK(written.size() == take(it->serialized_size()));
-        strings same = take(strings::deserialize(written, 1 << 20)), keyed = take(strings::deserialize(written, {1 << 20, KEY}));
-        CHECK(take(same.status()).total_weight == take(it->status()).total_weight);
-        CHECK(take(keyed.status()).num_active_items == take(it->status()).num_active_items);
-        FAILS(DS_TABLE_TOO_LARGE, strings::deserialize(written.data(), written.size(), 10));
-        FAILS(DS_TABLE_TOO_LARGE, strings::deserialize(written.data(), written.size(), {10, KEY}));
-    }
-}
-
-/* Appends a copy of some bytes. */
-static void append(image &all, const image &more)
-{
-    all.insert(all.end(), more.begin(), more.end());
-}
-
-/* Images one after another, of two sketches of items and of an empty one, each read from the front of the rest. */
-template <class T> static void frequent_prefixes(const T &first, const T &second)
-{
-    using sketch = ds::frequent_items<T>;
-    sketch one = take(sketch::create(64)), two = take(sketch::create(8)), none = take(sketch::create(8));
-    image all;
-    DONE(one.update(first, 5u));
-    DONE(one.update(second, 7u));
-    DONE(two.update(second, 9u));
-    for (sketch *it : {&one, &none, &two}) {
-        image written = take(it->serialize());
-        CHECK(take(it->serialized_size()) == written.size());
-        append(all, written);
-    }
-    auto [read, used] = take(sketch::deserialize_prefix(all, 1 << 20));
-    CHECK(used == take(one.serialized_size()) && take(read.bounds(first)).lower_bound == 5);
-    CHECK(take(read.bounds(second)).upper_bound == 7 && take(read.status()).total_weight == 12);
-    auto [empty, more] = take(sketch::deserialize_prefix(all.data() + used, all.size() - used, 1 << 20));
-    CHECK(more == 8 && take(empty.status()).total_weight == 0 && take(empty.status()).max_map_size == 8);
-    const ds::span rest(all.data() + used + more, all.size() - used - more);
-    auto [last, end] = take(sketch::deserialize_prefix(rest, {1 << 20, KEY}));
-    CHECK(end == rest.size() && take(last.bounds(second)).upper_bound == 9);
-    CHECK(take(last.serialize()) == take(take(sketch::deserialize(rest, {1 << 20, KEY})).serialize()));
-    FAILS(DS_INSUFFICIENT_DATA, sketch::deserialize_prefix(rest.data(), rest.size() - 1, {1 << 20, KEY}));
-    FAILS(DS_INSUFFICIENT_DATA, sketch::deserialize_prefix(image(), 1 << 20));
-    FAILS(DS_TABLE_TOO_LARGE, sketch::deserialize_prefix(all, 10));
-    FAILS(DS_TABLE_TOO_LARGE, sketch::deserialize_prefix(all, {10, KEY}));
-    FAILS(DS_BAD_ARGUMENT, sketch::deserialize_prefix(nullptr, 1, 1 << 20));
-    FAILS(DS_BAD_ARGUMENT, sketch::deserialize_prefix(nullptr, 1, {1 << 20, KEY}));
-    FAILS(DS_NO_SKETCH, sketch().serialize());
-    FAILS(DS_NO_SKETCH, sketch().serialized_size());
-}
-
-/* The same for filters and counts. */
-static void prefixes()
-{
-    filter one = new_filter(), none = take(filter::create(64, 1));
-    DONE(one.insert_all({1, 2, 3}));
-    image all = take(none.serialize());
-    append(all, take(one.serialize()));
-    append(all, image(9, 0xff));
-    ds::prefix<filter> found = take(filter::deserialize_prefix(all, 8));
-    CHECK(found.used == 24 && take(found.sketch.equal(none)));
-    auto [read, used] = take(filter::deserialize_prefix(all.data() + 24, all.size() - 24, 4096));
-    CHECK(used == 32 + 4096 && take(read.equal(one)));
-    FAILS(DS_TABLE_TOO_LARGE, filter::deserialize_prefix(all.data() + 24, all.size() - 24, 4095));
-    FAILS(DS_INSUFFICIENT_DATA, filter::deserialize_prefix(all.data() + 24, 32 + 4095, 4096));
-    FAILS(DS_INSUFFICIENT_DATA, filter::deserialize_prefix(std::string(), 4096));
-    FAILS(DS_BAD_ARGUMENT, filter::deserialize_prefix(nullptr, 1, 4096));
-
-    counts count = take(counts::create(3, 64, 7));
-    signed_counts below = take(signed_counts::create(2, 8, 7));
-    DONE(count.update("a", 5u));
-    DONE(below.update("a", -5));
-    all = take(count.serialize());
-    append(all, take(below.serialize()));
-    auto [first, length] = take(counts::deserialize_prefix(all, {1 << 14, 7}));
-    CHECK(length == 24 + 3 * 64 * 8 && take(first.equal(count)));
-    auto [second, rest] = take(signed_counts::deserialize_prefix(all.data() + length, all.size() - length, {1 << 14, 7}));
-    CHECK(rest == all.size() - length && take(second.equal(below)));
-    FAILS(DS_SEED_HASH_MISMATCH, counts::deserialize_prefix(all, 1 << 14));
-    FAILS(DS_TABLE_TOO_LARGE, counts::deserialize_prefix(all, {3 * 64 * 8, 7}));
-    FAILS(DS_BAD_ARGUMENT, signed_counts::deserialize_prefix(nullptr, 1, {1 << 14, 7}));
-
-    frequent_prefixes<std::string>("apple", "");
-    frequent_prefixes<std::uint64_t>(1, UINT64_MAX);
-    frequent_prefixes<std::int64_t>(1, INT64_MIN);
-}
-
-/* Images in place: the results of the sketches that are read from them, from each kind of range, and at an odd address. */
-static void images_in_place()
-{
-    filter made = new_filter(), empty = new_filter();
-    DONE(made.insert_all({1, 2, 3}));
-    DONE(made.insert_all({"a", "bc"}));
-    image written = take(made.serialize()), nothing = take(empty.serialize());
-    image shifted(written.size() + 1);
-    std::copy(written.begin(), written.end(), shifted.begin() + 1);
-    const ds::bloom_filter_image one(written), two(shifted.data() + 1, written.size());
-    const ds::bloom_filter_image of_span(ds::span(written.data(), written.size()));
-    const std::string chars(written.begin(), written.end());
-    const ds::bloom_filter_image of_chars(chars), of_view{std::string_view(chars)}, of_empty(nothing);
-    for (const auto *it : {&one, &two, &of_span, &of_chars, &of_view}) {
-        for (int i = -20; i < 20; i++) CHECK(take(it->contains(i)) == take(made.contains(i)));
-        for (unsigned i = 0; i < 20; i++) CHECK(take(it->contains(i)) == take(made.contains(i)));
-        for (const char *string : {"", "a", "b", "bc", "c"}) CHECK(take(it->contains(string)) == take(made.contains(string)));
-    }
-    CHECK(take(one.contains(std::string_view())) == take(made.contains("")) && !take(of_empty.contains(1)));
-    CHECK(one.bytes().data() == written.data() && one.bytes().size() == written.size());
-    FAILS(DS_INVALID_UTF8, one.contains("\xff"));
-    FAILS(DS_INSUFFICIENT_DATA, ds::bloom_filter_image(written.data(), written.size() - 1).contains(1));
-    FAILS(DS_INSUFFICIENT_DATA, ds::bloom_filter_image(nullptr, 0).contains(1));
-    FAILS(DS_BAD_ARGUMENT, ds::bloom_filter_image(nullptr, 1).contains(1));
-    FAILS(DS_BAD_ARGUMENT, ds::bloom_filter_image(nullptr, 1).contains(1u));
-    FAILS(DS_BAD_ARGUMENT, ds::bloom_filter_image(nullptr, 1).contains("a"));
-    written[2] = 0;
-    FAILS(DS_BAD_FAMILY, one.contains(1));
-}
-
-template <class W> static void counts_in_place()
-{
-    using sketch = ds::count_min_sketch<W>;
-    sketch made = take(sketch::create(3, 16, 7));
-    for (W i = 0; i < 9; i++) DONE(made.update(i, i));
-    DONE(made.update(-3, W{4}));
-    DONE(made.update("abc", W{5}));
-    image written = take(made.serialize()), shifted(written.size() + 1);
-    std::copy(written.begin(), written.end(), shifted.begin() + 1);
-    const ds::count_min_image<W> one(written, 7), two(shifted.data() + 1, written.size(), 7);
-    for (const auto *it : {&one, &two}) {
-        for (int i = -20; i < 20; i++) CHECK(take(it->estimate(i)) == take(made.estimate(i)));
-        for (unsigned i = 0; i < 20; i++) CHECK(take(it->estimate(i)) == take(made.estimate(i)));
-        for (const char *string : {"", "abc", "b"}) CHECK(take(it->estimate(string)) == take(made.estimate(string)));
-    }
-    CHECK(one.bytes().data() == written.data() && two.bytes().size() == written.size());
-    FAILS(DS_SEED_HASH_MISMATCH, ds::count_min_image<W>(written).estimate(1));
-    FAILS(DS_INVALID_UTF8, one.estimate("\xff"));
-    FAILS(DS_INSUFFICIENT_DATA, ds::count_min_image<W>(nullptr, 0).estimate(1));
-    FAILS(DS_BAD_ARGUMENT, ds::count_min_image<W>(nullptr, 1).estimate("a"));
-    sketch other = take(sketch::create(3, 16));
-    image empty = take(other.serialize());
-    CHECK(empty.size() == 16 && take(ds::count_min_image<W>(empty).estimate("abc")) == 0);
-}
-
-/* Inserts that return whether the item was there: as a query and an insert, in each form of items. */
-static void contains_and_inserts()
-{
-    filter loop = take(filter::create(640, 3)), one = take(loop.clone());
-    auto is_as_loop = [&](const auto &item) {
-        bool there = take(loop.contains(item));
-        DONE(loop.insert(item));
-        return take(one.contains_and_insert(item)) == there;
-    };
-    for (int i = -30; i < 30; i++) CHECK(is_as_loop(i * i % 17) && is_as_loop(i));
-    for (const char *string : {"a", "b", "a", ""}) CHECK(is_as_loop(string));
-    CHECK(take(loop.equal(one)));
-    std::vector<std::string> words;
-    std::vector<std::uint64_t> items;
-    std::list<std::int16_t> small;
-    for (int i = 0; i < 2500; i++) {
-        words.push_back("word " + std::to_string(i % 700));
-        items.push_back(static_cast<std::uint64_t>(i) % 900);
-        small.push_back(static_cast<std::int16_t>(i % 1200 - 40));
-    }
-    auto are_as_loop = [](const auto &range) {
-        filter a = take(filter::create(1 << 14, 3)), b = take(a.clone()), c = take(a.clone());
-        std::vector<bool> wanted;
-        for (const auto &item : range) wanted.push_back(take(a.contains_and_insert(item)));
-        std::unique_ptr<bool[]> results(new bool[wanted.size()]);
-        DONE(b.contains_and_insert_all(range, ds::span(results.get(), wanted.size())));
-        CHECK(take(c.contains_and_insert_all(range)) == wanted && std::equal(wanted.begin(), wanted.end(), results.get()));
-        CHECK(take(a.equal(b)) && take(a.equal(c)) && wanted.back() && !wanted.front());
-        FAILS(DS_NO_ROOM, b.contains_and_insert_all(range, ds::span(results.get(), wanted.size() - 1)));
-    };
-    are_as_loop(words);
-    are_as_loop(items);
-    are_as_loop(small);
-    filter a = take(filter::create(640, 3));
-    CHECK(take(a.contains_and_insert_all({7, 8, 7})) == std::vector<bool>{false, false, true});
-    const std::uint64_t offsets[] = {0, 2, 4, 5};
-    CHECK(take(a.contains_and_insert_all(ds::offset_strings("abab", offsets, 3))) == std::vector<bool>{false, true});
-    FAILS(DS_BAD_OFFSETS, a.contains_and_insert_all(ds::offset_strings("abab", offsets, 4)));
-    FAILS(DS_INVALID_UTF8, a.contains_and_insert("\xff"));
-    FAILS(DS_NO_SKETCH, filter().contains_and_insert(1));
-}
 
 /* --- Shares. --- */
 
@@ -760,8 +175,8 @@ template <class W> void count_min()
     FAILS(DS_INVALID_UTF8, a.estimate("\xff"));
     FAILS(DS_INVALID_UTF8, a.upper_bound("\xff"));
 
-    DONE(b.update_words("apple pear apple"));
-    DONE(b.update_lines("apple\nplum tree"));
+    DONE(b.update_all(ds::words("apple pear apple")));
+    DONE(b.update_all(ds::lines("apple\nplum tree")));
     CHECK(take(b.estimate_all({"apple", "pear", "plum tree", "plum"})) == std::vector<W>{3, 1, 1, 0});
     CHECK(!take(a.equal(b)) && take(take(b.clone()).equal(b)));
     DONE(a.merge(b));
@@ -787,6 +202,7 @@ template <class W> void count_min()
     const std::vector<std::string> words{"a", "b", "a"};
     const std::vector<W> weights{5, 6, 7}, fewer{5, 6};
     const std::uint64_t ends[4] = {0, 1, 2, 3};
+    const std::uint32_t ends32[4] = {0, 1, 2, 3};
     auto same = [&](auto &&items, auto item, W of_one, auto &&...some) {
         sketch made = take(sketch::create(4, 1 << 12));
         W found[3] = {};
@@ -803,21 +219,38 @@ template <class W> void count_min()
     same(ints, 1, 2);
     same(words, "a", 2);
     same(ds::offset_strings("aba", ends, 4), "a", 2);
+    same(ds::offset_strings("aba", ends32, 4), "a", 2);
+    same(ds::words("a b a"), "a", 2);
+    same(ds::lines("a\nb\na"), "a", 2);
     same(unsigned_items, 1u, 12, weights);
     same(signed_items, 1, 12, weights);
     same(ints, 1, 12, weights);
     same(words, "a", 12, weights);
     same(std::list<const char *>{"a", "b", "a"}, "a", 12, weights);
     same(ds::offset_strings("aba", ends, 4), "a", 12, ds::span(weights.data(), weights.size()));
+    same(ds::offset_strings("aba", ends32, 4), "a", 12, weights);
+    same(ds::words("a b a"), "a", 12, weights);
+    same(ds::lines("a\nb\na"), "a", 12, weights);
 
     /* items that are passed whole are one call: the last weight overflows, and none is added. Of 3000 strings the first two blocks
      * of 1024 are added. */
     sketch made = take(sketch::create(3, 64));
     std::vector<std::uint64_t> whole(3000, 7);
+    std::vector<long long> whole_signed(3000, 7);
+    std::string text;
+    std::vector<std::uint32_t> offsets{0};
+    for (int i = 0; i < 3000; i++) {
+        text += "7\n";
+        offsets.push_back(static_cast<std::uint32_t>(text.size()));
+    }
     std::vector<std::string> parts(3000, "7");
     std::vector<W> heavy(3000, 1);
     heavy[2999] = std::numeric_limits<W>::max();
     FAILS(DS_WEIGHT_OVERFLOW, made.update_all(whole, heavy));
+    FAILS(DS_WEIGHT_OVERFLOW, made.update_all(whole_signed, heavy));
+    FAILS(DS_WEIGHT_OVERFLOW, made.update_all(ds::offset_strings(text, offsets.data(), offsets.size()), heavy));
+    FAILS(DS_WEIGHT_OVERFLOW, made.update_all(ds::words(text), heavy));
+    FAILS(DS_WEIGHT_OVERFLOW, made.update_all(ds::lines(text), heavy));
     CHECK(take(made.status()).total_weight == 0);
     FAILS(DS_WEIGHT_OVERFLOW, made.update_all(parts, heavy));
     CHECK(take(made.status()).total_weight == 2048 && take(made.estimate("7")) == 2048);
@@ -977,11 +410,11 @@ static void frequent_strings()
     strings made = take(strings::create(64));
     const std::uint64_t ends[4] = {0, 1, 2, 3}, weights[3] = {5, 6, 7};
     ds_frequent_items_bounds found[3];
-    DONE(made.update_words("to be or not to be"));
-    DONE(made.update_lines("to\nbe here"));
+    DONE(made.update_all(ds::words("to be or not to be")));
+    DONE(made.update_all(ds::lines("to\nbe here")));
     CHECK(take(made.bounds("to")).estimate == 3 && take(made.bounds(std::string_view("or"))).estimate == 1);
     CHECK(take(made.bounds("be here")).estimate == 1 && take(made.bounds("here")).estimate == 0);
-    FAILS(DS_INVALID_UTF8, made.update_words("\xff"));
+    FAILS(DS_INVALID_UTF8, made.update_all(ds::words("\xff")));
     FAILS(DS_INVALID_UTF8, made.update("\xff"));
     FAILS(DS_INVALID_UTF8, made.bounds("\xff"));
     DONE(made.update_all(ds::offset_strings("aba", ends, 4)));
@@ -1092,23 +525,6 @@ static void errors()
 
 int main()
 {
-    single_items();
-    ranges_of_strings();
-    ranges_of_numbers<std::uint64_t>();
-    ranges_of_numbers<std::int64_t>();
-    ranges_of_numbers<unsigned long long>();
-    ranges_of_numbers<long long>();
-    ranges_of_numbers<int>();
-    ranges_of_numbers<std::uint16_t>();
-    ranges_of_numbers<signed char>();
-    c_calls();
-    filters();
-    images();
-    prefixes();
-    images_in_place();
-    counts_in_place<std::uint64_t>();
-    counts_in_place<std::int64_t>();
-    contains_and_inserts();
     moves<counts>([] { return take(counts::create(3, 64)); });
     moves<signed_counts>([] { return take(signed_counts::create(3, 64)); });
     moves<numbers>([] { return take(numbers::create(64, 48, KEY)); });

@@ -5,29 +5,34 @@
 #include <string.h>
 
 #include "check.h"
+#include "forms.h"
 #include "options.h"
 
-enum { ITEMS = 96 };
+enum { ITEMS = 96, ITEM_KINDS = 7 };
 
 static uint64_t numbers[ITEMS];
 static int64_t with_sign[ITEMS];
 
-/* Strings of one to eight bytes, one after the other, and the same as pairs. */
-static uint8_t bytes[8 * ITEMS];
-static uint64_t offsets[ITEMS + 1];
-static ds_string pairs[ITEMS];
+/* Strings of one to eight bytes. */
+static struct forms forms;
+
+/* The items of each kind. */
+static ds_items items[ITEM_KINDS];
 
 /* Half of the numbers come twice, and some have a sign. */
 static void make_items(void)
 {
+    clear_forms(&forms);
     for (size_t i = 0; i < ITEMS; i++) {
+        uint8_t letters[8];
         numbers[i] = i % (ITEMS / 2) * 0x9e3779b97f4a7c15u;
         with_sign[i] = (int64_t)(i % (ITEMS / 2)) - 20;
-        size_t length = 1 + i % 8;
-        memset(bytes + offsets[i], (int)('a' + i % 20), length);
-        pairs[i] = (ds_string){bytes + offsets[i], length};
-        offsets[i + 1] = offsets[i] + length;
+        memset(letters, (int)('a' + i % 20), sizeof letters);
+        add_string(&forms, letters, 1 + i % 8);
     }
+    items[DS_ITEMS_U64] = ds_items_u64(numbers, ITEMS);
+    items[DS_ITEMS_I64] = ds_items_i64(with_sign, ITEMS);
+    for (int32_t kind = DS_ITEMS_OFFSETS; kind < ITEM_KINDS; kind++) items[kind] = strings_of(&forms, kind, 0, ITEMS);
 }
 
 /* Returns a copy of an image at the end of a block, `shift` bytes behind its start. The block ends where the image does. */
@@ -54,20 +59,22 @@ static void filter_in_place(ds_sketch *filter)
         const uint8_t *at = placed(image, length, shift, &block);
         CHECK(ds_deserialize(&read, DS_BLOOM, at, length, WITHIN(1 << 20)) == DS_OK);
         for (size_t i = 0; i < ITEMS; i++) {
-            const ds_string *string = &pairs[i];
+            const ds_string *string = &forms.strings[i];
             CHECK(ds_bloom_image_contains_u64(at, length, numbers[i]) == ds_bloom_contains_u64(&read, numbers[i]));
             CHECK(ds_bloom_image_contains_i64(at, length, with_sign[i]) == ds_bloom_contains_i64(&read, with_sign[i]));
             CHECK(ds_bloom_image_contains_string(at, length, string->bytes, string->length) ==
                   ds_bloom_contains_string(&read, string->bytes, string->length));
         }
-        CHECK(ds_bloom_image_contains_all_u64(at, length, numbers, ITEMS, got, ITEMS) == DS_OK);
-        CHECK(ds_bloom_contains_all_u64(&read, numbers, ITEMS, wanted, ITEMS) == DS_OK && !memcmp(got, wanted, sizeof got));
-        CHECK(ds_bloom_image_contains_all_i64(at, length, with_sign, ITEMS, got, ITEMS) == DS_OK);
-        CHECK(ds_bloom_contains_all_i64(&read, with_sign, ITEMS, wanted, ITEMS) == DS_OK && !memcmp(got, wanted, sizeof got));
+        for (int32_t kind = 0; kind < ITEM_KINDS; kind++) {
+            CHECK(ds_bloom_image_contains_all(at, length, &items[kind], got, ITEMS) == DS_OK);
+            CHECK(ds_bloom_contains_all(&read, &items[kind], wanted, ITEMS) == DS_OK && !memcmp(got, wanted, sizeof got));
+        }
         /* no result is written without room, or for a bad image */
         memset(got, true, sizeof got);
-        CHECK(ds_bloom_image_contains_all_u64(at, length, numbers, ITEMS, got, ITEMS - 1) == DS_NO_ROOM);
-        CHECK(ds_bloom_image_contains_all_i64(at, length - 1, with_sign, ITEMS, got, ITEMS) == DS_INSUFFICIENT_DATA);
+        for (int32_t kind = 0; kind < ITEM_KINDS; kind++) {
+            CHECK(ds_bloom_image_contains_all(at, length, &items[kind], got, ITEMS - 1) == DS_NO_ROOM);
+            CHECK(ds_bloom_image_contains_all(at, length - 1, &items[kind], got, ITEMS) == DS_INSUFFICIENT_DATA);
+        }
         for (size_t i = 0; i < ITEMS; i++) CHECK(got[i]);
         free(block);
     }
@@ -88,8 +95,9 @@ static void filters_in_place(void)
         uint64_t item = 0;
         CHECK(ds_bloom_new(&filter, SHAPES[i].num_bits, SHAPES[i].num_hashes, 9001 + i) == DS_OK);
         filter_in_place(&filter);
-        CHECK(ds_bloom_insert_all_u64(&filter, numbers, 8) == DS_OK && ds_bloom_insert_all_i64(&filter, with_sign, 4) == DS_OK);
-        CHECK(ds_bloom_insert_all_string_pairs(&filter, pairs, 5) == DS_OK);
+        CHECK(ds_bloom_insert_all(&filter, AS_ITEMS(u64, numbers, 8)) == DS_OK);
+        CHECK(ds_bloom_insert_all(&filter, AS_ITEMS(i64, with_sign, 4)) == DS_OK);
+        CHECK(ds_bloom_insert_all(&filter, AS_ITEMS(strings, forms.strings, 5)) == DS_OK);
         filter_in_place(&filter);
         do {
             CHECK(ds_bloom_insert_u64(&filter, item++) == DS_OK && ds_get_status(&filter, &status) == DS_OK);
@@ -158,7 +166,7 @@ static void altered_filters(void)
             rejected += result < 0;
             CHECK(ds_bloom_image_contains_i64(image, 40, 7) == result);
             CHECK(ds_bloom_image_contains_string(image, 40, (const uint8_t *)"\xff", 1) == DS_INVALID_UTF8);
-            if (result < 0) CHECK(ds_bloom_image_contains_string(image, 40, pairs[0].bytes, 1) == result);
+            if (result < 0) CHECK(ds_bloom_image_contains_string(image, 40, forms.strings[0].bytes, 1) == result);
         }
     }
     CHECK(rejected > 3 * 250);
@@ -172,9 +180,6 @@ static void altered_filters(void)
     CHECK(ds_bloom_image_contains_u64(NULL, 1, 7) == DS_BAD_ARGUMENT && ds_bloom_image_contains_i64(NULL, 1, 7) == DS_BAD_ARGUMENT);
     CHECK(ds_bloom_image_contains_string(TWO_BITS, 40, NULL, 1) == DS_BAD_ARGUMENT);
     CHECK(ds_bloom_image_contains_string(TWO_BITS, 40, NULL, 0) >= 0);
-    CHECK(ds_bloom_image_contains_all_u64(TWO_BITS, 40, NULL, 0, NULL, 0) == DS_OK);
-    CHECK(ds_bloom_image_contains_all_u64(TWO_BITS, 40, NULL, 1, NULL, 1) == DS_BAD_ARGUMENT);
-    CHECK(ds_bloom_image_contains_all_i64(NULL, 40, NULL, 0, NULL, 0) == DS_BAD_ARGUMENT);
     ds_free(&filter);
 }
 
@@ -210,13 +215,14 @@ static const struct alteration COUNTS_ALTERED[] = {
             const uint8_t *at = placed(image, length, shift, &block); \
             CHECK(ds_deserialize(&read, number, at, length, WITHIN_SEED(1 << 20, seed)) == DS_OK); \
             for (size_t i = 0; i < ITEMS; i++) { \
+                const ds_string *string = &forms.strings[i]; \
                 CHECK(ds_count_min_##kind##_image_estimate_u64(at, length, seed, numbers[i], &got) == DS_OK); \
                 CHECK(ds_count_min_##kind##_estimate_u64(&read, numbers[i], &wanted) == DS_OK && got == wanted); \
                 CHECK(ds_count_min_##kind##_image_estimate_i64(at, length, seed, with_sign[i], &got) == DS_OK); \
                 CHECK(ds_count_min_##kind##_estimate_i64(&read, with_sign[i], &wanted) == DS_OK && got == wanted); \
-                CHECK(ds_count_min_##kind##_image_estimate_string(at, length, seed, pairs[i].bytes, pairs[i].length, &got) == \
+                CHECK(ds_count_min_##kind##_image_estimate_string(at, length, seed, string->bytes, string->length, &got) == \
                       DS_OK); \
-                CHECK(ds_count_min_##kind##_estimate_string(&read, pairs[i].bytes, pairs[i].length, &wanted) == DS_OK); \
+                CHECK(ds_count_min_##kind##_estimate_string(&read, string->bytes, string->length, &wanted) == DS_OK); \
                 CHECK(got == wanted); \
             } \
             got = 7; \
@@ -234,10 +240,11 @@ static const struct alteration COUNTS_ALTERED[] = {
             CHECK(ds_count_min_new(&count, number, (uint8_t)(seed - 9000), 5 + 20 * (uint32_t)(seed % 2), seed) == DS_OK); \
             count_in_place_##kind(&count, seed); \
             for (size_t i = 0; i < 16; i++) { \
+                const ds_string *string = &forms.strings[i]; \
                 weight_type weight = (weight_type)(3 * i) + (least); \
                 CHECK(ds_count_min_##kind##_update_u64(&count, numbers[i], weight) == DS_OK); \
                 CHECK(ds_count_min_##kind##_update_i64(&count, with_sign[i], weight) == DS_OK); \
-                CHECK(ds_count_min_##kind##_update_string(&count, pairs[i].bytes, pairs[i].length, weight) == DS_OK); \
+                CHECK(ds_count_min_##kind##_update_string(&count, string->bytes, string->length, weight) == DS_OK); \
             } \
             count_in_place_##kind(&count, seed); \
             ds_free(&count); \
@@ -278,7 +285,8 @@ static const struct alteration COUNTS_ALTERED[] = {
                 rejected += result < 0; \
                 if (result < 0) { \
                     CHECK(ds_count_min_##kind##_image_estimate_i64(image, 48, 9001, 7, &estimate) == result); \
-                    CHECK(ds_count_min_##kind##_image_estimate_string(image, 48, 9001, bytes, 1, &estimate) == result); \
+                    CHECK(ds_count_min_##kind##_image_estimate_string(image, 48, 9001, forms.strings[0].bytes, 1, &estimate) == \
+                          result); \
                     CHECK(estimate == 77); \
                 } \
             } \
@@ -317,73 +325,47 @@ COUNTS_IN_PLACE(i64, DS_COUNT_MIN_I64, int64_t, -20)
 
 /* --- Inserts that return whether the item was there. --- */
 
-/* Three filters get the same items: `loop` by a query and an insert each, `one` by one call each, `all` by one call. */
-#define IN_A_LOOP(form, contains, insert, contains_and_insert, contains_and_insert_all) \
-    static void inserted_##form(uint64_t num_bits) \
-    { \
-        ds_sketch loop = DS_NONE, one = DS_NONE, all = DS_NONE; \
-        bool results[ITEMS]; \
-        int seen = 0; \
-        CHECK(ds_bloom_new(&loop, num_bits, 3, 9001) == DS_OK && ds_bloom_insert_u64(&loop, 1) == DS_OK); \
-        CHECK(ds_clone(&one, &loop) == DS_OK && ds_clone(&all, &loop) == DS_OK); \
-        memset(results, true, sizeof results); \
-        CHECK((contains_and_insert_all(ITEMS - 1)) == DS_NO_ROOM && results[0] && ds_equal(&all, &one) == DS_YES); \
-        CHECK((contains_and_insert_all(ITEMS)) == DS_OK); \
-        for (size_t i = 0; i < ITEMS; i++) { \
-            int32_t wanted = contains; \
-            CHECK((insert) == DS_OK && (contains_and_insert) == wanted && results[i] == (wanted == DS_YES)); \
-            seen += wanted; \
-        } \
-        CHECK(seen > 0 && (seen < ITEMS || num_bits == 64)); \
-        CHECK(ds_equal(&loop, &one) == DS_YES && ds_equal(&loop, &all) == DS_YES); \
-        CHECK((contains_and_insert_all(ITEMS)) == DS_OK); \
-        for (size_t i = 0; i < ITEMS; i++) CHECK(results[i]); \
-        CHECK(ds_equal(&loop, &all) == DS_YES); \
-        /* errors of handles change nothing */ \
-        memset(results, false, sizeof results); \
-        ds_free(&all); \
-        CHECK((contains_and_insert_all(ITEMS)) == DS_NO_SKETCH && !results[0]); \
-        CHECK(ds_count_min_new(&all, DS_COUNT_MIN_U64, 1, 3, 9001) == DS_OK && (contains_and_insert_all(ITEMS)) == DS_WRONG_KIND); \
-        CHECK(!results[0]); \
-        ds_free(&loop); \
-        ds_free(&one); \
-        ds_free(&all); \
-    }
+/* The single calls for item `i` of a kind. */
+#define ONE(call, handle) \
+    (kind == DS_ITEMS_U64   ? call##_u64(handle, numbers[i]) \
+     : kind == DS_ITEMS_I64 ? call##_i64(handle, with_sign[i]) \
+                            : call##_string(handle, forms.strings[i].bytes, forms.strings[i].length))
 
-#define ALL_U64(room) ds_bloom_contains_and_insert_all_u64(&all, numbers, ITEMS, results, room)
-#define ALL_I64(room) ds_bloom_contains_and_insert_all_i64(&all, with_sign, ITEMS, results, room)
-#define ALL_STRING(room) ds_bloom_contains_and_insert_all_string(&all, bytes, offsets[ITEMS], offsets, ITEMS + 1, results, room)
-#define ALL_PAIRS(room) ds_bloom_contains_and_insert_all_string_pairs(&all, pairs, ITEMS, results, room)
-IN_A_LOOP(u64, ds_bloom_contains_u64(&loop, numbers[i]), ds_bloom_insert_u64(&loop, numbers[i]),
-          ds_bloom_contains_and_insert_u64(&one, numbers[i]), ALL_U64)
-IN_A_LOOP(i64, ds_bloom_contains_i64(&loop, with_sign[i]), ds_bloom_insert_i64(&loop, with_sign[i]),
-          ds_bloom_contains_and_insert_i64(&one, with_sign[i]), ALL_I64)
-IN_A_LOOP(string, ds_bloom_contains_string(&loop, pairs[i].bytes, pairs[i].length),
-          ds_bloom_insert_string(&loop, pairs[i].bytes, pairs[i].length),
-          ds_bloom_contains_and_insert_string(&one, pairs[i].bytes, pairs[i].length), ALL_STRING)
-IN_A_LOOP(pairs, ds_bloom_contains_string(&loop, pairs[i].bytes, pairs[i].length),
-          ds_bloom_insert_string(&loop, pairs[i].bytes, pairs[i].length),
-          ds_bloom_contains_and_insert_string(&one, pairs[i].bytes, pairs[i].length), ALL_PAIRS)
+/* Three filters get the same items: `loop` by a query and an insert each, `one` by one call each, `all` by one call. */
+static void inserted(int32_t kind, uint64_t num_bits)
+{
+    ds_sketch loop = DS_NONE, one = DS_NONE, all = DS_NONE;
+    bool results[ITEMS];
+    int seen = 0;
+    CHECK(ds_bloom_new(&loop, num_bits, 3, 9001) == DS_OK && ds_bloom_insert_u64(&loop, 1) == DS_OK);
+    CHECK(ds_clone(&one, &loop) == DS_OK && ds_clone(&all, &loop) == DS_OK);
+    CHECK(ds_bloom_contains_and_insert_all(&all, &items[kind], results, ITEMS) == DS_OK);
+    for (size_t i = 0; i < ITEMS; i++) {
+        int32_t wanted = ONE(ds_bloom_contains, &loop);
+        CHECK(ONE(ds_bloom_insert, &loop) == DS_OK && ONE(ds_bloom_contains_and_insert, &one) == wanted);
+        CHECK(results[i] == (wanted == DS_YES));
+        seen += wanted;
+    }
+    CHECK(seen > 0 && (seen < ITEMS || num_bits == 64));
+    CHECK(ds_equal(&loop, &one) == DS_YES && ds_equal(&loop, &all) == DS_YES);
+    CHECK(ds_bloom_contains_and_insert_all(&all, &items[kind], results, ITEMS) == DS_OK);
+    for (size_t i = 0; i < ITEMS; i++) CHECK(results[i]);
+    CHECK(ds_equal(&loop, &all) == DS_YES);
+    ds_free(&loop);
+    ds_free(&one);
+    ds_free(&all);
+}
 
 /* Errors of strings and arguments change nothing. */
 static void errors_of_inserts(void)
 {
     ds_sketch filter = DS_NONE, was = DS_NONE;
     const uint8_t bad[4] = "ab\xff";
-    const uint64_t descending[3] = {2, 1, 2}, two[3] = {0, 2, 3};
-    const ds_string bad_pairs[2] = {{bad, 2}, {bad + 2, 1}}, null_pair[1] = {{NULL, 0}};
-    bool results[2] = {true, true};
     CHECK(ds_bloom_contains_and_insert_u64(&filter, 1) == DS_NO_SKETCH);
     CHECK(ds_bloom_contains_and_insert_string(&filter, bad, 3) == DS_INVALID_UTF8);
     CHECK(ds_bloom_new(&filter, 640, 3, 9001) == DS_OK && ds_clone(&was, &filter) == DS_OK);
     CHECK(ds_bloom_contains_and_insert_string(&filter, bad, 3) == DS_INVALID_UTF8);
     CHECK(ds_bloom_contains_and_insert_string(&filter, NULL, 1) == DS_BAD_ARGUMENT);
-    CHECK(ds_bloom_contains_and_insert_all_string(&filter, bad, 3, descending, 3, results, 2) == DS_BAD_OFFSETS);
-    CHECK(ds_bloom_contains_and_insert_all_string(&filter, bad, 3, two, 3, results, 2) == DS_INVALID_UTF8);
-    CHECK(ds_bloom_contains_and_insert_all_string_pairs(&filter, bad_pairs, 2, results, 2) == DS_INVALID_UTF8);
-    CHECK(ds_bloom_contains_and_insert_all_string_pairs(&filter, null_pair, 1, results, 1) == DS_BAD_ARGUMENT);
-    CHECK(ds_bloom_contains_and_insert_all_u64(&filter, NULL, 1, results, 1) == DS_BAD_ARGUMENT);
-    CHECK(ds_bloom_contains_and_insert_all_i64(&filter, NULL, 0, NULL, 0) == DS_OK && results[0] && results[1]);
     CHECK(ds_equal(&filter, &was) == DS_YES);
     ds_free(&filter);
     ds_free(&was);
@@ -398,12 +380,8 @@ int main(void)
     counts_in_place_i64();
     altered_counts_u64();
     altered_counts_i64();
-    for (uint64_t num_bits = 64; num_bits <= 6400; num_bits *= 10) {
-        inserted_u64(num_bits);
-        inserted_i64(num_bits);
-        inserted_string(num_bits);
-        inserted_pairs(num_bits);
-    }
+    for (uint64_t num_bits = 64; num_bits <= 6400; num_bits *= 10)
+        for (int32_t kind = 0; kind < ITEM_KINDS; kind++) inserted(kind, num_bits);
     errors_of_inserts();
     return report();
 }

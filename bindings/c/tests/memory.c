@@ -4,6 +4,7 @@
 #include <stdlib.h>
 #include <string.h>
 
+#include "forms.h"
 #include "options.h"
 
 static uint8_t before[1 << 12], after[1 << 12];
@@ -45,13 +46,9 @@ static void keep(ds_sketch *filter)
         if (answer < 0 && (call) < 0) return 1; \
     } while (0)
 
-/* 64 strings of two letters each, one after the other. */
-static uint8_t letters[128];
-static uint64_t ends[65];
-static ds_string pairs[64];
-
-/* Whether the strings are passed as pairs. Otherwise they are passed as a buffer with offsets. */
-static bool as_pairs;
+/* 64 strings of two letters each, and the kind of items as which they are passed. */
+static struct forms forms;
+static int32_t kind_of_items;
 
 /* Room for a report of them. */
 static uint8_t shown[128];
@@ -60,23 +57,15 @@ static ds_frequent_items_bounds bounds[64];
 
 static void write_strings(void)
 {
-    for (size_t i = 0; i < 64; i++) {
-        letters[2 * i] = (uint8_t)('a' + i / 8);
-        letters[2 * i + 1] = (uint8_t)('a' + i % 8);
-        ends[i + 1] = 2 * i + 2;
-        pairs[i] = (ds_string){letters + 2 * i, 2};
-    }
+    clear_forms(&forms);
+    for (size_t i = 0; i < 64; i++) add_string(&forms, (const uint8_t[]){(uint8_t)('a' + i / 8), (uint8_t)('a' + i % 8)}, 2);
 }
 
 /* Adds the strings from index `from` on, each with the weight 1 or with its weight of `weights`. */
 static int32_t add_strings(ds_sketch *handle, size_t from, const uint64_t *weights)
 {
-    size_t count = 64 - from;
-    if (as_pairs && !weights) return ds_frequent_items_string_update_all_pairs(handle, pairs + from, count);
-    if (as_pairs) return ds_frequent_items_string_update_all_weighted_pairs(handle, pairs + from, count, weights + from, count);
-    if (!weights) return ds_frequent_items_string_update_all(handle, letters, sizeof letters, ends + from, count + 1);
-    return ds_frequent_items_string_update_all_weighted(handle, letters, sizeof letters, ends + from, count + 1, weights + from,
-                                                        count);
+    const ds_items items = strings_of(&forms, kind_of_items, from, 64 - from);
+    return weights ? ds_update_all_weighted(handle, &items, weights + from, 64 - from) : ds_update_all(handle, &items);
 }
 
 /* Adds all strings, and returns whether all were added. If an allocation fails for a string, those before it must have been
@@ -96,9 +85,8 @@ static int adds_strings(ds_sketch *handle, const uint64_t *weights)
 /* Returns whether all strings get their bounds. The call does not allocate, so it succeeds whichever allocation fails. */
 static int tells_of_strings(ds_sketch *handle)
 {
-    int32_t answer = as_pairs ? ds_frequent_items_string_bounds_all_pairs(handle, pairs, 64, bounds, 64)
-                              : ds_frequent_items_string_bounds_all(handle, letters, sizeof letters, ends, 65, bounds, 64);
-    if (answer != DS_OK) return 0;
+    const ds_items items = strings_of(&forms, kind_of_items, 0, 64);
+    if (ds_frequent_items_bounds_all(handle, &items, bounds, 64) != DS_OK) return 0;
     for (size_t i = 0; i < 64; i++)
         if (bounds[i].upper_bound < 4 || bounds[i].lower_bound > 4) return 0;
     return 1;
@@ -119,7 +107,7 @@ static int combine_many(void)
         DONE(&counts[i], ds_count_min_new(&counts[i], DS_COUNT_MIN_U64, 4, 128, 9001));
         DONE(&counts[i], ds_count_min_u64_update_u64(&counts[i], 7, i + 1));
         DONE(&others[i], ds_frequent_items_new(&others[i], DS_FREQUENT_ITEMS_STRING, 64, 48, NULL));
-        DONE(&others[i], ds_frequent_items_string_update(&others[i], letters + 2 * i, 4, i + 1));
+        DONE(&others[i], ds_frequent_items_string_update(&others[i], forms.strings[i].bytes, 4, i + 1));
     }
     keep(&filter);
     DONE(&filter, ds_merge_all(&filter, filters, 3));
@@ -178,7 +166,7 @@ int main(void)
 
     DONE(&filter, ds_bloom_new(&filter, 959, 7, 9001));
     DONE(&other, ds_bloom_new(&other, 959, 7, 9001));
-    DONE(&filter, ds_bloom_insert_all_u64(&filter, items, 64));
+    DONE(&filter, ds_bloom_insert_all(&filter, AS_ITEMS(u64, items, 64)));
     DONE(&other, ds_bloom_insert_string(&other, (const uint8_t *)"apple", 5));
     DONE(&filter, ds_merge(&filter, &other));
     keep(&filter);
@@ -193,7 +181,7 @@ int main(void)
     DONE(&filter, ds_bloom_new(&filter, 64, 1, 9001));
     DONE(&count, ds_count_min_new(&count, DS_COUNT_MIN_U64, 4, 128, 9001));
     DONE(&second, ds_count_min_new(&second, DS_COUNT_MIN_U64, 4, 128, 9001));
-    DONE(&count, ds_count_min_u64_update_all_u64(&count, items, 64));
+    DONE(&count, ds_update_all(&count, AS_ITEMS(u64, items, 64)));
     DONE(&second, ds_merge(&second, &count));
     if (ds_count_min_u64_estimate_u64(&second, 5, &estimate) != DS_OK || !estimate) return 1;
     DONE(&copy, ds_clone(&copy, &second));
@@ -220,8 +208,7 @@ int main(void)
     if (ds_get_status(&copy, &numbers) != DS_OK || numbers.total_weight != 2080) return 1;
     write_strings();
     for (uint64_t i = 0; i < 64; i++) items[i] = 2;
-    for (int form = 0; form < 2; form++) {
-        as_pairs = form == 1;
+    for (kind_of_items = DS_ITEMS_OFFSETS; kind_of_items <= DS_ITEMS_LINES; kind_of_items++) {
         /* under a given key, so that each run makes the same allocations */
         DONE(&frequent, ds_frequent_items_new(&frequent, DS_FREQUENT_ITEMS_STRING, 64, 48, &(ds_key){7, 8}));
         if (!adds_strings(&frequent, NULL) || !adds_strings(&frequent, NULL)) return 1;
@@ -232,17 +219,18 @@ int main(void)
         if (used != length) return 1;
     }
     if (combine_many()) return 1;
-    DONE(&filter, ds_bloom_insert_all_u64(&filter, items, 64));
+    DONE(&filter, ds_bloom_insert_all(&filter, AS_ITEMS(u64, items, 64)));
     keep(&filter);
     if (share_one(&filter) || share_one(&count) || share_one(&frequent) || share_one(&many)) return 1;
     size_t rows = 0, num_bytes = 0;
     DONE(&frequent,
          ds_frequent_items_string_rows(&frequent, true, 0, shown, sizeof shown, starts, 65, bounds, 64, &rows, &num_bytes));
     if (num_bytes != 2 * rows || starts[rows] != num_bytes) return 1;
-    DONE(&filter, ds_bloom_insert_all_string(&filter, letters, sizeof letters, ends, 65));
-    DONE(&count, ds_count_min_u64_update_all_string(&count, letters, sizeof letters, ends, 65));
-    DONE(&filter, ds_bloom_insert_all_string_pairs(&filter, pairs, 64));
-    DONE(&count, ds_count_min_u64_update_all_string_pairs(&count, pairs, 64));
+    for (int32_t kind = DS_ITEMS_OFFSETS; kind <= DS_ITEMS_LINES; kind++) {
+        const ds_items strings = strings_of(&forms, kind, 0, 64);
+        DONE(&filter, ds_bloom_insert_all(&filter, &strings));
+        DONE(&count, ds_update_all(&count, &strings));
+    }
     ds_free(&frequent);
     ds_free(&many);
     ds_free(&copy);

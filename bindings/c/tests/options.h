@@ -1,4 +1,4 @@
-/* The options of images in test programs. They live until the end of the block. */
+/* Options of images, and many items, as arguments in test programs. They live until the end of the block. */
 #ifndef OPTIONS_H
 #define OPTIONS_H
 
@@ -6,5 +6,8 @@
 #define WITHIN(bytes) (&(ds_image_options){(bytes), DS_DEFAULT_SEED, NULL})
 #define WITHIN_SEED(bytes, seed) (&(ds_image_options){(bytes), (seed), NULL})
 #define WITHIN_KEY(bytes, k0, k1) (&(ds_image_options){(bytes), DS_DEFAULT_SEED, &(ds_key){(k0), (k1)}})
+
+/* Many items: `ds_update_all(&sketch, AS_ITEMS(u64, numbers, count))`. */
+#define AS_ITEMS(form, ...) ((const ds_items[]){ds_items_##form(__VA_ARGS__)})
 
 #endif

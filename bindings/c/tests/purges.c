@@ -9,6 +9,8 @@
 #include <stdio.h>
 #include <stdlib.h>
 
+#include "options.h"
+
 enum { SLOTS = 1 << 16, CAPACITY = SLOTS / 4 * 3, SAMPLE = 1024, LEARNED = 800, UPDATES = 10000000, PURGES = 400 };
 
 static const uint64_t LEAST = 1000000, HEAVY = 1 << 30;
@@ -39,7 +41,7 @@ static ds_status status_of(ds_sketch *sketch)
 static size_t sampled(ds_sketch *sketch, uint64_t first)
 {
     for (size_t i = 0; i <= CAPACITY; i++) items[i] = first + i, weights[i] = LEAST + i;
-    check(!ds_frequent_items_u64_update_all_weighted(sketch, items, CAPACITY + 1, weights, CAPACITY + 1), "update");
+    check(!ds_update_all_weighted(sketch, AS_ITEMS(u64, items, CAPACITY + 1), weights, CAPACITY + 1), "update");
     uint64_t error = status_of(sketch).maximum_error;
     check(LEAST <= error && error <= LEAST + CAPACITY, "one purge");
     check(!ds_reset(sketch), "reset");

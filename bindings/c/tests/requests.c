@@ -73,10 +73,28 @@ static const int64_t SIGNED[3] = {3, 5, 1};
 static const uint64_t WEIGHTS[3] = {1, 2, 3};
 static const int64_t DIFFERENCES[3] = {1, -2, 3};
 
-/* Two strings, `ab` and `cde`. */
-static const uint8_t STRINGS[5] = "abcde";
-static const uint64_t OFFSETS[3] = {0, 2, 5};
-static const ds_string PAIRS[2] = {{STRINGS, 2}, {STRINGS + 2, 3}};
+/* Three strings, `ab`, `cde` and `f`. */
+static const uint8_t STRINGS[6] = "abcdef";
+static const uint64_t OFFSETS[4] = {0, 2, 5, 6};
+static const uint32_t OFFSETS32[4] = {0, 2, 5, 6};
+static const ds_string PAIRS[3] = {{STRINGS, 2}, {STRINGS + 2, 3}, {STRINGS + 5, 1}};
+static const uint8_t TEXT[9] = "ab\ncde\nf\n";
+
+/* Three items of each kind. */
+enum { ITEM_KINDS = 7 };
+
+static ds_items items[ITEM_KINDS];
+
+static void make_items(void)
+{
+    items[DS_ITEMS_U64] = ds_items_u64(ITEMS, 3);
+    items[DS_ITEMS_I64] = ds_items_i64(SIGNED, 3);
+    items[DS_ITEMS_OFFSETS] = ds_items_offsets(STRINGS, 6, OFFSETS, 4);
+    items[DS_ITEMS_OFFSETS32] = ds_items_offsets32(STRINGS, 6, OFFSETS32, 4);
+    items[DS_ITEMS_STRINGS] = ds_items_strings(PAIRS, 3);
+    items[DS_ITEMS_WORDS] = ds_items_words(TEXT, 9);
+    items[DS_ITEMS_LINES] = ds_items_lines(TEXT, 9);
+}
 
 /* The image of an empty filter of four words and three hashes. */
 static const uint8_t FILTER[24] = {3, 1, 21, 4, 3, 0, 0, 0, 0x29, 0x23, 0, 0, 0, 0, 0, 0, 4, 0, 0, 0, 0, 0, 0, 0};
@@ -105,25 +123,19 @@ static void filters(void)
     FREE(DS_OK, ds_bloom_insert_u64(&filter, 3));
     FREE(DS_OK, ds_bloom_insert_i64(&filter, -1));
     FREE(DS_OK, ds_bloom_insert_string(&filter, STRINGS, 5));
-    FREE(DS_OK, ds_bloom_insert_all_u64(&filter, ITEMS, 3));
-    FREE(DS_OK, ds_bloom_insert_all_i64(&filter, SIGNED, 3));
-    FREE(DS_OK, ds_bloom_insert_all_string(&filter, STRINGS, 5, OFFSETS, 3));
-    FREE(DS_OK, ds_bloom_insert_all_string_pairs(&filter, PAIRS, 2));
+    for (int32_t kind = 0; kind < ITEM_KINDS; kind++) FREE(DS_OK, ds_bloom_insert_all(&filter, &items[kind]));
     FREE(DS_YES, ds_bloom_contains_u64(&filter, 5));
     FREE(DS_YES, ds_bloom_contains_i64(&filter, -1));
     FREE(DS_YES, ds_bloom_contains_string(&filter, STRINGS, 2));
-    FREE(DS_OK, ds_bloom_contains_all_u64(&filter, ITEMS, 3, answers, 3));
-    FREE(DS_OK, ds_bloom_contains_all_i64(&filter, SIGNED, 3, answers, 3));
-    FREE(DS_OK, ds_bloom_contains_all_string(&filter, STRINGS, 5, OFFSETS, 3, answers, 2));
-    FREE(DS_OK, ds_bloom_contains_all_string_pairs(&filter, PAIRS, 2, answers, 2));
-    FREE(DS_NO_ROOM, ds_bloom_contains_all_u64(&filter, ITEMS, 3, answers, 2));
+    for (int32_t kind = 0; kind < ITEM_KINDS; kind++) {
+        FREE(DS_OK, ds_bloom_contains_all(&filter, &items[kind], answers, 3));
+        FREE(DS_NO_ROOM, ds_bloom_contains_all(&filter, &items[kind], answers, 2));
+    }
     FREE(DS_NO, ds_bloom_contains_and_insert_u64(&filter, 77));
     FREE(DS_NO, ds_bloom_contains_and_insert_i64(&filter, -77));
     FREE(DS_YES, ds_bloom_contains_and_insert_string(&filter, STRINGS, 2));
-    FREE(DS_OK, ds_bloom_contains_and_insert_all_u64(&filter, ITEMS, 3, answers, 3));
-    FREE(DS_OK, ds_bloom_contains_and_insert_all_i64(&filter, SIGNED, 3, answers, 3));
-    FREE(DS_OK, ds_bloom_contains_and_insert_all_string(&filter, STRINGS, 5, OFFSETS, 3, answers, 2));
-    FREE(DS_OK, ds_bloom_contains_and_insert_all_string_pairs(&filter, PAIRS, 2, answers, 2));
+    for (int32_t kind = 0; kind < ITEM_KINDS; kind++)
+        FREE(DS_OK, ds_bloom_contains_and_insert_all(&filter, &items[kind], answers, 3));
     FREE(DS_OK, ds_merge(&same, &filter));
     FREE(DS_OK, ds_bloom_intersect(&same, &filter));
     FREE(DS_OK, ds_bloom_difference(&same, &filter));
@@ -140,8 +152,8 @@ static void filters(void)
     FREE(DS_YES, ds_bloom_image_contains_u64(image, written, 5));
     FREE(DS_YES, ds_bloom_image_contains_i64(image, written, -1));
     FREE(DS_YES, ds_bloom_image_contains_string(image, written, STRINGS, 2));
-    FREE(DS_OK, ds_bloom_image_contains_all_u64(image, written, ITEMS, 3, answers, 3));
-    FREE(DS_OK, ds_bloom_image_contains_all_i64(image, written, SIGNED, 3, answers, 3));
+    for (int32_t kind = 0; kind < ITEM_KINDS; kind++)
+        FREE(DS_OK, ds_bloom_image_contains_all(image, written, &items[kind], answers, 3));
     FREE(DS_NO, ds_bloom_image_contains_u64(FILTER, sizeof FILTER, 5));
     FREE(DS_INSUFFICIENT_DATA, ds_bloom_image_contains_u64(image, written - 1, 5));
     FREE(DS_OK, ds_reset(&filter));
@@ -164,6 +176,8 @@ static void filters(void)
     FREE(DS_WRONG_KIND, ds_deserialize(&filter, 0, FILTER, sizeof FILTER, WITHIN(32)));
     FREE(DS_WRONG_KIND, ds_deserialize_prefix(&filter, 7, FILTER, sizeof FILTER, WITHIN(32), &written));
     FREE(DS_WRONG_KIND, ds_bloom_insert_u64(&count, 3));
+    for (int32_t kind = 0; kind < ITEM_KINDS; kind++) FREE(DS_WRONG_KIND, ds_bloom_insert_all(&count, &items[kind]));
+    for (int32_t kind = 0; kind < ITEM_KINDS; kind++) FREE(DS_WRONG_KIND, ds_update_all(&filter, &items[kind]));
     FREE(DS_WRONG_KIND, ds_merge(&filter, &count));
     ds_free(&filter);
     ds_free(&same);
@@ -185,22 +199,17 @@ static void counts(void)
     FREE(DS_OK, ds_count_min_u64_update_u64(&count, 3, 250));
     FREE(DS_OK, ds_count_min_u64_update_i64(&count, -1, 7));
     FREE(DS_OK, ds_count_min_u64_update_string(&count, STRINGS, 5, 9));
-    FREE(DS_OK, ds_count_min_u64_update_all_u64(&count, ITEMS, 3));
-    FREE(DS_OK, ds_count_min_u64_update_all_i64(&count, SIGNED, 3));
-    FREE(DS_OK, ds_count_min_u64_update_all_string(&count, STRINGS, 5, OFFSETS, 3));
-    FREE(DS_OK, ds_count_min_u64_update_all_string_pairs(&count, PAIRS, 2));
-    FREE(DS_OK, ds_count_min_u64_update_all_weighted_u64(&count, ITEMS, 3, WEIGHTS, 3));
-    FREE(DS_OK, ds_count_min_u64_update_all_weighted_i64(&count, SIGNED, 3, WEIGHTS, 3));
-    FREE(DS_OK, ds_count_min_u64_update_all_weighted_string(&count, STRINGS, 5, OFFSETS, 3, WEIGHTS, 2));
-    FREE(DS_OK, ds_count_min_u64_update_all_weighted_string_pairs(&count, PAIRS, 2, WEIGHTS, 2));
+    for (int32_t kind = 0; kind < ITEM_KINDS; kind++) {
+        FREE(DS_OK, ds_update_all(&count, &items[kind]));
+        FREE(DS_OK, ds_update_all_weighted(&count, &items[kind], WEIGHTS, 3));
+    }
     FREE(DS_OK, ds_count_min_u64_estimate_u64(&count, 5, &estimate));
     FREE(DS_OK, ds_count_min_u64_estimate_i64(&count, -1, &estimate));
     FREE(DS_OK, ds_count_min_u64_estimate_string(&count, STRINGS, 2, &estimate));
-    FREE(DS_OK, ds_count_min_u64_estimate_all_u64(&count, ITEMS, 3, estimates, 3));
-    FREE(DS_OK, ds_count_min_u64_estimate_all_i64(&count, SIGNED, 3, estimates, 3));
-    FREE(DS_OK, ds_count_min_u64_estimate_all_string(&count, STRINGS, 5, OFFSETS, 3, estimates, 2));
-    FREE(DS_OK, ds_count_min_u64_estimate_all_string_pairs(&count, PAIRS, 2, estimates, 2));
-    FREE(DS_NO_ROOM, ds_count_min_u64_estimate_all_u64(&count, ITEMS, 3, estimates, 2));
+    for (int32_t kind = 0; kind < ITEM_KINDS; kind++) {
+        FREE(DS_OK, ds_count_min_u64_estimate_all(&count, &items[kind], estimates, 3));
+        FREE(DS_NO_ROOM, ds_count_min_u64_estimate_all(&count, &items[kind], estimates, 2));
+    }
     FREE(DS_OK, ds_count_min_u64_upper_bound_u64(&count, 5, &estimate));
     FREE(DS_OK, ds_count_min_u64_upper_bound_i64(&count, -1, &estimate));
     FREE(DS_OK, ds_count_min_u64_upper_bound_string(&count, STRINGS, 2, &estimate));
@@ -222,8 +231,10 @@ static void counts(void)
     FREE(DS_SEED_HASH_MISMATCH, ds_count_min_u64_image_estimate_u64(image, written, 9002, 5, &estimate));
     FREE(DS_WEIGHT_OVERFLOW, ds_count_min_u64_update_u64(&count, 3, UINT64_MAX));
     FREE(DS_OK, ds_count_min_u64_update_u64(&unlike, 3, UINT64_MAX));
-    FREE(DS_WEIGHT_OVERFLOW, ds_count_min_u64_update_all_u64(&unlike, ITEMS, 3));
-    FREE(DS_WEIGHT_OVERFLOW, ds_count_min_u64_update_all_weighted_u64(&unlike, ITEMS, 3, WEIGHTS, 3));
+    for (int32_t kind = 0; kind < ITEM_KINDS; kind++) {
+        FREE(DS_WEIGHT_OVERFLOW, ds_update_all(&unlike, &items[kind]));
+        FREE(DS_WEIGHT_OVERFLOW, ds_update_all_weighted(&unlike, &items[kind], WEIGHTS, 3));
+    }
     FREE(DS_TABLE_TOO_LARGE, ds_deserialize(&count, DS_COUNT_MIN_U64, COUNTS, sizeof COUNTS, WITHIN(1559)));
     FREE(DS_SEED_HASH_MISMATCH, ds_deserialize(&count, DS_COUNT_MIN_U64, COUNTS, sizeof COUNTS, WITHIN_SEED(1 << 20, 9002)));
     FREE(DS_INSUFFICIENT_DATA, ds_deserialize(&count, DS_COUNT_MIN_U64, COUNTS, 0, WITHIN(1 << 20)));
@@ -257,21 +268,15 @@ static void signed_counts(void)
     FREE(DS_OK, ds_count_min_i64_update_u64(&count, 3, 250));
     FREE(DS_OK, ds_count_min_i64_update_i64(&count, -1, -7));
     FREE(DS_OK, ds_count_min_i64_update_string(&count, STRINGS, 5, 9));
-    FREE(DS_OK, ds_count_min_i64_update_all_u64(&count, ITEMS, 3));
-    FREE(DS_OK, ds_count_min_i64_update_all_i64(&count, SIGNED, 3));
-    FREE(DS_OK, ds_count_min_i64_update_all_string(&count, STRINGS, 5, OFFSETS, 3));
-    FREE(DS_OK, ds_count_min_i64_update_all_string_pairs(&count, PAIRS, 2));
-    FREE(DS_OK, ds_count_min_i64_update_all_weighted_u64(&count, ITEMS, 3, DIFFERENCES, 3));
-    FREE(DS_OK, ds_count_min_i64_update_all_weighted_i64(&count, SIGNED, 3, DIFFERENCES, 3));
-    FREE(DS_OK, ds_count_min_i64_update_all_weighted_string(&count, STRINGS, 5, OFFSETS, 3, DIFFERENCES, 2));
-    FREE(DS_OK, ds_count_min_i64_update_all_weighted_string_pairs(&count, PAIRS, 2, DIFFERENCES, 2));
+    for (int32_t kind = 0; kind < ITEM_KINDS; kind++) {
+        FREE(DS_OK, ds_update_all(&count, &items[kind]));
+        FREE(DS_OK, ds_count_min_i64_update_all_weighted(&count, &items[kind], DIFFERENCES, 3));
+    }
     FREE(DS_OK, ds_count_min_i64_estimate_u64(&count, 5, &estimate));
     FREE(DS_OK, ds_count_min_i64_estimate_i64(&count, -1, &estimate));
     FREE(DS_OK, ds_count_min_i64_estimate_string(&count, STRINGS, 2, &estimate));
-    FREE(DS_OK, ds_count_min_i64_estimate_all_u64(&count, ITEMS, 3, estimates, 3));
-    FREE(DS_OK, ds_count_min_i64_estimate_all_i64(&count, SIGNED, 3, estimates, 3));
-    FREE(DS_OK, ds_count_min_i64_estimate_all_string(&count, STRINGS, 5, OFFSETS, 3, estimates, 2));
-    FREE(DS_OK, ds_count_min_i64_estimate_all_string_pairs(&count, PAIRS, 2, estimates, 2));
+    for (int32_t kind = 0; kind < ITEM_KINDS; kind++)
+        FREE(DS_OK, ds_count_min_i64_estimate_all(&count, &items[kind], estimates, 3));
     FREE(DS_OK, ds_count_min_i64_upper_bound_u64(&count, 5, &estimate));
     FREE(DS_OK, ds_count_min_i64_upper_bound_i64(&count, -1, &estimate));
     FREE(DS_OK, ds_count_min_i64_upper_bound_string(&count, STRINGS, 2, &estimate));
@@ -286,7 +291,7 @@ static void signed_counts(void)
     FREE(DS_OK, ds_count_min_i64_image_estimate_string(image, written, 9001, STRINGS, 2, &estimate));
     FREE(DS_OK, ds_count_min_i64_update_u64(&heavy, 3, INT64_MAX));
     FREE(DS_WEIGHT_OVERFLOW, ds_count_min_i64_update_u64(&count, 3, INT64_MIN));
-    FREE(DS_WEIGHT_OVERFLOW, ds_count_min_i64_update_all_u64(&heavy, ITEMS, 3));
+    for (int32_t kind = 0; kind < ITEM_KINDS; kind++) FREE(DS_WEIGHT_OVERFLOW, ds_update_all(&heavy, &items[kind]));
     FREE(DS_WEIGHT_OVERFLOW, ds_merge(&heavy, &count));
     FREE(DS_TABLE_TOO_LARGE, ds_deserialize(&count, DS_COUNT_MIN_I64, COUNTS, sizeof COUNTS, WITHIN(1559)));
     FREE(DS_SEED_HASH_MISMATCH, ds_deserialize(&count, DS_COUNT_MIN_I64, COUNTS, sizeof COUNTS, WITHIN_SEED(1 << 20, 9002)));
@@ -346,12 +351,13 @@ static void frequent_numbers(void)
     for (uint64_t i = 0; i < 6; i++) FREE(DS_OK, ds_frequent_items_u64_update(&six, i, 1));
     FREE(DS_OK, ds_frequent_items_u64_update(&six, 5, 2));
     FREE(DS_OK, ds_frequent_items_u64_update(&six, 7, 0));
-    FREE(DS_OK, ds_frequent_items_u64_update_all(&six, ITEMS, 3));
-    FREE(DS_OK, ds_frequent_items_u64_update_all_weighted(&six, ITEMS, 3, WEIGHTS, 3));
+    FREE(DS_OK, ds_update_all(&six, &items[DS_ITEMS_U64]));
+    FREE(DS_OK, ds_update_all_weighted(&six, &items[DS_ITEMS_U64], WEIGHTS, 3));
+    for (int32_t kind = DS_ITEMS_I64; kind < ITEM_KINDS; kind++) FREE(DS_WRONG_KIND, ds_update_all(&six, &items[kind]));
     FREE(DS_OK, ds_frequent_items_u64_bounds(&six, 5, bounds));
     FREE(DS_OK, ds_frequent_items_u64_bounds(&six, 7, bounds));
-    FREE(DS_OK, ds_frequent_items_u64_bounds_all(&six, ITEMS, 3, bounds, 3));
-    FREE(DS_NO_ROOM, ds_frequent_items_u64_bounds_all(&six, ITEMS, 3, bounds, 2));
+    FREE(DS_OK, ds_frequent_items_bounds_all(&six, &items[DS_ITEMS_U64], bounds, 3));
+    FREE(DS_NO_ROOM, ds_frequent_items_bounds_all(&six, &items[DS_ITEMS_U64], bounds, 2));
     FREE(DS_OK, ds_merge(&six, &empty));
     FREE(DS_OK, ds_get_status(&six, &numbers));
     FREE(DS_OK, ds_serialized_bytes(&six, &written));
@@ -360,8 +366,8 @@ static void frequent_numbers(void)
     FREE(DS_OK, ds_frequent_items_u64_update(&heavy, 3, UINT64_MAX));
     FREE(DS_WEIGHT_OVERFLOW, ds_frequent_items_u64_update(&six, 3, UINT64_MAX));
     FREE(DS_WEIGHT_OVERFLOW, ds_frequent_items_u64_update(&heavy, 5, 1));
-    FREE(DS_WEIGHT_OVERFLOW, ds_frequent_items_u64_update_all(&heavy, ITEMS, 3));
-    FREE(DS_WEIGHT_OVERFLOW, ds_frequent_items_u64_update_all_weighted(&heavy, ITEMS, 3, WEIGHTS, 3));
+    FREE(DS_WEIGHT_OVERFLOW, ds_update_all(&heavy, &items[DS_ITEMS_U64]));
+    FREE(DS_WEIGHT_OVERFLOW, ds_update_all_weighted(&heavy, &items[DS_ITEMS_U64], WEIGHTS, 3));
     FREE(DS_WEIGHT_OVERFLOW, ds_merge(&heavy, &six));
     FREE(DS_TABLE_TOO_LARGE, ds_deserialize(&six, DS_FREQUENT_ITEMS_U64, FREQUENT, sizeof FREQUENT, WITHIN(223)));
     FREE(DS_BAD_FAMILY, ds_deserialize(&six, DS_FREQUENT_ITEMS_U64, FILTER, sizeof FILTER, WITHIN(1 << 20)));
@@ -399,11 +405,11 @@ static void full(void)
     DO(ds_frequent_items_new(&other, DS_FREQUENT_ITEMS_I64, 8, 6, NULL));
     ROW(16, 16, DS_OK, fill(&sketch));
     FREE(DS_OK, ds_frequent_items_i64_update(&sketch, 5, 1));
-    FREE(DS_OK, ds_frequent_items_i64_update_all(&sketch, SIGNED, 3));
-    FREE(DS_OK, ds_frequent_items_i64_update_all_weighted(&sketch, SIGNED, 3, WEIGHTS, 3));
+    FREE(DS_OK, ds_update_all(&sketch, &items[DS_ITEMS_I64]));
+    FREE(DS_OK, ds_update_all_weighted(&sketch, &items[DS_ITEMS_I64], WEIGHTS, 3));
     FREE(DS_OK, ds_frequent_items_i64_bounds(&sketch, 5, bounds));
     FREE(DS_OK, ds_frequent_items_i64_bounds(&sketch, -1, bounds));
-    FREE(DS_OK, ds_frequent_items_i64_bounds_all(&sketch, SIGNED, 3, bounds, 3));
+    FREE(DS_OK, ds_frequent_items_bounds_all(&sketch, &items[DS_ITEMS_I64], bounds, 3));
     FREE(DS_OK, ds_merge(&sketch, &other));
     FREE(DS_OK, ds_get_status(&sketch, &numbers));
     FREE(DS_OK, ds_frequent_items_i64_update(&sketch, 1536, 1));
@@ -419,26 +425,28 @@ static void full(void)
 
 static void frequent_strings(void)
 {
-    ds_sketch sketch = DS_NONE, empty = DS_NONE, pairs = DS_NONE;
+    ds_sketch sketch = DS_NONE, empty = DS_NONE, three = DS_NONE;
     ds_status numbers;
-    ds_frequent_items_bounds bounds[2];
+    ds_frequent_items_bounds bounds[3];
     uint8_t image[256];
     size_t written;
     DO(ds_frequent_items_new(&sketch, DS_FREQUENT_ITEMS_STRING, 64, 48, NULL));
     DO(ds_frequent_items_new(&empty, DS_FREQUENT_ITEMS_STRING, 64, 48, NULL));
-    DO(ds_frequent_items_new(&pairs, DS_FREQUENT_ITEMS_STRING, 64, 48, NULL));
     /* a string is copied only if it is not tracked */
     FREE(DS_OK, ds_frequent_items_string_update(&sketch, STRINGS, 5, 0));
     ROW(1, 0, DS_OK, ds_frequent_items_string_update(&sketch, STRINGS, 5, 1));
     FREE(DS_OK, ds_frequent_items_string_update(&sketch, STRINGS, 5, 1));
     FREE(DS_WEIGHT_OVERFLOW, ds_frequent_items_string_update(&sketch, STRINGS, 2, UINT64_MAX));
-    ROW(2, 0, DS_OK, ds_frequent_items_string_update_all_pairs(&pairs, PAIRS, 2));
-    FREE(DS_OK, ds_frequent_items_string_update_all_pairs(&pairs, PAIRS, 2));
-    FREE(DS_OK, ds_frequent_items_string_update_all_weighted_pairs(&pairs, PAIRS, 2, WEIGHTS, 2));
+    for (int32_t kind = DS_ITEMS_OFFSETS; kind < ITEM_KINDS; kind++) {
+        DO(ds_frequent_items_new(&three, DS_FREQUENT_ITEMS_STRING, 64, 48, NULL));
+        ROW(3, 0, DS_OK, ds_update_all(&three, &items[kind]));
+        FREE(DS_OK, ds_update_all(&three, &items[kind]));
+        FREE(DS_OK, ds_update_all_weighted(&three, &items[kind], WEIGHTS, 3));
+        FREE(DS_OK, ds_frequent_items_bounds_all(&three, &items[kind], bounds, 3));
+        FREE(DS_OK, ds_frequent_items_bounds_all(&sketch, &items[kind], bounds, 3));
+    }
     FREE(DS_OK, ds_frequent_items_string_bounds(&sketch, STRINGS, 5, bounds));
     FREE(DS_OK, ds_frequent_items_string_bounds(&sketch, STRINGS, 2, bounds));
-    FREE(DS_OK, ds_frequent_items_string_bounds_all(&sketch, STRINGS, 5, OFFSETS, 3, bounds, 2));
-    FREE(DS_OK, ds_frequent_items_string_bounds_all_pairs(&sketch, PAIRS, 2, bounds, 2));
     FREE(DS_OK, ds_get_status(&sketch, &numbers));
     FREE(DS_OK, ds_memory_bytes(&sketch, &written));
     FREE(DS_OK, ds_merge(&sketch, &empty));
@@ -455,7 +463,7 @@ static void frequent_strings(void)
     FREE(DS_OK, ds_reset(&empty));
     ds_free(&sketch);
     ds_free(&empty);
-    ds_free(&pairs);
+    ds_free(&three);
 }
 
 /* Combining many sketches allocates two lists: of the sketches, and of their addresses. A merge of frequent items also copies the
@@ -501,6 +509,7 @@ static void many(void)
 
 int main(void)
 {
+    make_items();
     filters();
     counts();
     signed_counts();

@@ -8,6 +8,7 @@ prints a line for each test that failed and then 'N passed, M failed', and count
 """
 import ctypes
 import glob
+import itertools
 import os
 import random
 import re
@@ -38,7 +39,7 @@ TABLE_KEY = {"DATASKETCHES_TABLE_KEY": bytes(range(16)).hex()}
 # The C type of each Rust type of an export. A slice is a pointer and a length, and an allocator is not passed.
 CROSSES = {"u8": "uint8_t", "u16": "uint16_t", "u32": "uint32_t", "u64": "uint64_t", "i32": "int32_t", "i64": "int64_t"}
 CROSSES |= {"usize": "size_t", "bool": "bool", "SketchHandle": "ds_sketch", "Status": "ds_status"}
-CROSSES |= {"ItemBounds": "ds_frequent_items_bounds"}
+CROSSES |= {"ItemBounds": "ds_frequent_items_bounds", "ItemsArgument": "ds_items"}
 
 # The exports of the sources that only the library's own C calls.
 INTERNAL = {"ds_free_handle", "ds_new_frequent_items", "ds_read_image"}
@@ -97,13 +98,18 @@ NOT_CPP = [
     ("numbers.update(-1);", "an item of frequent_items is of an integer type", []),
     ('numbers.update("a");', "an item of frequent_items is of an integer type", []),
     ("numbers.update_all(words);", "an item of frequent_items is of an integer type", []),
-    ('numbers.update_all(offset_strings("", nullptr, 0));', "the items are numbers, and no strings", []),
+    ('numbers.update_all(offset_strings("", items.data(), 1));', "the items are numbers, and no strings", []),
+    ('numbers.update_all(datasketches::words("a b"));', "the items are numbers, and no strings", []),
+    ('numbers.bounds_all(datasketches::lines("a b"));', "the items are numbers, and no strings", []),
+    ("numbers.update_all(std::vector<ds_string>());", "an item of frequent_items is of an integer type", []),
+    ("heavy.update_all(items);", "converts to std::string_view", []),
+    ("offset_strings(words[0], std::array<std::uint16_t, 1>{}.data(), 1);", "offsets are integers of 32 or 64 bits", []),
+    ("filter.insert_all(ds_items_u64(items.data(), 2));", "items are a range", []),
     ("filter.contains_all(words, bits);", "a contiguous range", []),
     ("filter.contains_all(words, fixed);", "are not const", []),
     ("counts.estimate_all(words, std::array<int, 2>());", "of the type of this sketch", []),
     ("with_sign.halve();", "only weights in std::uint64_t are halved", []),
     ("with_sign.decay(1, 2);", "only weights in std::uint64_t decay", []),
-    ('numbers.update_words("a b");', "only a sketch of strings counts words", []),
     ("filter.contains_and_insert(true);", "an item is a string, or an integer", []),
     ("filter.contains_and_insert_all(words, bits);", "a contiguous range", []),
     ("auto share(filter.share()); auto copy = share;", "deleted", []),
@@ -124,6 +130,7 @@ def read(path):
 
 def in_c(kind):
     """Returns the C types of a parameter."""
+    kind = re.sub(r"'\w+ |<'\w+>", "", kind)
     if kind == "Global":
         return []
     if kind == "&[&[u8]]":
@@ -144,6 +151,22 @@ def exported():
             kinds = [it.split(":")[1].strip() for it in inside.split(",") if it.strip()]
             found[name] = (CROSSES[result] if result else "void", [it for kind in kinds for it in in_c(kind)])
     return found
+
+
+def items_in_c():
+    """Returns the members of the sources' `ItemsArgument` in C: type and name of each."""
+    inside = re.search(r"pub struct ItemsArgument<'a> \{\n(.*?)\n\}", read(f"{CRATE}/src/items_argument.rt"), re.DOTALL)[1]
+    members = []
+    for name, kind in re.findall(r"^    pub (\w+): (.*),$", inside, re.MULTILINE):
+        pointer, *count = in_c(kind)
+        members += [(pointer, name), *[(it, f"num_{name}") for it in count]]
+    return members
+
+
+def items_in_header():
+    """Returns the members of the header's `ds_items`: type and name of each."""
+    inside = re.search(r"typedef struct ds_items \{\n(.*?)\n\}", read(f"{C}/include/datasketches.h"), re.DOTALL)[1]
+    return [(kind.strip(), name) for kind, name in re.findall(r"^    (.*?)(\w+);", inside, re.MULTILINE)]
 
 
 def functions(path, end):
@@ -176,10 +199,15 @@ def casts():
             for name, inside, call in re.findall(form, read(f"{C}/include/datasketches.h"), re.MULTILINE)}
 
 
+def items_of_strings():
+    """Returns the kinds of items that are strings: the number of each by its name, as DS_ITEMS_WORDS."""
+    return dict(re.findall(r"(DS_ITEMS_(?!U64|I64)\w+) = (\d)", read(f"{C}/include/datasketches.h")))
+
+
 def needs_check(kinds):
-    """Returns whether a call needs a check of its arguments: it takes two handles, or a pointer with a count."""
+    """Returns whether a call needs a check of its arguments: it takes two handles, many items, or a pointer with a count."""
     counted = any(kind.endswith("*") and kind != "ds_sketch *" and count == "size_t" for kind, count in zip(kinds, kinds[1:]))
-    return kinds.count("ds_sketch *") > 1 or counted
+    return kinds.count("ds_sketch *") > 1 or "const ds_items *" in kinds or counted
 
 
 def global_names(path, *flags):
@@ -229,10 +257,9 @@ class Tests:
             self.check(f"the prototype of {name}", sources.get(name) == form, (sources.get(name), form))
         for name in sorted(calls | header):
             self.check(f"the prototype of {name}", calls.get(name) == header.get(name), (calls.get(name), header.get(name)))
-        self.check("there are functions for int64_t", len(casts()) == 22, len(casts()))
+        self.check("there are functions for int64_t", len(casts()) == 12, len(casts()))
         for name, (parameters, call) in casts().items():
-            passed = {"int64_t item": "(uint64_t)item", "const int64_t *items": "(const uint64_t *)items"}
-            arguments = [passed.get(it, re.search(r"\w+$", it).group()) for it in parameters]
+            arguments = ["(uint64_t)item" if it == "int64_t item" else re.search(r"\w+$", it).group() for it in parameters]
             self.check(f"the call of {name}", call == f"{name[:-3]}u64({', '.join(arguments)})", call)
         for path, flags, wanted in [(self.archive, [], set(sources)), (f"{self.built}/libdatasketches.a", [], set(calls)),
                                     (f"{self.built}/libdatasketches.so", ["-D"], set(calls))]:
@@ -254,11 +281,14 @@ class Tests:
             self.check(f"the constant of {name}", constant.replace("_", "") == name.upper())
         others = re.findall(r"pub const (\w+): i32 = (-?\d+);", read(f"{CRATE}/src/status_code.rt"))
         constants = re.findall(r"DS_(\w+) = (-?\d+)", read(f"{C}/include/datasketches.h"))
-        of_c = {("BAD_ARGUMENT", "-5"), ("NO_RANDOM", "-7"), ("MIN_RESULT", "-44")}
+        of_c = {("NO_RANDOM", "-7"), ("MIN_RESULT", "-44")}
         kinds = re.findall(r"^ +(\d) => Some\(SketchKind::(\w+)\),$", read(f"{CRATE}/src/sketch_kind.rt"), re.MULTILINE)
         of_kinds = [(KINDS.get(name), number) for number, name in kinds]
-        self.check("the kinds", of_kinds == constants[-len(KINDS):], (of_kinds, constants))
-        self.check("the other results", set(others) == set(constants[:-len(KINDS)]) - of_c, constants)
+        kinds = re.findall(r"^ +(\d) => Some\(ItemsKind::(\w+)\),$", read(f"{CRATE}/src/items_argument.rt"), re.MULTILINE)
+        of_kinds += [(f"ITEMS_{name.upper()}", number) for number, name in kinds]
+        self.check("the kinds", of_kinds == constants[-13:], (of_kinds, constants))
+        self.check("the other results", set(others) == set(constants[:-13]) - of_c, constants)
+        self.check("the members of ds_items", items_in_c() == items_in_header(), (items_in_c(), items_in_header()))
 
     def calls(self, source):
         """Runs a source's checks plainly, with the address sanitizer, and under valgrind."""
@@ -291,12 +321,12 @@ class Tests:
         for compiler in CPP_COMPILERS:
             runs = [("C++17", ["-std=c++17", *SANITIZED]), ("C++20", ["-std=c++20", *SANITIZED])]
             runs.append(("C++17 without exceptions", ["-std=c++17", "-O2", *NO_EXCEPTIONS]))
-            for name, flags in runs:
+            for (name, flags), source in itertools.product(runs, ["cpp", "cpp_filters", "cpp_images"]):
                 out = os.path.join(self.work, f"cpp{len(os.listdir(self.work))}")
-                command = [compiler, *WARNINGS, *flags, "-I", f"{C}/include", f"{HERE}/cpp.cpp", "-o", out]
+                command = [compiler, *WARNINGS, *flags, "-I", f"{C}/include", f"{HERE}/{source}.cpp", "-o", out]
                 subprocess.run([*command, f"{self.built}/libdatasketches.a", "-lpthread"], check=True)
                 ran = self.run([out])
-                self.check(f"{name}, {compiler}", ran.returncode == 0 and b"checks hold" in ran.stdout, ran)
+                self.check(f"{source}.cpp, {name}, {compiler}", ran.returncode == 0 and b"checks hold" in ran.stdout, ran)
             objects = []
             for flags in [["-std=c++17"], ["-std=c++20", *NO_EXCEPTIONS]]:
                 objects.append(os.path.join(self.work, f"both{len(os.listdir(self.work))}.o"))
@@ -403,8 +433,8 @@ class Tests:
         batches = self.compile(f"{HERE}/batches.c", "-g", "-O1", "-fsanitize=address,undefined", "-fno-sanitize-recover=all")
         lines = "".join(f"{line}\n" for line in runs_by_chance(6_000)).encode()
         wanted = self.run([self.program], lines, **TABLE_KEY).stdout.splitlines()
-        for name, words in [("with offsets", []), ("as pairs", ["pairs"])]:
-            got = self.run([batches, *words], lines).stdout.splitlines()
+        for name, kind in items_of_strings().items():
+            got = self.run([batches, kind], lines).stdout.splitlines()
             unlike = next((it for it in zip(wanted, got) if it[0] != it[1]), "")
             same = len(wanted) >= 6_000 and wanted == got
             self.check(f"six thousand lines in runs, {name}", same, (len(wanted), len(got), unlike))
@@ -561,8 +591,10 @@ def main():
         tests = Tests(os.path.abspath(words[0]), words[1:], work)
         tests.header()
         tests.calls(f"{HERE}/calls.c")
-        tests.calls(f"{HERE}/pairs.c")
-        tests.calls(f"{HERE}/words.c")
+        tests.calls(f"{HERE}/items.c")
+        tests.calls(f"{HERE}/strings.c")
+        tests.calls(f"{HERE}/kinds.c")
+        tests.calls(f"{HERE}/columns.c")
         tests.calls(f"{HERE}/keys.c")
         tests.calls(f"{HERE}/table_keys.c")
         tests.calls(f"{HERE}/many.c")

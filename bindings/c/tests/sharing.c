@@ -9,25 +9,36 @@
 #include <time.h>
 
 #include "check.h"
+#include "forms.h"
+#include "options.h"
 
-enum { THREADS = 8, ITEMS = 600, KINDS = 6 };
+enum { THREADS = 8, ITEMS = 600, KINDS = 6, ITEM_KINDS = 7 };
 
 static uint64_t numbers[ITEMS];
 static int64_t with_sign[ITEMS];
-static uint8_t letters[2 * ITEMS];
-static uint64_t offsets[ITEMS + 1];
-static ds_string pairs[ITEMS];
+static struct forms forms;
+
+/* Strings of two letters one after another. */
+static const uint8_t *letters;
 
 static void make_items(void)
 {
+    clear_forms(&forms);
+    letters = forms.bytes + 1;
     for (size_t i = 0; i < ITEMS; i++) {
+        const uint8_t string[2] = {(uint8_t)('a' + i % 26), (uint8_t)('a' + i / 26 % 26)};
         numbers[i] = i * i % 997;
         with_sign[i] = (int64_t)(i * 7 % 301) - 150;
-        letters[2 * i] = (uint8_t)('a' + i % 26);
-        letters[2 * i + 1] = (uint8_t)('a' + i / 26 % 26);
-        offsets[i + 1] = 2 * i + 2;
-        pairs[i] = (ds_string){letters + 2 * i, 2};
+        add_string(&forms, string, 2);
     }
+}
+
+/* Returns the first `count` items of a kind. */
+static ds_items first_items(int32_t kind, size_t count)
+{
+    if (kind == DS_ITEMS_U64) return ds_items_u64(numbers, count);
+    if (kind == DS_ITEMS_I64) return ds_items_i64(with_sign, count);
+    return strings_of(&forms, kind, 0, count);
 }
 
 /* --- Threads. --- */
@@ -55,8 +66,9 @@ static bool read_all(reader *it)
 {
     answers *got = &it->got;
     memset(got, 0, sizeof *got);
-    bool done = ds_bloom_contains_all_u64(&it->filter, numbers, ITEMS, got->found[0], ITEMS) == DS_OK;
-    done &= ds_bloom_contains_all_string(&it->filter, letters, sizeof letters, offsets, ITEMS + 1, got->found[1], ITEMS) == DS_OK;
+    const ds_items all = first_items(DS_ITEMS_U64, ITEMS), strings = first_items(DS_ITEMS_STRINGS, ITEMS);
+    bool done = ds_bloom_contains_all(&it->filter, &all, got->found[0], ITEMS) == DS_OK;
+    done &= ds_bloom_contains_all(&it->filter, &strings, got->found[1], ITEMS) == DS_OK;
     for (size_t i = 0; i < ITEMS; i++) {
         int32_t found = ds_bloom_contains_i64(&it->filter, with_sign[i]);
         got->found[2][i] = found == DS_YES;
@@ -65,11 +77,11 @@ static bool read_all(reader *it)
     }
     done &= ds_get_status(&it->filter, &got->filter) == DS_OK;
     done &= ds_serialize(&it->filter, got->images[0], sizeof got->images[0], &got->lengths[0]) == DS_OK;
-    done &= ds_count_min_u64_estimate_all_string_pairs(&it->count, pairs, ITEMS, got->estimates[1], ITEMS) == DS_OK;
+    done &= ds_count_min_u64_estimate_all(&it->count, &strings, got->estimates[1], ITEMS) == DS_OK;
     done &= ds_count_min_u64_upper_bound_u64(&it->count, 1, &got->bound) == DS_OK;
     done &= ds_get_status(&it->count, &got->count) == DS_OK;
     done &= ds_serialize(&it->count, got->images[1], sizeof got->images[1], &got->lengths[1]) == DS_OK;
-    done &= ds_frequent_items_string_bounds_all_pairs(&it->words, pairs, ITEMS, got->bounds[1], ITEMS) == DS_OK;
+    done &= ds_frequent_items_bounds_all(&it->words, &strings, got->bounds[1], ITEMS) == DS_OK;
     done &= ds_frequent_items_u64_rows(&it->heavy, false, 0, got->rows, 64, got->of_rows, 64, &got->num_rows) == DS_OK;
     done &= ds_get_status(&it->heavy, &got->heavy) == DS_OK;
     done &= ds_serialize(&it->heavy, got->images[2], sizeof got->images[2], &got->lengths[2]) == DS_OK;
@@ -103,18 +115,19 @@ static void *run(void *argument)
 
 static bool fill(reader *it)
 {
+    const ds_items half = first_items(DS_ITEMS_U64, ITEMS / 2), half_of_strings = first_items(DS_ITEMS_STRINGS, ITEMS / 2);
+    const ds_items all = first_items(DS_ITEMS_U64, ITEMS), strings = first_items(DS_ITEMS_STRINGS, ITEMS);
     bool done = ds_bloom_new(&it->filter, 8000, 5, 9001) == DS_OK;
-    done &= ds_bloom_insert_all_u64(&it->filter, numbers, ITEMS / 2) == DS_OK;
-    done &= ds_bloom_insert_all_string_pairs(&it->filter, pairs, ITEMS / 2) == DS_OK;
+    done &= ds_bloom_insert_all(&it->filter, &half) == DS_OK;
+    done &= ds_bloom_insert_all(&it->filter, &half_of_strings) == DS_OK;
     done &= ds_count_min_new(&it->count, DS_COUNT_MIN_U64, 4, 256, 9001) == DS_OK;
-    done &= ds_count_min_u64_update_all_u64(&it->count, numbers, ITEMS / 2) == DS_OK;
-    done &= ds_count_min_u64_update_all_string_pairs(&it->count, pairs, ITEMS / 2) == DS_OK;
+    done &= ds_update_all(&it->count, &half) == DS_OK && ds_update_all(&it->count, &half_of_strings) == DS_OK;
     done &= ds_frequent_items_new(&it->heavy, DS_FREQUENT_ITEMS_U64, 256, 192, &(ds_key){7, 8}) == DS_OK;
     done &= ds_frequent_items_u64_update(&it->heavy, numbers[0], 1000) == DS_OK;
-    done &= ds_frequent_items_u64_update_all(&it->heavy, numbers, ITEMS) == DS_OK;
+    done &= ds_update_all(&it->heavy, &all) == DS_OK;
     done &= ds_frequent_items_new(&it->words, DS_FREQUENT_ITEMS_STRING, 256, 192, &(ds_key){7, 8}) == DS_OK;
     done &= ds_frequent_items_string_update(&it->words, letters, 2, 1000) == DS_OK;
-    done &= ds_frequent_items_string_update_all_pairs(&it->words, pairs, ITEMS) == DS_OK;
+    done &= ds_update_all(&it->words, &strings) == DS_OK;
     return done;
 }
 
@@ -171,24 +184,13 @@ static void threads(bool thaws_early)
 /* A filled sketch of a kind, whose image and memory are compared. */
 static bool make(ds_sketch *handle, int kind)
 {
-    switch (kind) {
-    case 0: return ds_bloom_new(handle, 640, 3, 9001) == DS_OK && ds_bloom_insert_all_u64(handle, numbers, 9) == DS_OK;
-    case 1:
-        return ds_count_min_new(handle, DS_COUNT_MIN_U64, 3, 16, 9001) == DS_OK &&
-               ds_count_min_u64_update_all_u64(handle, numbers, 9) == DS_OK;
-    case 2:
-        return ds_count_min_new(handle, DS_COUNT_MIN_I64, 3, 16, 9001) == DS_OK &&
-               ds_count_min_i64_update_all_u64(handle, numbers, 9) == DS_OK;
-    case 3:
-        return ds_frequent_items_new(handle, DS_FREQUENT_ITEMS_U64, 64, 48, &(ds_key){7, 8}) == DS_OK &&
-               ds_frequent_items_u64_update_all(handle, numbers, 9) == DS_OK;
-    case 4:
-        return ds_frequent_items_new(handle, DS_FREQUENT_ITEMS_I64, 64, 48, &(ds_key){7, 8}) == DS_OK &&
-               ds_frequent_items_i64_update_all(handle, with_sign, 9) == DS_OK;
-    default:
-        return ds_frequent_items_new(handle, DS_FREQUENT_ITEMS_STRING, 64, 48, &(ds_key){7, 8}) == DS_OK &&
-               ds_frequent_items_string_update_all_pairs(handle, pairs, 9) == DS_OK;
-    }
+    static const int32_t kinds[KINDS] = {
+        DS_BLOOM, DS_COUNT_MIN_U64, DS_COUNT_MIN_I64, DS_FREQUENT_ITEMS_U64, DS_FREQUENT_ITEMS_I64, DS_FREQUENT_ITEMS_STRING};
+    const ds_items items = first_items(kind < 4 ? DS_ITEMS_U64 : kind == 4 ? DS_ITEMS_I64 : DS_ITEMS_STRINGS, 9);
+    if (kind == 0) return ds_bloom_new(handle, 640, 3, 9001) == DS_OK && ds_bloom_insert_all(handle, &items) == DS_OK;
+    int32_t made = kind < 3 ? ds_count_min_new(handle, kinds[kind], 3, 16, 9001)
+                            : ds_frequent_items_new(handle, kinds[kind], 64, 48, &(ds_key){7, 8});
+    return made == DS_OK && ds_update_all(handle, &items) == DS_OK;
 }
 
 /* The image of a sketch. */
@@ -213,57 +215,44 @@ static bool is_image_of(const image *wanted, ds_sketch *handle)
 
 static int32_t change_filter(ds_sketch *handle, ds_sketch *other, int call)
 {
-    bool results[9];
+    bool results[30];
+    /* the calls on items of each kind come after the others */
+    const ds_items items = first_items((call + 2 * ITEM_KINDS - 11) % ITEM_KINDS, 30);
     switch (call) {
     case 0: return ds_bloom_insert_u64(handle, 500);
     case 1: return ds_bloom_insert_i64(handle, 500);
     case 2: return ds_bloom_insert_string(handle, letters, 3);
-    case 3: return ds_bloom_insert_all_u64(handle, numbers, 30);
-    case 4: return ds_bloom_insert_all_i64(handle, with_sign, 30);
-    case 5: return ds_bloom_insert_all_string(handle, letters, sizeof letters, offsets, 30);
-    case 6: return ds_bloom_insert_all_string_pairs(handle, pairs, 30);
-    case 7: return ds_bloom_insert_words(handle, letters, 3);
-    case 8: return ds_bloom_insert_lines(handle, letters, 3);
-    case 9: return ds_bloom_contains_and_insert_u64(handle, 500);
-    case 10: return ds_bloom_contains_and_insert_i64(handle, 500);
-    case 11: return ds_bloom_contains_and_insert_string(handle, letters, 3);
-    case 12: return ds_bloom_contains_and_insert_all_u64(handle, numbers + 20, 9, results, 9);
-    case 13: return ds_bloom_contains_and_insert_all_i64(handle, with_sign, 9, results, 9);
-    case 14: return ds_bloom_contains_and_insert_all_string(handle, letters, sizeof letters, offsets, 10, results, 9);
-    case 15: return ds_bloom_contains_and_insert_all_string_pairs(handle, pairs, 9, results, 9);
-    case 16: return ds_merge(handle, other);
-    case 17: return ds_bloom_intersect(handle, other);
-    case 18: return ds_bloom_difference(handle, other);
-    case 19: return ds_merge_all(handle, other, 1);
-    default: return ds_reset(handle);
+    case 3: return ds_bloom_contains_and_insert_u64(handle, 500);
+    case 4: return ds_bloom_contains_and_insert_i64(handle, 500);
+    case 5: return ds_bloom_contains_and_insert_string(handle, letters, 3);
+    case 6: return ds_merge(handle, other);
+    case 7: return ds_bloom_intersect(handle, other);
+    case 8: return ds_bloom_difference(handle, other);
+    case 9: return ds_merge_all(handle, other, 1);
+    case 10: return ds_reset(handle);
+    default:
+        if (call < 11 + ITEM_KINDS) return ds_bloom_insert_all(handle, &items);
+        return ds_bloom_contains_and_insert_all(handle, &items, results, 30);
     }
 }
 
-#define CHANGE_COUNT(kind, type) \
+#define CHANGE_COUNT(kind, type, update_all_weighted) \
     static int32_t change_count_##kind(ds_sketch *handle, ds_sketch *other, int call) \
     { \
         const type weights[4] = {1, 2, 3, 4}; \
+        const ds_items items = first_items((call + ITEM_KINDS - 6) % ITEM_KINDS, 4); \
         switch (call) { \
         case 0: return ds_count_min_##kind##_update_u64(handle, 1, 1); \
         case 1: return ds_count_min_##kind##_update_i64(handle, 1, 1); \
         case 2: return ds_count_min_##kind##_update_string(handle, letters, 3, 1); \
-        case 3: return ds_count_min_##kind##_update_all_u64(handle, numbers, 4); \
-        case 4: return ds_count_min_##kind##_update_all_i64(handle, with_sign, 4); \
-        case 5: return ds_count_min_##kind##_update_all_string(handle, letters, sizeof letters, offsets, 5); \
-        case 6: return ds_count_min_##kind##_update_all_string_pairs(handle, pairs, 4); \
-        case 7: return ds_count_min_##kind##_update_all_weighted_u64(handle, numbers, 4, weights, 4); \
-        case 8: return ds_count_min_##kind##_update_all_weighted_i64(handle, with_sign, 4, weights, 4); \
-        case 9: return ds_count_min_##kind##_update_all_weighted_string(handle, letters, sizeof letters, offsets, 5, weights, 4); \
-        case 10: return ds_count_min_##kind##_update_all_weighted_string_pairs(handle, pairs, 4, weights, 4); \
-        case 11: return ds_count_min_##kind##_update_words(handle, letters, 3); \
-        case 12: return ds_count_min_##kind##_update_lines(handle, letters, 3); \
-        case 13: return ds_merge(handle, other); \
-        case 14: return ds_merge_all(handle, other, 1); \
-        default: return ds_reset(handle); \
+        case 3: return ds_merge(handle, other); \
+        case 4: return ds_merge_all(handle, other, 1); \
+        case 5: return ds_reset(handle); \
+        default: return call < 6 + ITEM_KINDS ? ds_update_all(handle, &items) : update_all_weighted(handle, &items, weights, 4); \
         } \
     }
-CHANGE_COUNT(u64, uint64_t)
-CHANGE_COUNT(i64, int64_t)
+CHANGE_COUNT(u64, uint64_t, ds_update_all_weighted)
+CHANGE_COUNT(i64, int64_t, ds_count_min_i64_update_all_weighted)
 
 static int32_t scale_count(ds_sketch *handle, ds_sketch *other, int call)
 {
@@ -271,46 +260,52 @@ static int32_t scale_count(ds_sketch *handle, ds_sketch *other, int call)
     return call == 0 ? ds_count_min_u64_halve(handle) : ds_count_min_u64_decay(handle, 1, 3);
 }
 
-#define CHANGE_FREQUENT(kind, items) \
+static int32_t change_frequent(ds_sketch *handle, ds_sketch *other, int call)
+{
+    switch (call) {
+    case 0: return ds_merge(handle, other);
+    case 1: return ds_merge_all(handle, other, 1);
+    case 2: return ds_frequent_items_set_sample_size(handle, 8);
+    default: return ds_reset(handle);
+    }
+}
+
+#define CHANGE_FREQUENT_NUMBERS(kind, kind_of_items) \
     static int32_t change_frequent_##kind(ds_sketch *handle, ds_sketch *other, int call) \
     { \
         const uint64_t weights[4] = {1, 2, 3, 4}; \
+        const ds_items items = first_items(kind_of_items, 4); \
+        (void)other; \
         switch (call) { \
-        case 0: return ds_frequent_items_##kind##_update(handle, items[0], 1); \
-        case 1: return ds_frequent_items_##kind##_update_all(handle, items, 4); \
-        case 2: return ds_frequent_items_##kind##_update_all_weighted(handle, items, 4, weights, 4); \
-        case 3: return ds_merge(handle, other); \
-        case 4: return ds_merge_all(handle, other, 1); \
-        case 5: return ds_frequent_items_set_sample_size(handle, 8); \
-        default: return ds_reset(handle); \
+        case 0: return ds_frequent_items_##kind##_update(handle, 7, 1); \
+        case 1: return ds_update_all(handle, &items); \
+        default: return ds_update_all_weighted(handle, &items, weights, 4); \
         } \
     }
-CHANGE_FREQUENT(u64, numbers)
-CHANGE_FREQUENT(i64, with_sign)
+CHANGE_FREQUENT_NUMBERS(u64, DS_ITEMS_U64)
+CHANGE_FREQUENT_NUMBERS(i64, DS_ITEMS_I64)
 
 static int32_t change_frequent_string(ds_sketch *handle, ds_sketch *other, int call)
 {
     const uint64_t weights[4] = {1, 2, 3, 4};
-    switch (call) {
-    case 0: return ds_frequent_items_string_update(handle, letters, 3, 1);
-    case 1: return ds_frequent_items_string_update_all(handle, letters, sizeof letters, offsets, 5);
-    case 2: return ds_frequent_items_string_update_all_pairs(handle, pairs, 4);
-    case 3: return ds_frequent_items_string_update_all_weighted(handle, letters, sizeof letters, offsets, 5, weights, 4);
-    case 4: return ds_frequent_items_string_update_all_weighted_pairs(handle, pairs, 4, weights, 4);
-    case 5: return ds_merge(handle, other);
-    case 6: return ds_merge_all(handle, other, 1);
-    case 7: return ds_frequent_items_string_update_words(handle, letters, 3);
-    case 8: return ds_frequent_items_string_update_lines(handle, letters, 3);
-    case 9: return ds_frequent_items_set_sample_size(handle, 8);
-    default: return ds_reset(handle);
-    }
+    const ds_items items = first_items(DS_ITEMS_OFFSETS + call % 5, 4);
+    (void)other;
+    if (call == 10) return ds_frequent_items_string_update(handle, letters, 3, 1);
+    return call < 5 ? ds_update_all(handle, &items) : ds_update_all_weighted(handle, &items, weights, 4);
 }
 
 static const struct {
     int kind, calls;
     int32_t (*change)(ds_sketch *, ds_sketch *, int);
-} CHANGES[] = {{0, 21, change_filter},         {1, 16, change_count_u64},   {1, 2, scale_count},
-               {2, 16, change_count_i64},      {3, 7, change_frequent_u64}, {4, 7, change_frequent_i64},
+} CHANGES[] = {{0, 11 + 2 * ITEM_KINDS, change_filter},
+               {1, 6 + 2 * ITEM_KINDS, change_count_u64},
+               {1, 2, scale_count},
+               {2, 6 + 2 * ITEM_KINDS, change_count_i64},
+               {3, 4, change_frequent},
+               {3, 3, change_frequent_u64},
+               {4, 4, change_frequent},
+               {4, 3, change_frequent_i64},
+               {5, 4, change_frequent},
                {5, 11, change_frequent_string}};
 
 /* Each call that changes a sketch returns DS_WRONG_KIND for a shared one, changes nothing, and is done after the thaw. The other
@@ -399,7 +394,7 @@ static void first_errors(void)
     CHECK(make(&shared, 0) && ds_freeze(&shared) == DS_OK);
     CHECK(ds_merge(&shared, &none) == DS_WRONG_KIND && ds_merge(&none, &shared) == DS_NO_SKETCH);
     CHECK(ds_merge_all(&shared, &none, 1) == DS_WRONG_KIND && ds_equal(&shared, &none) == DS_NO_SKETCH);
-    CHECK(ds_bloom_contains_and_insert_all_u64(&shared, numbers, 1, &result, 0) == DS_NO_ROOM);
+    CHECK(ds_bloom_contains_and_insert_all(&shared, AS_ITEMS(u64, numbers, 1), &result, 0) == DS_NO_ROOM);
     CHECK(ds_bloom_insert_string(&shared, (const uint8_t *)"\xff", 1) == DS_INVALID_UTF8);
     CHECK(ds_count_min_u64_update_u64(&shared, 1, 1) == DS_WRONG_KIND);
     CHECK(make(&shared, 1) && ds_freeze(&shared) == DS_OK && ds_count_min_u64_decay(&shared, 3, 2) == DS_BAD_FRACTION);

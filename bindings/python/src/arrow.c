@@ -1,5 +1,5 @@
 /* Columns of Arrow's C data interface: an array, or a stream of arrays of one type. Strings stay where they are. */
-#include "sketches.h"
+#include "items.h"
 
 #include <string.h>
 
@@ -48,15 +48,6 @@ PyObject *arrow_export(PyObject *object)
     }
     return made;
 }
-
-/* Releases what is owned, keeping the error that is set: a release may call Python. */
-#define RELEASE(owned) \
-    do { \
-        PyObject *type_, *error_, *trace_; \
-        PyErr_Fetch(&type_, &error_, &trace_); \
-        if ((owned)->release != NULL) (owned)->release(owned); \
-        PyErr_Restore(type_, error_, trace_); \
-    } while (0)
 
 static bool malformed(const char *what)
 {
@@ -161,7 +152,7 @@ static bool read_entry(const Run *run, size_t at, Item *entry)
     if (run->layout == NUMBERS) {
         run_numbers(run, at, 1, &entry->value);
         entry->negative = run->with_sign && entry->value > INT64_MAX;
-    } else if (run_strings(run, at, 1, NULL, &string)) {
+    } else if (run_string(run, at, NULL, &string)) {
         entry->text = (const char *)string.bytes;
         entry->value = string.length;
     } else return malformed("its dictionary changed");

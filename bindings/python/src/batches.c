@@ -1,5 +1,5 @@
 /* Calls for many items: their use of the sketch, Ctrl-C, and their errors. */
-#include "sketches.h"
+#include "items.h"
 
 #include <signal.h>
 #include <time.h>
@@ -57,8 +57,9 @@ static bool are_few(const Items *items)
 }
 
 /* Begins work on all items, or on the next chunk of an iterator. */
-static bool batch_begin(Batch *batch, const Items *items)
+static bool batch_begin(Batch *batch)
 {
+    const Items *items = batch->items;
     uint64_t time = items->held != NULL ? now() : 0;
     if (batch->turn == 0) batch->turn = time;
     bool is_quick = items->held != NULL && batch->took < QUICK && time - batch->turn < TURN;
@@ -134,76 +135,64 @@ void note_taken(size_t done)
     PyErr_Restore(type, error, trace);
 }
 
-static void set_changed(void)
+/* Sets the error of an answer below 0, unless one is set. All strings and offsets were checked before. */
+static void set_error(int32_t answer)
 {
-    PyErr_SetString(PyExc_RuntimeError, "another thread changed a buffer during the call");
+    if (answer == CHANGED || answer == DS_INVALID_UTF8 || answer == DS_BAD_OFFSETS)
+        PyErr_SetString(PyExc_RuntimeError, "another thread changed a buffer during the call");
+    else if (answer < 0 && answer != STOPPED) refuse(answer);
 }
 
-static void set_error(int32_t answer, const Batch *batch, const Items *items)
+/* Returns the number of bytes of a query's result. */
+static size_t result_size(const Call *call)
 {
-    if (answer == DS_NO_MEMORY && items->held == NULL)
-        PyErr_Format(PyExc_MemoryError, "memory ended when %zu of %zu items were counted", batch->done, items->count);
-    else if (answer == DS_NO_MEMORY) PyErr_Format(PyExc_MemoryError, "memory ended when %zu items were counted", batch->done);
-    else if (answer == CHANGED || answer == DS_INVALID_UTF8) /* all strings were checked before */ set_changed();
-    else if (answer != STOPPED) refuse(answer);
-    if (batch->done > 0 && answer != DS_NO_MEMORY) note_taken(batch->done);
-}
-
-/* Returns the number of items from index `from` on that are all strings, or all numbers. Copies such numbers. */
-static size_t run_length(Chunk *chunk, const Items *items, size_t from)
-{
-    size_t end = from;
-    if (!items->with_texts) return chunk->count;
-    for (bool text = chunk->strings[from].bytes != NULL; end < chunk->count && text == (chunk->strings[end].bytes != NULL); end++)
-        chunk->numbers[end] = chunk->strings[end].length;
-    return end - from;
-}
-
-/* Takes the items of a chunk. */
-static int32_t take_chunk(Batch *batch, Chunk *chunk, bool with_weights, const Updates *updates)
-{
-    int32_t answer = DS_OK;
-    for (size_t i = 0, count; i < chunk->count && answer >= 0; i += count) {
-        const uint64_t *weights = with_weights ? chunk->weights + i : NULL;
-        count = run_length(chunk, batch->items, i);
-        if (batch->items->with_texts && chunk->strings[i].bytes != NULL)
-            answer = updates->strings(batch, chunk->strings + i, weights, count);
-        else answer = updates->numbers(batch, chunk->numbers + i, weights, count);
-        batch->done += answer >= 0 ? count : 0;
-    }
-    return answer;
+    return call->type[0] == '?' ? sizeof(bool) : (size_t)call->width * sizeof(uint64_t);
 }
 
 /* Takes all items that were read. Runs without the interpreter's lock, but for quick chunks. */
-static int32_t take_items(Batch *batch, const Weights *weights, const Updates *updates)
+static int32_t take_items(Batch *batch, const Weights *weights, char *results)
 {
     Chunk chunk;
+    const Call *call = batch->call;
     const Items *items = batch->items;
-    bool by_one = !weights->each && weights->same == 1;
-    uint64_t most = weights->with_sign ? INT64_MAX : UINT64_MAX;
-    int32_t answer = weights_fit(items, weights, most - sketch_total(batch->self));
-    chunk_open(&chunk, items->count, by_one && updates->longest != NULL ? updates->longest(batch->handle) : CHUNK);
+    int32_t answer = DS_OK;
+    bool by_one = weights == NULL || (!weights->each && weights->same == 1);
+    if (weights != NULL)
+        answer = weights_fit(items, weights, (weights->with_sign ? INT64_MAX : UINT64_MAX) - sketch_total(batch->self));
+    chunk_open(&chunk, batch, by_one ? NULL : weights);
     for (size_t i = 0; i < items->count && answer >= 0; i += chunk.rows) {
-        if (i > 0 && !batch_goes_on(batch)) answer = STOPPED;
-        else answer = chunk_read(&chunk, items, by_one ? NULL : weights, i);
-        if (answer >= 0) answer = take_chunk(batch, &chunk, !by_one, updates);
+        answer = i > 0 && !batch_goes_on(batch) ? STOPPED : chunk_read(&chunk, i);
+        if (answer >= 0 && results != NULL && chunk.count < chunk.rows) answer = CHANGED;
+        if (answer >= 0 && chunk.count > 0)
+            answer = call->take(batch, &chunk, results != NULL ? results + i * result_size(call) : NULL);
+        batch->done += answer >= 0 && call->changes ? chunk.count : 0;
     }
     chunk_close(&chunk);
     return answer;
 }
 
-PyObject *update_all(Sketch *self, Items *items, Weights *weights, const Updates *updates)
+/* Checks and takes the items that were read. */
+static int32_t batch_take(Batch *batch, Items *items, const Weights *weights, void *results)
 {
-    Batch batch = {.self = self, .use = {.changes = true}, .items = items, .took = QUICK};
+    batch->items = items;
+    if ((batch->call->check != NULL && !batch->call->check(batch->self, items)) || !batch_begin(batch)) return STOPPED;
+    int32_t answer = take_items(batch, weights, results);
+    batch_end(batch);
+    return answer;
+}
+
+PyObject *update_all(Sketch *self, Items *items, Weights *weights, const Call *call)
+{
+    Batch batch = {.self = self, .call = call, .use = {.changes = true}, .took = QUICK};
     int32_t answer;
     do {
-        answer = STOPPED;
-        if (!update_next(items, weights) || (updates->check != NULL && !updates->check(self, items)) || !batch_begin(&batch, items))
-            break;
-        answer = take_items(&batch, weights, updates);
-        batch_end(&batch);
+        answer = update_next(items, weights) ? batch_take(&batch, items, weights, NULL) : STOPPED;
     } while (answer >= 0 && items->iterator != NULL);
-    if (answer < 0) set_error(answer, &batch, items);
+    if (answer == DS_NO_MEMORY && items->held == NULL)
+        PyErr_Format(PyExc_MemoryError, "memory ended when %zu of %zu items were counted", batch.done, items->count);
+    else if (answer == DS_NO_MEMORY) PyErr_Format(PyExc_MemoryError, "memory ended when %zu items were counted", batch.done);
+    else set_error(answer);
+    if (answer < 0 && answer != DS_NO_MEMORY && batch.done > 0) note_taken(batch.done);
     items_release(&weights->items);
     items_release(items);
     if (answer < 0) return NULL;
@@ -217,28 +206,28 @@ typedef struct {
     Py_buffer view;
 } Room;
 
-static bool room_in_array(const Question *question, size_t count, Room *room)
+static bool room_in_array(const Call *call, size_t count, Room *room)
 {
     PyObject *numpy = PyImport_ImportModule("numpy");
     PyObject *empty = numpy != NULL ? attribute(numpy, "empty") : NULL;
     Py_ssize_t rows = (Py_ssize_t)count;
     if (empty != NULL)
-        room->array = question->width == 1 ? PyObject_CallFunction(empty, "ns", rows, question->kind)
-                                           : PyObject_CallFunction(empty, "(ni)s", rows, question->width, question->kind);
+        room->array = call->width == 1 ? PyObject_CallFunction(empty, "ns", rows, call->type)
+                                       : PyObject_CallFunction(empty, "(ni)s", rows, call->width, call->type);
     Py_XDECREF(empty);
     Py_XDECREF(numpy);
     if (room->array == NULL || PyObject_GetBuffer(room->array, &room->view, PyBUF_CONTIG) < 0) return false;
     room->values = room->view.buf;
-    if (room->view.len == (Py_ssize_t)(count * question->size)) return true;
+    if (room->view.len == (Py_ssize_t)(count * result_size(call))) return true;
     PyErr_Format(PyExc_ValueError, "numpy.empty returned an array of %zd bytes for %zu answers", room->view.len, count);
     return false;
 }
 
 /* Allocates room for `count` results: a numpy array if `in_array`. Returns false, with an error set, if that fails. */
-static bool room_for(const Question *question, bool in_array, size_t count, Room *room)
+static bool room_for(const Call *call, bool in_array, size_t count, Room *room)
 {
-    if (in_array) return room_in_array(question, count, room);
-    room->values = count <= PY_SSIZE_T_MAX / question->size ? PyMem_Malloc(count * question->size) : NULL;
+    if (in_array) return room_in_array(call, count, room);
+    room->values = count <= PY_SSIZE_T_MAX / result_size(call) ? PyMem_Malloc(count * result_size(call)) : NULL;
     if (room->values == NULL) PyErr_NoMemory();
     return room->values != NULL;
 }
@@ -248,47 +237,6 @@ static void room_release(Room *room)
     if (room->view.obj != NULL) PyBuffer_Release(&room->view);
     else if (room->array == NULL) PyMem_Free(room->values);
     Py_CLEAR(room->array);
-}
-
-/* Writes the results for a chunk. */
-static int32_t ask_chunk(Batch *batch, Chunk *chunk, const Question *question, char *answers)
-{
-    int32_t answer = DS_OK;
-    for (size_t i = 0, count; i < chunk->count && answer >= 0; i += count) {
-        char *place = answers + i * question->size;
-        count = run_length(chunk, batch->items, i);
-        if (batch->items->with_texts && chunk->strings[i].bytes != NULL)
-            answer = question->strings(batch, chunk->strings + i, count, place);
-        else answer = question->numbers(batch, chunk->numbers + i, count, place);
-        batch->done += answer >= 0 && question->changes ? count : 0;
-    }
-    return answer;
-}
-
-static int32_t ask_items(Batch *batch, const Question *question, char *answers)
-{
-    Chunk chunk;
-    const Items *items = batch->items;
-    int32_t answer = DS_OK;
-    chunk_open(&chunk, items->count, question->longest != NULL ? question->longest(batch->handle) : CHUNK);
-    for (size_t i = 0; i < items->count && answer >= 0; i += chunk.rows) {
-        answer = i > 0 && !batch_goes_on(batch) ? STOPPED : chunk_read(&chunk, items, NULL, i);
-        if (answer >= 0 && chunk.count < chunk.rows) answer = CHANGED;
-        if (answer >= 0) answer = ask_chunk(batch, &chunk, question, answers + i * question->size);
-    }
-    chunk_close(&chunk);
-    return answer;
-}
-
-static bool ask(Batch *batch, const Question *question, const Items *items, void *answers)
-{
-    batch->items = items;
-    if ((question->check != NULL && !question->check(batch->self, items)) || !batch_begin(batch, items)) return false;
-    int32_t answer = ask_items(batch, question, answers);
-    batch_end(batch);
-    if (answer == CHANGED || answer == DS_INVALID_UTF8) set_changed();
-    else if (answer < 0 && answer != STOPPED) refuse(answer);
-    return answer >= 0;
 }
 
 /* Appends `count` times None to a list. A batch that changes a sketch does so before it begins, and so fails before it. */
@@ -302,58 +250,74 @@ static bool make_places(PyObject *list, size_t count)
     return made;
 }
 
+PyObject *bounds_tuple(const ds_frequent_items_bounds *bounds)
+{
+    return Py_BuildValue("KKK", (unsigned long long)bounds->lower_bound, (unsigned long long)bounds->estimate,
+                         (unsigned long long)bounds->upper_bound);
+}
+
+/* Returns a result as an object. */
+static PyObject *object_at(const Call *call, const void *results, size_t at)
+{
+    const uint64_t *numbers = results;
+    if (call->type[0] == '?') return PyBool_FromLong(((const bool *)results)[at]);
+    if (call->width > 1) return bounds_tuple((const ds_frequent_items_bounds *)results + at);
+    return call->type[0] == 'i' ? PyLong_FromLongLong((int64_t)numbers[at]) : PyLong_FromUnsignedLongLong(numbers[at]);
+}
+
 /* Writes results to the last places of a list. */
-static bool fill_places(PyObject *list, const Sketch *self, const Question *question, const void *answers, size_t count)
+static bool fill_places(PyObject *list, const Call *call, const void *results, size_t count)
 {
     size_t first = (size_t)PyList_GET_SIZE(list) - count;
     for (size_t i = 0; i < count; i++) {
-        PyObject *answer = question->object(self, answers, i);
-        if (answer == NULL || PyList_SetItem(list, (Py_ssize_t)(first + i), answer) < 0) return false;
+        PyObject *result = object_at(call, results, i);
+        if (result == NULL || PyList_SetItem(list, (Py_ssize_t)(first + i), result) < 0) return false;
     }
     return true;
 }
 
-/* Asks for the items that were read, and appends the results to a list. */
-static bool ask_into(Batch *batch, const Question *question, const Items *items, void *answers, PyObject *list)
+/* Asks for the items that were read, and appends the results to a list, if any. */
+static bool ask(Batch *batch, Items *items, void *results, PyObject *list)
 {
-    return make_places(list, items->count) && ask(batch, question, items, answers) &&
-           fill_places(list, batch->self, question, answers, items->count);
+    if (list != NULL && !make_places(list, items->count)) return false;
+    int32_t answer = batch_take(batch, items, NULL, results);
+    set_error(answer);
+    return answer >= 0 && (list == NULL || fill_places(list, batch->call, results, items->count));
 }
 
-/* Asks for the items of an iterator, which it reads in chunks, and appends the results to a list. */
-static bool ask_stream(Batch *batch, const Question *question, Items *items, PyObject *list)
+/* Asks for the items of an iterator, which it reads in chunks. */
+static bool ask_stream(Batch *batch, Items *items, PyObject *list)
 {
     bool asked;
-    void *answers = PyMem_Malloc(STREAM_CHUNK * question->size);
-    if (answers == NULL) PyErr_NoMemory();
+    void *results = PyMem_Malloc(STREAM_CHUNK * result_size(batch->call));
+    if (results == NULL) PyErr_NoMemory();
     do {
-        asked = answers != NULL && items_next(items, STREAM_CHUNK) && ask_into(batch, question, items, answers, list);
+        asked = results != NULL && items_next(items, STREAM_CHUNK) && ask(batch, items, results, list);
     } while (asked && items->iterator != NULL);
-    PyMem_Free(answers);
+    PyMem_Free(results);
     return asked;
 }
 
 /* Returns whether no item is missing. Sets an error if one is: it has no result. */
-static bool no_gaps(const Items *items, const Question *question)
+static bool no_gaps(const Items *items, const Call *call)
 {
     size_t gaps = items_gaps(items);
     if (gaps > 0)
-        PyErr_Format(PyExc_ValueError, "%s takes no missing items, and %zu of %zu are missing: drop them first", question->call,
-                     gaps, items->count);
+        PyErr_Format(PyExc_ValueError, "%s takes no missing items, and %zu of %zu are missing: drop them first", call->name, gaps,
+                     items->count);
     return gaps == 0;
 }
 
-static PyObject *ask_source(Batch *batch, const Source *source, const Question *question)
+static PyObject *ask_source(Batch *batch, const Source *source)
 {
     Items items = {0};
     Room room = {0};
     if (!items_open(source, &items)) return NULL;
     bool asked = false, is_stream = items.iterator != NULL, in_array = source->in_array && !is_stream;
     PyObject *list = in_array ? NULL : PyList_New(0);
-    if ((in_array || list != NULL) && no_gaps(&items, question)) {
-        if (is_stream) asked = ask_stream(batch, question, &items, list);
-        else if (room_for(question, in_array, items.count, &room))
-            asked = in_array ? ask(batch, question, &items, room.values) : ask_into(batch, question, &items, room.values, list);
+    if ((in_array || list != NULL) && no_gaps(&items, batch->call)) {
+        if (is_stream) asked = ask_stream(batch, &items, list);
+        else if (room_for(batch->call, in_array, items.count, &room)) asked = ask(batch, &items, room.values, list);
     }
     PyObject *result = !asked ? NULL : Py_NewRef(in_array ? room.array : list);
     Py_XDECREF(list);
@@ -363,17 +327,16 @@ static PyObject *ask_source(Batch *batch, const Source *source, const Question *
     return result;
 }
 
-PyObject *ask_all(Sketch *self, PyObject *given, const Question *question)
+PyObject *ask_all(Sketch *self, PyObject *given, const Call *call)
 {
-    Batch batch = {.self = self, .use = {.changes = question->changes}, .context = question->context, .took = QUICK};
+    Batch batch = {.self = self, .call = call, .use = {.changes = call->changes}, .took = QUICK};
     Source source;
     PyObject *result = NULL;
     int masked = is_masked(given);
     if (masked < 0) return NULL;
     if (masked > 0)
-        return PyErr_Format(PyExc_TypeError, "%s takes no masked array: write %s(array.compressed())", question->call,
-                            question->call);
-    if (source_of(given, question->call, false, &source)) result = ask_source(&batch, &source, question);
+        return PyErr_Format(PyExc_TypeError, "%s takes no masked array: write %s(array.compressed())", call->name, call->name);
+    if (source_of(given, call->name, false, &source)) result = ask_source(&batch, &source);
     source_release(&source);
     return result;
 }

@@ -1,20 +1,26 @@
-/* Chunks: some items at a time, without the missing ones, for the library. */
-#include "sketches.h"
+/* Chunks: some items at a time, without the missing ones, as the library takes them. */
+#include "items.h"
 
 #include <string.h>
 
 /* The maximum number of bytes of strings of a fixed size in a chunk with more than one of them. */
 #define MOST_BYTES ((size_t)1 << 20)
 
-bool below_top(const uint64_t *chunk, size_t count)
+/* A Count-Min sketch takes many numbers row by row, so that a row stays in a near cache. It gets many more than CHUNK numbers if
+ * there is memory for a copy of them. With more than 16 rows it gets fewer, since a batch checks for Ctrl-C only between calls. */
+#define LONG_CHUNK ((size_t)1 << 19)
+#define LONG_WORK ((size_t)1 << 23)
+
+/* Returns whether all numbers are below 2^63, and so have the same value as signed numbers. */
+static bool below_top(const uint64_t *numbers, size_t count)
 {
     uint64_t all = 0;
-    for (size_t i = 0; i < count; i++) all |= chunk[i];
+    for (size_t i = 0; i < count; i++) all |= numbers[i];
     return all <= INT64_MAX;
 }
 
-/* Returns the run of a row. */
-static const Run *run_of(const Items *items, size_t row)
+/* Returns the run of a row. Sets the row's index in it, and limits `count` to the number of rows from there on. */
+static const Run *run_of(const Items *items, size_t row, size_t *at, size_t *count)
 {
     size_t low = 0, high = items->num_runs;
     while (high - low > 1) {
@@ -22,130 +28,215 @@ static const Run *run_of(const Items *items, size_t row)
         if (items->runs[middle].first <= row) low = middle;
         else high = middle;
     }
-    return &items->runs[low];
+    const Run *run = &items->runs[low];
+    *at = row - run->first;
+    if (*count > run->count - *at) *count = run->count - *at;
+    return run;
 }
 
-/* Returns the number of rows of a run from row `first` of all on, at most `most`. */
-static size_t rows_in(const Run *run, size_t first, size_t most)
+/* Sets to false what belongs to missing items. */
+static void drop_missing(const Items *items, size_t first, size_t count, bool *present)
 {
-    size_t left = run->first + run->count - first;
-    return left < most ? left : most;
-}
-
-void items_present(const Items *items, size_t first, size_t count, bool *present)
-{
+    if (!items->has_gaps) return;
     for (size_t i = 0; items->missing != NULL && i < count; i++) present[i] &= !items->missing[first + i];
-    if (items->items != NULL) return;
-    for (size_t i = 0, some; i < count; i += some) {
-        const Run *run = run_of(items, first + i);
-        some = rows_in(run, first + i, count - i);
-        run_present(run, first + i - run->first, some, present + i);
+    for (size_t i = 0, at, some; items->items == NULL && i < count; i += some) {
+        some = count - i;
+        const Run *run = run_of(items, first + i, &at, &some);
+        run_present(run, at, some, present + i);
     }
+}
+
+void rows_present(const Items *items, const Items *others, size_t first, size_t count, bool *present)
+{
+    memset(present, true, count);
+    drop_missing(items, first, count, present);
+    if (others != NULL) drop_missing(others, first, count, present);
 }
 
 size_t items_gaps(const Items *items)
 {
     size_t gaps = 0;
     for (size_t i = 0; items->has_gaps && i < items->count; i++) {
-        bool present = true;
-        items_present(items, i, 1, &present);
+        bool present;
+        rows_present(items, NULL, i, 1, &present);
         gaps += !present;
     }
     return gaps;
 }
 
-static bool read_numbers(const Items *items, size_t first, size_t count, uint64_t *numbers)
+static void read_numbers(const Items *items, size_t first, size_t count, uint64_t *numbers)
 {
     for (size_t i = 0; items->items != NULL && i < count; i++) numbers[i] = items->items[first + i].value;
-    for (size_t i = 0, some; items->items == NULL && i < count; i += some) {
-        const Run *run = run_of(items, first + i);
-        some = rows_in(run, first + i, count - i);
-        if (!run_numbers(run, first + i - run->first, some, numbers + i)) return false;
+    for (size_t i = 0, at, some; items->items == NULL && i < count; i += some) {
+        some = count - i;
+        const Run *run = run_of(items, first + i, &at, &some);
+        run_numbers(run, at, some, numbers + i);
     }
-    return true;
+}
+
+bool find_above_top(const Items *numbers, const Items *others, uint64_t *number)
+{
+    uint64_t some[CHUNK];
+    bool present[CHUNK];
+    for (size_t i = 0, count; i < numbers->count; i += count) {
+        count = numbers->count - i < CHUNK ? numbers->count - i : CHUNK;
+        read_numbers(numbers, i, count, some);
+        if (below_top(some, count)) continue;
+        rows_present(numbers, others, i, count, present);
+        for (size_t j = 0; j < count; j++) {
+            *number = some[j];
+            if (present[j] && *number > INT64_MAX) return true;
+        }
+    }
+    return false;
 }
 
 void weights_chunk(const Weights *weights, size_t first, size_t count, uint64_t *chunk)
 {
-    if (weights->each)
-        read_numbers(&weights->items, first, count, chunk); /* no index can be out of range, since weights have no dictionary */
+    if (weights->each) read_numbers(&weights->items, first, count, chunk);
     for (size_t i = 0; !weights->each && i < count; i++) chunk[i] = weights->same;
 }
 
-static bool read_strings(const Items *items, size_t first, size_t count, Chunk *chunk)
+/* Takes row `at` of the chunk as its next item. */
+static void keep_row(Chunk *chunk, size_t at)
 {
-    for (size_t i = 0; items->items != NULL && i < count; i++) {
-        const Item *item = &items->items[first + i];
-        chunk->strings[i] = (ds_string){(const uint8_t *)item->text, item->value};
+    if (chunk->weights != NULL) chunk->weights[chunk->count] = chunk->weights[at];
+    chunk->count++;
+}
+
+static void keep_numbers(Chunk *chunk)
+{
+    for (size_t i = 0; i < chunk->rows; i++) {
+        chunk->numbers[chunk->count] = chunk->numbers[i];
+        if (chunk->present[i]) keep_row(chunk, i);
     }
-    for (size_t i = 0, some; items->items == NULL && i < count; i += some) {
-        const Run *run = run_of(items, first + i);
-        some = rows_in(run, first + i, count - i);
-        if (!run_strings(run, first + i - run->first, some, chunk->room, chunk->strings + i)) return false;
+}
+
+/* Reads the items of a list, or of a run with a dictionary, up to the first of the other type. `run` is NULL for a list. */
+static bool read_entries(Chunk *chunk, const Run *run, size_t at, bool *with_texts)
+{
+    size_t i = 0;
+    *with_texts = false;
+    if (run != NULL) run_numbers(run, at, chunk->rows, chunk->numbers);
+    for (; i < chunk->rows; i++) {
+        const Item *item = run != NULL ? run_entry_by_index(run, at + i, chunk->numbers[i]) : &chunk->batch->items->items[at + i];
+        if (item == NULL) return false;
+        if (item->missing || !chunk->present[i]) continue;
+        if (chunk->count > 0 && *with_texts != (item->text != NULL)) break;
+        *with_texts = item->text != NULL;
+        if (*with_texts) chunk->strings[chunk->count] = (ds_string){(const uint8_t *)item->text, item->value};
+        else chunk->numbers[chunk->count] = item->value;
+        keep_row(chunk, i);
+    }
+    chunk->rows = i;
+    return true;
+}
+
+static bool read_strings(Chunk *chunk, const Run *run, size_t at)
+{
+    for (size_t i = 0; i < chunk->rows; i++) {
+        uint8_t *room = chunk->room != NULL ? chunk->room + chunk->count * (size_t)run->size : NULL;
+        if (!chunk->present[i]) continue;
+        if (!run_string(run, at + i, room, &chunk->strings[chunk->count])) return false;
+        keep_row(chunk, i);
     }
     return true;
 }
 
-/* Removes the missing items of the chunk, and those whose weight is missing. */
-static void drop_missing(Chunk *chunk, const Items *items, const Weights *weights, size_t first)
+/* Passes the strings of a run by a copy of their offsets, which nothing changes after the library has checked them. Returns false
+ * for strings without offsets. */
+static bool pass_offsets(Chunk *chunk, const Run *run, size_t at)
 {
-    bool present[CHUNK];
-    size_t kept = 0;
-    for (size_t i = 0, some; i < chunk->rows; i += some) {
-        some = chunk->rows - i < CHUNK ? chunk->rows - i : CHUNK;
-        memset(present, true, some);
-        items_present(items, first + i, some, present);
-        if (weights != NULL && weights->each) items_present(&weights->items, first + i, some, present);
-        for (size_t j = i; j < i + some; j++) {
-            if (items->with_texts) chunk->strings[kept] = chunk->strings[j];
-            else chunk->numbers[kept] = chunk->numbers[j];
-            if (weights != NULL) chunk->weights[kept] = chunk->weights[j];
-            kept += present[j - i];
-        }
-    }
-    chunk->count = kept;
+    size_t count = chunk->rows + 1;
+    if (run->layout != STRINGS_32 && run->layout != STRINGS_64) return false;
+    memcpy(chunk->numbers, run->start + (Py_ssize_t)at * run->stride, count * (size_t)run->size);
+    chunk->count = chunk->rows;
+    chunk->items = run->layout == STRINGS_32
+                       ? ds_items_offsets32(run->bytes, run->num_bytes, (const uint32_t *)chunk->numbers, count)
+                       : ds_items_offsets(run->bytes, run->num_bytes, chunk->numbers, count);
+    return true;
 }
 
-/* Sets the number of rows that are read from row `first` on, and makes room for their strings. */
-static bool prepare(Chunk *chunk, const Items *items, size_t first)
+/* Sets the number of rows that are read, of the `left` ones, and makes room for their strings. */
+static bool prepare(Chunk *chunk, const Run *run, size_t left)
 {
-    size_t most = chunk->most, size = 0;
-    if (items->with_texts && most > CHUNK) most = CHUNK;
-    if (items->num_runs == 1 && (items->runs[0].layout == FIXED_BYTES || items->runs[0].layout == FIXED_WIDE))
-        size = (size_t)items->runs[0].size;
-    if (size > MOST_BYTES / CHUNK) most = size < MOST_BYTES && MOST_BYTES / size < most ? MOST_BYTES / size : 1;
-    chunk->rows = chunk->count = items->count - first < most ? items->count - first : most;
-    if (size == 0 || chunk->room_size >= size * chunk->rows) return true;
+    size_t most = chunk->batch->items->with_texts && chunk->most > CHUNK ? CHUNK : chunk->most, size = 0;
+    if (run != NULL && (run->layout == FIXED_BYTES || run->layout == FIXED_WIDE)) size = (size_t)run->size;
+    if (size > MOST_BYTES / CHUNK) most = size < MOST_BYTES ? MOST_BYTES / size : 1;
+    if (most > chunk->ahead) most = chunk->ahead;
+    chunk->rows = left < most ? left : most;
+    chunk->count = 0;
+    if (chunk->room_size >= size * chunk->rows) return true;
     PyMem_RawFree(chunk->room);
     chunk->room_size = size * chunk->rows;
     chunk->room = PyMem_RawMalloc(chunk->room_size);
     return chunk->room != NULL;
 }
 
-int32_t chunk_read(Chunk *chunk, const Items *items, const Weights *weights, size_t first)
+/* Reads the rows of the chunk from row `first` on, which is row `at` of a run, or of a list if `run` is NULL. */
+static bool read_rows(Chunk *chunk, size_t first, const Run *run, size_t at)
 {
-    if (!prepare(chunk, items, first)) return DS_NO_MEMORY;
-    if (items->with_texts ? !read_strings(items, first, chunk->rows, chunk)
-                          : !read_numbers(items, first, chunk->rows, chunk->numbers))
-        return CHANGED;
-    if (weights != NULL) weights_chunk(weights, first, chunk->rows, chunk->weights);
-    if (items->has_gaps || (weights != NULL && weights->items.has_gaps)) drop_missing(chunk, items, weights, first);
-    return weights == NULL || weights_hold(weights, chunk->weights, chunk->count) ? DS_OK : CHANGED;
+    const Items *items = chunk->batch->items, *others = chunk->weights != NULL ? &chunk->weights_from->items : NULL;
+    const Sketch *sketch = chunk->batch->self;
+    bool of_entries = run == NULL || run->entries != NULL, with_texts = items->with_texts, read = true;
+    bool has_gaps = items->has_gaps || (others != NULL && others->has_gaps);
+    if (chunk->weights != NULL) weights_chunk(chunk->weights_from, first, chunk->rows, chunk->weights);
+    if (has_gaps || with_texts || of_entries) rows_present(items, others, first, chunk->rows, chunk->present);
+    if (of_entries) read = read_entries(chunk, run, at, &with_texts);
+    else if (with_texts && sketch != NULL && !has_gaps && pass_offsets(chunk, run, at)) return true;
+    else if (with_texts) read = read_strings(chunk, run, at);
+    else {
+        read_numbers(items, first, chunk->rows, chunk->numbers);
+        if (has_gaps) keep_numbers(chunk);
+        else chunk->count = chunk->rows;
+    }
+    if (with_texts) chunk->items = ds_items_strings(chunk->strings, chunk->count);
+    else if (sketch != NULL && sketch->kind == DS_FREQUENT_ITEMS_I64)
+        chunk->items = ds_items_i64((const int64_t *)chunk->numbers, chunk->count);
+    else chunk->items = ds_items_u64(chunk->numbers, chunk->count);
+    return read && (!items->below_top || below_top(chunk->numbers, chunk->count));
 }
 
-void chunk_open(Chunk *chunk, size_t count, size_t longest)
+int32_t chunk_read(Chunk *chunk, size_t first)
 {
-    chunk->numbers = chunk->few;
+    const Items *items = chunk->batch->items;
+    size_t left = items->count - first, in_run = left, at = first;
+    const Run *run = items->items == NULL ? run_of(items, first, &at, &in_run) : NULL;
+    /* numbers may be of many runs, and strings and values of a dictionary are of one */
+    if (!prepare(chunk, run, items->with_texts || items->of_entries ? in_run : left)) return DS_NO_MEMORY;
+    bool read = read_rows(chunk, first, run, at);
+    chunk->ahead = 2 * chunk->rows;
+    bool holds = chunk->weights == NULL || !chunk->weights_from->items.below_top || below_top(chunk->weights, chunk->count);
+    return read && holds ? DS_OK : CHANGED;
+}
+
+/* Returns the maximum number of numbers without weights in one call. */
+static size_t longest(const Batch *batch)
+{
+    ds_status status = {0};
+    if (batch->self == NULL || (batch->self->kind != DS_COUNT_MIN_U64 && batch->self->kind != DS_COUNT_MIN_I64)) return CHUNK;
+    ds_get_status(batch->handle, &status);
+    return status.num_hashes > 16 ? LONG_WORK / status.num_hashes : LONG_CHUNK;
+}
+
+void chunk_open(Chunk *chunk, const Batch *batch, const Weights *weights)
+{
+    size_t most = weights == NULL && batch->items->count > CHUNK ? longest(batch) : CHUNK;
+    if (most > batch->items->count) most = batch->items->count;
+    chunk->batch = batch;
+    chunk->weights_from = weights;
+    chunk->weights = weights != NULL ? chunk->few_weights : NULL;
+    chunk->numbers = most > CHUNK ? PyMem_RawMalloc(most * (sizeof *chunk->numbers + sizeof *chunk->present)) : NULL;
+    chunk->most = chunk->numbers != NULL ? most : CHUNK;
+    chunk->present = chunk->numbers != NULL ? (bool *)(chunk->numbers + most) : chunk->few_present;
+    if (chunk->numbers == NULL) chunk->numbers = chunk->few_numbers;
+    chunk->ahead = SIZE_MAX;
     chunk->room = NULL;
     chunk->room_size = 0;
-    chunk->most = count < longest ? count : longest;
-    uint64_t *many = chunk->most > CHUNK ? PyMem_RawMalloc(chunk->most * sizeof *many) : NULL;
-    if (many != NULL) chunk->numbers = many;
-    else chunk->most = CHUNK;
 }
 
 void chunk_close(Chunk *chunk)
 {
-    if (chunk->numbers != chunk->few) PyMem_RawFree(chunk->numbers);
+    if (chunk->numbers != chunk->few_numbers) PyMem_RawFree(chunk->numbers);
     PyMem_RawFree(chunk->room);
 }

@@ -1,5 +1,5 @@
 /* CountMinSketch: estimates of weights, which are unsigned or signed 64-bit numbers. */
-#include "sketches.h"
+#include "items.h"
 
 static PyObject *count_new(PyTypeObject *type, PyObject *args, PyObject *keywords)
 {
@@ -22,6 +22,102 @@ static PyObject *count_new(PyTypeObject *type, PyObject *args, PyObject *keyword
     answer = ds_count_min_new(&made, kind, few_hashes, few_buckets, seed);
     Py_END_ALLOW_THREADS
     return answer < 0 ? refuse(answer) : sketch_of(type, kind, &made);
+}
+
+/* Calls a function of one item and of a number for the result. A number below 0 is the same item as its unsigned number of the same
+ * bytes. */
+#define OF_ONE(self, call, item, number) \
+    (has_sign(self) ? OF_TYPE(i64, call, &(self)->handle, item, (int64_t *)(number)) \
+                    : OF_TYPE(u64, call, &(self)->handle, item, number))
+#define OF_TYPE(type, call, handle, item, number) \
+    ((item)->text != NULL \
+         ? ds_count_min_##type##_##call##_string((handle), (const uint8_t *)(item)->text, (item)->value, (number)) \
+         : ds_count_min_##type##_##call##_u64((handle), (item)->value, (number)))
+
+static int32_t estimate_one(Sketch *self, const Item *item, uint64_t *number)
+{
+    return OF_ONE(self, estimate, item, number);
+}
+
+static int32_t upper_bound_one(Sketch *self, const Item *item, uint64_t *number)
+{
+    return OF_ONE(self, upper_bound, item, number);
+}
+
+static int32_t estimate_all(Batch *batch, const Chunk *chunk, void *results)
+{
+    return has_sign(batch->self) ? (ds_count_min_i64_estimate_all)(batch->handle, &chunk->items, results, chunk->count)
+                                 : (ds_count_min_u64_estimate_all)(batch->handle, &chunk->items, results, chunk->count);
+}
+
+PyDoc_STRVAR(update_doc,
+"update($self, items, /, weight=1)\n--\n\n"
+"Add a weight to an item's, or to those of many: an iterable, a buffer of integers, an array of strings, or a column of\n"
+"Arrow or pandas.\n\n"
+"The weight is from 0 to 2**64 - 1, in a signed sketch from -2**63 to 2**63 - 1. Many items have one weight each, or a\n"
+"weight for each item in an iterable, a buffer or a column. Missing items and items with a missing weight are skipped. A\n"
+"mapping adds its values to the weights of its keys. Raise 'WeightOverflow' if the total weight would exceed the maximum.\n"
+"Then nothing is counted.\n\n"
+"All items of a list, an array, a column or a mapping are checked before the first is counted. Any other iterable is\n"
+"checked and counted 4,096 items at a time. A later error has a note with the number of counted items.\n\n"
+">>> import datasketches_rattle as ds\n"
+">>> load = ds.CountMinSketch(num_hashes=4, num_buckets=1 << 10)\n"
+">>> load.update(7, 30)\n"
+">>> load.update([7, 8, -9, 'nine'])\n"
+">>> load.update([7, 'nine'], [100, 200])\n"
+">>> load[7], load[8], load[-9], load['nine'], load[10]\n"
+"(131, 1, 1, 201, 0)\n"
+">>> load.update({'apple': 5, 'pear': 2})\n"
+">>> load['apple'], load['pear']\n"
+"(5, 2)\n");
+
+static PyObject *asked(PyObject *object, PyObject *given, int32_t (*ask)(Sketch *, const Item *, uint64_t *))
+{
+    Sketch *self = (Sketch *)object;
+    Item item;
+    uint64_t number = 0;
+    if (!item_of(given, &item) || !sketch_ready(self)) return NULL;
+    int32_t answer = ask(self, &item, &number);
+    if (answer < 0) return refuse(answer);
+    return has_sign(self) ? PyLong_FromLongLong((int64_t)number) : PyLong_FromUnsignedLongLong(number);
+}
+
+/* Returns the estimate of one item. */
+static PyObject *count_at(PyObject *object, PyObject *item)
+{
+    return asked(object, item, estimate_one);
+}
+
+PyDoc_STRVAR(estimate_doc,
+"estimate($self, items, /)\n--\n\n"
+"Return the estimate of an item's weight, as `load[item]` does. It is never below what was added since the last halving\n"
+"or decay, if no weight is below 0.\n\n"
+"Return a list of estimates for many items, and an array for an array of numpy or pandas.\n\n"
+">>> import datasketches_rattle as ds\n"
+">>> load = ds.CountMinSketch(num_hashes=4, num_buckets=1 << 10)\n"
+">>> load.update(7, 30)\n"
+">>> load.estimate(7), load.estimate([7, 'seven'])\n"
+"(30, [30, 0])\n");
+
+static PyObject *count_estimate(PyObject *object, PyObject *given)
+{
+    Sketch *self = (Sketch *)object;
+    const Call many = {.name = "estimate", .take = estimate_all, .type = has_sign(self) ? "i8" : "u8", .width = 1};
+    return is_single(given) ? count_at(object, given) : ask_all(self, given, &many);
+}
+
+PyDoc_STRVAR(upper_bound_doc,
+"upper_bound($self, item, /)\n--\n\n"
+"Return the estimate plus a margin: e times the total weight over the number of buckets.\n\n"
+">>> import datasketches_rattle as ds\n"
+">>> load = ds.CountMinSketch(num_hashes=4, num_buckets=128)\n"
+">>> load.update(7, 99)\n"
+">>> load[7], load.upper_bound(7)\n"
+"(99, 101)\n");
+
+static PyObject *count_upper_bound(PyObject *object, PyObject *item)
+{
+    return asked(object, item, upper_bound_one);
 }
 
 PyDoc_STRVAR(halve_doc,
@@ -148,11 +244,11 @@ static PyGetSetDef count_fields[] = {
 #define FAST(function) (PyCFunction)(void (*)(void))(function)
 
 static PyMethodDef count_methods[] = {
-    {"update", FAST(count_update), METH_FASTCALL | METH_KEYWORDS, count_update_doc},
+    {"update", FAST(sketch_update), METH_FASTCALL | METH_KEYWORDS, update_doc},
     KEYWORDS_ROW("update_words", sketch_words, 0, count_words_doc),
     KEYWORDS_ROW("update_lines", sketch_lines, 0, count_lines_doc),
-    {"estimate", count_estimate, METH_O, count_estimate_doc},
-    {"upper_bound", count_upper_bound, METH_O, count_upper_bound_doc},
+    {"estimate", count_estimate, METH_O, estimate_doc},
+    {"upper_bound", count_upper_bound, METH_O, upper_bound_doc},
     {"merge_all", sketch_merge_all, METH_O, merge_all_doc},
     {"halve", count_halve, METH_NOARGS, halve_doc},
     {"decay", FAST(count_decay), METH_FASTCALL, decay_doc},
@@ -186,18 +282,8 @@ PyDoc_STRVAR(count_doc,
 PyTypeObject count_type = {
     /* clang-format off */
     PyVarObject_HEAD_INIT(NULL, 0)
-        /* clang-format on */
-        .tp_name = "datasketches_rattle.CountMinSketch",
-    .tp_basicsize = sizeof(Sketch),
-    .tp_doc = count_doc,
-    .tp_flags = Py_TPFLAGS_DEFAULT | Py_TPFLAGS_BASETYPE,
-    .tp_new = count_new,
-    .tp_dealloc = sketch_dealloc,
-    .tp_repr = sketch_repr,
-    .tp_methods = count_methods,
-    .tp_getset = count_fields,
-    .tp_as_number = &count_as_number,
-    .tp_as_mapping = &count_as_mapping,
-    .tp_richcompare = sketch_compare,
+    /* clang-format on */
+    FIELDS_OF_ALL(count, "CountMinSketch"),
     .tp_hash = PyObject_HashNotImplemented,
+    .tp_as_mapping = &count_as_mapping,
 };

@@ -1,5 +1,5 @@
 /* BloomFilter. */
-#include "sketches.h"
+#include "items.h"
 
 static PyObject *filter_new(PyTypeObject *type, PyObject *args, PyObject *keywords)
 {
@@ -19,6 +19,110 @@ static PyObject *filter_new(PyTypeObject *type, PyObject *args, PyObject *keywor
     answer = ds_bloom_new(&made, bits, few, seed);
     Py_END_ALLOW_THREADS
     return answer < 0 ? refuse(answer) : sketch_of(type, DS_BLOOM, &made);
+}
+
+/* Calls a function of one item. A number below 0 is the same item as its unsigned number of the same bytes. */
+#define OF_ONE(call, handle, item) \
+    ((item).text != NULL ? ds_bloom_##call##_string((handle), (const uint8_t *)(item).text, (item).value) \
+                         : ds_bloom_##call##_u64((handle), (item).value))
+
+static int32_t insert_all(Batch *batch, const Chunk *chunk, void *Py_UNUSED(results))
+{
+    return (ds_bloom_insert_all)(batch->handle, &chunk->items);
+}
+
+static int32_t contains_all(Batch *batch, const Chunk *chunk, void *results)
+{
+    return (ds_bloom_contains_all)(batch->handle, &chunk->items, results, chunk->count);
+}
+
+static int32_t contains_and_insert_all(Batch *batch, const Chunk *chunk, void *results)
+{
+    return (ds_bloom_contains_and_insert_all)(batch->handle, &chunk->items, results, chunk->count);
+}
+
+PyDoc_STRVAR(insert_doc,
+"insert($self, items, /)\n--\n\n"
+"Insert a str, an int, or each of many: a list or other iterable of these, a buffer of integers, an array of strings, or a\n"
+"column of Arrow or pandas, of which missing items are skipped.\n\n"
+"All items of a list, an array or a column are checked before the first is inserted. Any other iterable is checked and inserted\n"
+"4,096 items at a time. A later error has a note with the number of inserted items. A mapping is rejected: "
+"write 'insert(mapping.keys())'.\n\n"
+">>> import datasketches_rattle as ds\n"
+">>> seen = ds.BloomFilter(num_bits=1024, num_hashes=5)\n"
+">>> seen.insert('apple')\n"
+">>> seen.insert([1, 2, -3])\n"
+">>> 'apple' in seen, -3 in seen\n"
+"(True, True)\n");
+
+static PyObject *filter_insert(PyObject *object, PyObject *given)
+{
+    static const Call many = {.name = "insert", .changes = true, .take = insert_all};
+    Sketch *self = (Sketch *)object;
+    Item item;
+    Items items;
+    Weights weights;
+    if (!is_single(given)) return items_of(given, many.name, &items, &weights) ? update_all(self, &items, &weights, &many) : NULL;
+    if (!item_of(given, &item) || !sketch_ready_to_change(self)) return NULL;
+    int32_t answer = OF_ONE(insert, &self->handle, item);
+    if (answer < 0) return refuse(answer);
+    Py_RETURN_NONE;
+}
+
+static int filter_has(PyObject *object, PyObject *given)
+{
+    Sketch *self = (Sketch *)object;
+    Item item;
+    if (!item_of(given, &item) || !sketch_ready(self)) return -1;
+    int32_t answer = OF_ONE(contains, &self->handle, item);
+    if (answer < 0) refuse(answer);
+    return answer < 0 ? -1 : answer;
+}
+
+PyDoc_STRVAR(contains_doc,
+"contains($self, items, /)\n--\n\n"
+"Return whether the filter contains an item. Return a list of bools for many items, and an array for an array of\n"
+"numpy or pandas.\n\n"
+"False is certain for items that were only inserted and never taken away. True may be a false positive.\n\n"
+">>> import datasketches_rattle as ds\n"
+">>> seen = ds.BloomFilter(num_bits=1024, num_hashes=5)\n"
+">>> seen.insert('apple')\n"
+">>> seen.contains('apple')\n"
+"True\n"
+">>> seen.contains(['apple', 'pear', 7])\n"
+"[True, False, False]\n");
+
+static PyObject *filter_contains(PyObject *object, PyObject *given)
+{
+    static const Call many = {.name = "contains", .take = contains_all, .type = "?", .width = 1};
+    if (!is_single(given)) return ask_all((Sketch *)object, given, &many);
+    int answer = filter_has(object, given);
+    return answer < 0 ? NULL : PyBool_FromLong(answer);
+}
+
+PyDoc_STRVAR(contains_and_insert_doc,
+"contains_and_insert($self, items, /)\n--\n\n"
+"Insert an item, and return whether the filter contained it before. Return a list of bools for many items, and an array for an\n"
+"array of numpy or pandas. Many items are inserted one after another, so a repeated item is contained the second time.\n\n"
+"False is certain for items that were never inserted before the call took them. True may be a false positive. Missing items raise\n"
+"ValueError, as in `contains`, and errors are those of `insert`.\n\n"
+">>> import datasketches_rattle as ds\n"
+">>> seen = ds.BloomFilter(num_bits=1024, num_hashes=5)\n"
+">>> seen.contains_and_insert('apple'), seen.contains_and_insert('apple')\n"
+"(False, True)\n"
+">>> seen.contains_and_insert(['apple', 'pear', 'pear'])\n"
+"[True, False, True]\n");
+
+static PyObject *filter_contains_and_insert(PyObject *object, PyObject *given)
+{
+    static const Call many = {
+        .name = "contains_and_insert", .changes = true, .take = contains_and_insert_all, .type = "?", .width = 1};
+    Sketch *self = (Sketch *)object;
+    Item item;
+    if (!is_single(given)) return ask_all(self, given, &many);
+    if (!item_of(given, &item) || !sketch_ready_to_change(self)) return NULL;
+    int32_t answer = OF_ONE(contains_and_insert, &self->handle, item);
+    return answer < 0 ? refuse(answer) : PyBool_FromLong(answer);
 }
 
 PyDoc_STRVAR(reset_doc,
@@ -113,11 +217,11 @@ static PyGetSetDef filter_fields[] = {
 };
 
 static PyMethodDef filter_methods[] = {
-    {"insert", filter_insert, METH_O, filter_insert_doc},
+    {"insert", filter_insert, METH_O, insert_doc},
     KEYWORDS_ROW("insert_words", sketch_words, 0, filter_words_doc),
     KEYWORDS_ROW("insert_lines", sketch_lines, 0, filter_lines_doc),
-    {"contains", filter_contains, METH_O, filter_contains_doc},
-    {"contains_and_insert", filter_contains_and_insert, METH_O, filter_contains_and_insert_doc},
+    {"contains", filter_contains, METH_O, contains_doc},
+    {"contains_and_insert", filter_contains_and_insert, METH_O, contains_and_insert_doc},
     {"union_all", sketch_merge_all, METH_O, union_all_doc},
     {"reset", sketch_reset, METH_NOARGS, reset_doc},
     CLASS_METHOD("suggest_num_bits", filter_suggest_bits),
@@ -152,18 +256,8 @@ PyDoc_STRVAR(filter_doc,
 PyTypeObject filter_type = {
     /* clang-format off */
     PyVarObject_HEAD_INIT(NULL, 0)
-        /* clang-format on */
-        .tp_name = "datasketches_rattle.BloomFilter",
-    .tp_basicsize = sizeof(Sketch),
-    .tp_doc = filter_doc,
-    .tp_flags = Py_TPFLAGS_DEFAULT | Py_TPFLAGS_BASETYPE,
-    .tp_new = filter_new,
-    .tp_dealloc = sketch_dealloc,
-    .tp_repr = sketch_repr,
-    .tp_richcompare = sketch_compare,
+    /* clang-format on */
+    FIELDS_OF_ALL(filter, "BloomFilter"),
     .tp_hash = PyObject_HashNotImplemented,
-    .tp_methods = filter_methods,
-    .tp_getset = filter_fields,
-    .tp_as_number = &filter_as_number,
     .tp_as_sequence = &filter_as_sequence,
 };

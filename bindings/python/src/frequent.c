@@ -1,5 +1,5 @@
 /* FrequentItemsSketch: heavy hitters. Items are signed or unsigned 64-bit int, or str. */
-#include "sketches.h"
+#include "items.h"
 
 const char *item_name(int32_t kind)
 {
@@ -43,6 +43,144 @@ static PyObject *frequent_new(PyTypeObject *type, PyObject *args, PyObject *keyw
     ds_sketch made = DS_NONE;
     int32_t answer = ds_frequent_items_new(&made, kind, size, sample, given);
     return answer < 0 ? refuse(answer) : sketch_of(type, kind, &made);
+}
+
+/* Returns whether the sketch is one of frequent items. */
+static bool of_frequent(const Sketch *self)
+{
+    return self->kind >= DS_FREQUENT_ITEMS_U64;
+}
+
+bool counts(const Sketch *self, const Item *item)
+{
+    bool text = item->text != NULL;
+    if (!of_frequent(self) || item->missing) return true;
+    if (text != has_texts(self))
+        PyErr_SetString(PyExc_TypeError, text ? "this sketch counts int, not str" : "this sketch counts str, not int");
+    else if (text) return true;
+    else if (has_sign(self) && !item->negative && item->value > INT64_MAX)
+        PyErr_SetString(PyExc_OverflowError, "the item is above 2**63 - 1");
+    else if (!has_sign(self) && item->negative) PyErr_SetString(PyExc_OverflowError, "the item is below 0");
+    else return true;
+    return false;
+}
+
+/* Checks the rows of a run with a dictionary, unless all values of the dictionary are counted. */
+static bool counts_rows(const Sketch *self, const Run *run)
+{
+    bool good = true;
+    for (size_t i = 0; good && i < run->num_entries; i++) good = counts(self, &run->entries[i]);
+    if (good) return true;
+    PyErr_Clear();
+    good = true;
+    for (size_t at = 0; good && at < run->count; at++) {
+        const Item *item = run_entry(run, at);
+        good = item == NULL || counts(self, item);
+    }
+    return good;
+}
+
+bool counts_all(const Sketch *self, Items *items)
+{
+    bool good = true, all_texts = has_texts(self) && !items->with_numbers;
+    uint64_t number;
+    if (!of_frequent(self)) return true;
+    for (size_t i = 0; items->items != NULL && !all_texts && good && i < items->count; i++) good = counts(self, &items->items[i]);
+    for (size_t i = 0; items->of_entries && good && i < items->num_runs; i++) good = counts_rows(self, &items->runs[i]);
+    if (items->items != NULL || items->of_entries) return good;
+    if (items->with_texts != has_texts(self))
+        return items_gaps(items) == items->count || counts(self, &(Item){.text = items->with_texts ? "" : NULL});
+    items->below_top = !has_texts(self) && items->with_sign != has_sign(self);
+    return !items->below_top || !find_above_top(items, NULL, &number) ||
+           counts(self, &(Item){.value = number, .negative = items->with_sign});
+}
+
+PyDoc_STRVAR(update_doc,
+"update($self, items, /, weight=1)\n--\n\n"
+"Add a weight, 0 to 2**64 - 1, to an item's, or to those of many: an iterable, a buffer of integers, an array of strings,\n"
+"or a column of Arrow or pandas.\n\n"
+"Many items have one weight each, or a weight for each item in an iterable, a buffer or a column. Missing items and items\n"
+"with a missing weight are skipped. A mapping adds its values to the weights of its keys. Raise 'WeightOverflow' if the\n"
+"total weight would exceed 2**64 - 1. Then nothing is counted.\n\n"
+"All items of a list, an array, a column or a mapping are checked before the first is counted. Any other iterable is\n"
+"checked and counted 4,096 items at a time. A later error has a note with the number of counted items.\n\n"
+">>> import datasketches_rattle as ds\n"
+">>> heavy = ds.FrequentItemsSketch(64)\n"
+">>> heavy.update(7, 30)\n"
+">>> heavy.update([7, 8, -9])\n"
+">>> heavy[7], heavy[8], heavy[10]\n"
+"(31, 1, 0)\n"
+">>> words = ds.FrequentItemsSketch(64, item=str)\n"
+">>> words.update('to be or not to be'.split())\n"
+">>> words.update('apple', 3)\n"
+">>> words.update(['apple', 'pear'], [10, 20])\n"
+">>> words.update({'pear': 5})\n"
+">>> words['be'], words['apple'], words['pear']\n"
+"(2, 13, 25)\n");
+
+static bool bounds_of(PyObject *object, PyObject *given, ds_frequent_items_bounds *bounds)
+{
+    Sketch *self = (Sketch *)object;
+    Item item;
+    int32_t answer;
+    if (!item_of(given, &item) || !counts(self, &item) || !sketch_ready(self)) return false;
+    if (has_texts(self)) answer = ds_frequent_items_string_bounds(&self->handle, (const uint8_t *)item.text, item.value, bounds);
+    else if (has_sign(self)) answer = ds_frequent_items_i64_bounds(&self->handle, (int64_t)item.value, bounds);
+    else answer = ds_frequent_items_u64_bounds(&self->handle, item.value, bounds);
+    return answer >= 0 || refuse(answer) != NULL;
+}
+
+static int32_t bounds_all(Batch *batch, const Chunk *chunk, void *results)
+{
+    return (ds_frequent_items_bounds_all)(batch->handle, &chunk->items, results, chunk->count);
+}
+
+static int32_t estimate_all(Batch *batch, const Chunk *chunk, void *results)
+{
+    ds_frequent_items_bounds bounds[CHUNK];
+    int32_t answer = bounds_all(batch, chunk, bounds);
+    for (size_t i = 0; answer >= 0 && i < chunk->count; i++) ((uint64_t *)results)[i] = bounds[i].estimate;
+    return answer;
+}
+
+PyDoc_STRVAR(bounds_doc,
+"bounds($self, items, /)\n--\n\n"
+"Return the lower bound, the estimate and the upper bound of an item's weight. It lies between the first and the last.\n\n"
+"Return a list of these for many items, and an array with three columns for an array of numpy or pandas.\n\n"
+">>> import datasketches_rattle as ds\n"
+">>> heavy = ds.FrequentItemsSketch(8)\n"
+">>> heavy.update(range(7))\n"
+">>> heavy.bounds(3), heavy.bounds([3, 4])\n"
+"((0, 0, 1), [(0, 0, 1), (0, 0, 1)])\n");
+
+static PyObject *frequent_bounds(PyObject *object, PyObject *items)
+{
+    static const Call many = {.name = "bounds", .check = counts_all, .take = bounds_all, .type = "u8", .width = 3};
+    ds_frequent_items_bounds bounds;
+    if (!is_single(items)) return ask_all((Sketch *)object, items, &many);
+    return bounds_of(object, items, &bounds) ? bounds_tuple(&bounds) : NULL;
+}
+
+static PyObject *frequent_at(PyObject *object, PyObject *item)
+{
+    ds_frequent_items_bounds bounds;
+    return bounds_of(object, item, &bounds) ? PyLong_FromUnsignedLongLong(bounds.estimate) : NULL;
+}
+
+PyDoc_STRVAR(estimate_doc,
+"estimate($self, items, /)\n--\n\n"
+"Return the estimate of an item's weight, as `heavy[item]` does.\n\n"
+"Return a list of estimates for many items, and an array for an array of numpy or pandas.\n\n"
+">>> import datasketches_rattle as ds\n"
+">>> heavy = ds.FrequentItemsSketch(8)\n"
+">>> heavy.update(7, 30)\n"
+">>> heavy.estimate(7), heavy.estimate([7, 8])\n"
+"(30, [30, 0])\n");
+
+static PyObject *frequent_estimate(PyObject *object, PyObject *items)
+{
+    static const Call many = {.name = "estimate", .check = counts_all, .take = estimate_all, .type = "u8", .width = 1};
+    return is_single(items) ? frequent_at(object, items) : ask_all((Sketch *)object, items, &many);
 }
 
 PyDoc_STRVAR(merge_all_doc,
@@ -157,12 +295,12 @@ static PyGetSetDef frequent_fields[] = {
 };
 
 static PyMethodDef frequent_methods[] = {
-    {"update", (PyCFunction)(void (*)(void))frequent_update, METH_FASTCALL | METH_KEYWORDS, frequent_update_doc},
+    {"update", (PyCFunction)(void (*)(void))sketch_update, METH_FASTCALL | METH_KEYWORDS, update_doc},
     KEYWORDS_ROW("update_words", sketch_words, 0, frequent_words_doc),
     KEYWORDS_ROW("update_lines", sketch_lines, 0, frequent_lines_doc),
     CLASS_METHOD("from_file", frequent_from_file),
-    {"bounds", frequent_bounds, METH_O, frequent_bounds_doc},
-    {"estimate", frequent_estimate, METH_O, frequent_estimate_doc},
+    {"bounds", frequent_bounds, METH_O, bounds_doc},
+    {"estimate", frequent_estimate, METH_O, estimate_doc},
     WITH_KEYWORDS("rows", frequent_rows),
     WITH_KEYWORDS("top", frequent_top),
     {"merge_all", sketch_merge_all, METH_O, merge_all_doc},
@@ -204,18 +342,8 @@ PyDoc_STRVAR(frequent_doc,
 PyTypeObject frequent_type = {
     /* clang-format off */
     PyVarObject_HEAD_INIT(NULL, 0)
-        /* clang-format on */
-        .tp_name = "datasketches_rattle.FrequentItemsSketch",
-    .tp_basicsize = sizeof(Sketch),
-    .tp_doc = frequent_doc,
-    .tp_flags = Py_TPFLAGS_DEFAULT | Py_TPFLAGS_BASETYPE,
-    .tp_new = frequent_new,
-    .tp_dealloc = sketch_dealloc,
-    .tp_repr = sketch_repr,
-    .tp_methods = frequent_methods,
-    .tp_getset = frequent_fields,
-    .tp_as_number = &frequent_as_number,
-    .tp_as_mapping = &frequent_as_mapping,
-    .tp_richcompare = sketch_compare,
+    /* clang-format on */
+    FIELDS_OF_ALL(frequent, "FrequentItemsSketch"),
     .tp_hash = frequent_hash,
+    .tp_as_mapping = &frequent_as_mapping,
 };

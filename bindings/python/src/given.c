@@ -1,5 +1,5 @@
 /* Arguments with many items: mappings, tables, numpy arrays, pandas Series, and other iterables. */
-#include "sketches.h"
+#include "items.h"
 
 #include <string.h>
 

@@ -1,5 +1,5 @@
 /* Single items, which are str or int, and other numbers that a call takes. */
-#include "sketches.h"
+#include "items.h"
 
 #include <string.h>
 
@@ -48,25 +48,6 @@ bool item_of(PyObject *object, Item *item)
     return false;
 }
 
-bool natural_of(PyObject *object, const char *what, uint64_t *number)
-{
-    if (!is_number(object)) {
-        PyErr_Format(PyExc_TypeError, "%s is an int, not %.200s", what, Py_TYPE(object)->tp_name);
-        return false;
-    }
-    Item item = {0};
-    if (!number_of(object, &item)) {
-        if (PyErr_ExceptionMatches(PyExc_OverflowError)) PyErr_Format(PyExc_ValueError, "%s is from 0 to 2**64 - 1", what);
-        return false;
-    }
-    if (item.negative) {
-        PyErr_Format(PyExc_ValueError, "%s is below 0", what);
-        return false;
-    }
-    *number = item.value;
-    return true;
-}
-
 bool number_fits(const char *what, bool with_sign, uint64_t value, bool negative)
 {
     if (with_sign ? !negative && value > INT64_MAX : negative)
@@ -77,18 +58,23 @@ bool number_fits(const char *what, bool with_sign, uint64_t value, bool negative
 
 bool number_of_kind(PyObject *object, const char *what, bool with_sign, uint64_t *number)
 {
-    if (!with_sign) return natural_of(object, what, number);
+    Item item = {0};
     if (!is_number(object)) {
         PyErr_Format(PyExc_TypeError, "%s is an int, not %.200s", what, Py_TYPE(object)->tp_name);
         return false;
     }
-    Item item = {0};
     if (!number_of(object, &item)) {
-        if (PyErr_ExceptionMatches(PyExc_OverflowError)) PyErr_Format(PyExc_ValueError, "%s is from -2**63 to 2**63 - 1", what);
+        if (PyErr_ExceptionMatches(PyExc_OverflowError))
+            PyErr_Format(PyExc_ValueError, with_sign ? "%s is from -2**63 to 2**63 - 1" : "%s is from 0 to 2**64 - 1", what);
         return false;
     }
     *number = item.value;
-    return number_fits(what, true, item.value, item.negative);
+    return number_fits(what, with_sign, item.value, item.negative);
+}
+
+bool natural_of(PyObject *object, const char *what, uint64_t *number)
+{
+    return number_of_kind(object, what, false, number);
 }
 
 bool limit_of(PyObject *object, size_t *limit)

@@ -1,5 +1,5 @@
 /* The keyed hash of items that others choose. */
-#include "sketches.h"
+#include "items.h"
 
 #define KEY_BYTES 16
 
@@ -66,31 +66,19 @@ static bool has_numbers(const Items *items)
     return found;
 }
 
-static bool are_strings(const Sketch *Py_UNUSED(self), const Items *items)
+static bool are_strings(const Sketch *Py_UNUSED(self), Items *items)
 {
     bool numbers = has_numbers(items);
     if (numbers) PyErr_SetString(PyExc_TypeError, "many items of keyed_hash are strings, not numbers");
     return !numbers;
 }
 
-static int32_t hash_strings(Batch *batch, const ds_string *strings, size_t count, void *answers)
+static int32_t hash_all(Batch *batch, const Chunk *chunk, void *results)
 {
-    const ds_key *key = batch->context;
-    for (size_t i = 0; i < count; i++)
-        ((uint64_t *)answers)[i] = ds_keyed_hash(strings[i].bytes, strings[i].length, key->k0, key->k1);
+    const ds_key *key = batch->call->context;
+    for (size_t i = 0; i < chunk->count; i++)
+        ((uint64_t *)results)[i] = ds_keyed_hash(chunk->strings[i].bytes, chunk->strings[i].length, key->k0, key->k1);
     return DS_OK;
-}
-
-/* Is not called, since `are_strings` rejects numbers. */
-static int32_t hash_numbers(Batch *Py_UNUSED(batch), const uint64_t *Py_UNUSED(numbers), size_t Py_UNUSED(count),
-                            void *Py_UNUSED(answers))
-{
-    return DS_BAD_ARGUMENT;
-}
-
-static PyObject *hash_at(const Sketch *Py_UNUSED(self), const void *answers, size_t index)
-{
-    return PyLong_FromUnsignedLongLong(((const uint64_t *)answers)[index]);
 }
 
 PyDoc_STRVAR(keyed_hash_doc,
@@ -113,15 +101,7 @@ PyDoc_STRVAR(keyed_hash_doc,
 static PyObject *keyed_hash(PyObject *Py_UNUSED(module), PyObject *const *args, Py_ssize_t count)
 {
     ds_key key;
-    const Question many = {.call = "keyed_hash",
-                           .size = sizeof(uint64_t),
-                           .kind = "u8",
-                           .width = 1,
-                           .context = &key,
-                           .object = hash_at,
-                           .check = are_strings,
-                           .strings = hash_strings,
-                           .numbers = hash_numbers};
+    const Call many = {.name = "keyed_hash", .check = are_strings, .context = &key, .take = hash_all, .type = "u8", .width = 1};
     Image image = {0};
     if (count != 2) return PyErr_Format(PyExc_TypeError, "keyed_hash takes a key and items, not %zd arguments", count);
     if (!key_of(args[0], &key)) return NULL;

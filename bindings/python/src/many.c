@@ -1,5 +1,5 @@
 /* Many items: those of a buffer, of a list, of an iterator, or of categories. */
-#include "sketches.h"
+#include "items.h"
 
 #include <string.h>
 
@@ -179,12 +179,9 @@ static bool items_of_tuple(PyObject *object, Items *items)
 /* Opens the codes of categories, which are read once for all codes. */
 static bool items_of_categories(const Source *source, Items *items)
 {
-    bool *missing = items->missing;
-    items->missing = NULL;
     items->tuple = PySequence_Tuple(source->categories);
     Item *entries = items->tuple != NULL ? read_tuple(items) : NULL;
     bool with_texts = items->with_texts, opened = entries != NULL && items_of_buffer(source->values, items);
-    items->missing = missing;
     items->with_texts = with_texts;
     if (!opened || items->num_runs == 0) {
         PyMem_Free(entries);
@@ -312,16 +309,6 @@ bool items_next(Items *items, size_t most)
     return true;
 }
 
-/* Releases an array of a column. The release may call Python, and so no error is set meanwhile. */
-static void release_array(ArrowArray *array)
-{
-    PyObject *type, *error, *trace;
-    if (array->release == NULL) return;
-    PyErr_Fetch(&type, &error, &trace);
-    array->release(array);
-    PyErr_Restore(type, error, trace);
-}
-
 void items_release(Items *items)
 {
     let_go(items);
@@ -329,7 +316,7 @@ void items_release(Items *items)
     items->held = NULL;
     for (size_t i = 0; i < items->num_runs; i++) {
         PyMem_Free(items->runs[i].own_entries);
-        release_array(&items->runs[i].array);
+        RELEASE(&items->runs[i].array);
     }
     items->num_runs = 0;
     PyMem_Free(items->runs);

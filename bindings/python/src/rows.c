@@ -1,9 +1,28 @@
 /* Rows of a FrequentItemsSketch: its heavy hitters with their bounds. */
-#include "sketches.h"
+#include "items.h"
 
+#include <stdlib.h>
 #include <string.h>
 
-bool row_list_open(RowList *list, bool columns)
+/* Other Python threads may run after each such number of rows of a list. */
+#define ROWS_AT_ONCE 4096
+
+/* The rows that a call returns: at most `most`, as a dict of four lists if `columns`. */
+typedef struct {
+    bool no_false_negatives;
+    bool columns;
+    uint64_t threshold;
+    size_t most;
+} Wanted;
+
+/* The rows for Python: a list of tuples, or four lists. */
+typedef struct {
+    PyObject *rows;
+    PyObject *columns[4];
+} RowList;
+
+/* Returns false, with an error set, if allocation fails. `row_list_close` is called in any case. */
+static bool row_list_open(RowList *list, bool columns)
 {
     bool good = true;
     *list = (RowList){.rows = columns ? NULL : PyList_New(0)};
@@ -22,7 +41,8 @@ static bool append(PyObject *list, PyObject *object)
     return done;
 }
 
-bool row_list_append(RowList *list, PyObject *item, const ds_frequent_items_bounds *bounds)
+/* Takes an item, which may be NULL, and appends a row. Returns false, with an error set, if it is NULL or allocation fails. */
+static bool row_list_append(RowList *list, PyObject *item, const ds_frequent_items_bounds *bounds)
 {
     const unsigned long long numbers[] = {bounds->lower_bound, bounds->estimate, bounds->upper_bound};
     PyObject *filled = list->rows != NULL ? list->rows : list->columns[0];
@@ -38,7 +58,8 @@ bool row_list_append(RowList *list, PyObject *item, const ds_frequent_items_boun
     return done;
 }
 
-PyObject *row_list_close(RowList *list, bool good)
+/* Returns the list, or the dict of four lists. Returns NULL, with an error set, if not `good`. */
+static PyObject *row_list_close(RowList *list, bool good)
 {
     PyObject **columns = list->columns, *result = list->rows;
     if (good && result == NULL)
@@ -49,73 +70,127 @@ PyObject *row_list_close(RowList *list, bool good)
     return result;
 }
 
-/* Room for rows of numbers: their items and their bounds. */
+/* A row of a sketch of strings. */
 typedef struct {
-    uint64_t *items;
+    const char *text;
+    size_t length;
+    ds_frequent_items_bounds bounds;
+} TextRow;
+
+/* Room for rows, and how many there are. The library writes strings one after the other, with offsets. */
+typedef struct {
+    size_t rows, num_bytes; /* the room, and then the numbers that the library wrote */
+    uint64_t *numbers;      /* the items, or the offsets of strings: one more than rows */
+    uint8_t *bytes;         /* of strings */
     ds_frequent_items_bounds *bounds;
+    TextRow *texts; /* the rows of strings, in order */
 } Rows;
 
-static int32_t rows_of(Use *use, const Wanted *wanted, Rows *rows, size_t room, size_t *count)
+static bool rows_alloc(Rows *rows, bool with_texts)
 {
-    return has_sign(use->sketch) ? ds_frequent_items_i64_rows(&use->share, wanted->no_false_negatives, wanted->threshold,
-                                                              (int64_t *)rows->items, room, rows->bounds, room, count)
-                                 : ds_frequent_items_u64_rows(&use->share, wanted->no_false_negatives, wanted->threshold,
-                                                              rows->items, room, rows->bounds, room, count);
+    rows->numbers = PyMem_New(uint64_t, rows->rows + 1);
+    rows->bounds = PyMem_New(ds_frequent_items_bounds, rows->rows);
+    rows->bytes = PyMem_New(uint8_t, rows->num_bytes);
+    rows->texts = PyMem_New(TextRow, with_texts ? rows->rows : 0);
+    if (rows->numbers != NULL && rows->bounds != NULL && rows->bytes != NULL && rows->texts != NULL) return true;
+    PyErr_NoMemory();
+    return false;
 }
 
-static PyObject *list_of(const Sketch *self, const Rows *rows, size_t count, const Wanted *wanted)
+static void rows_free(Rows *rows)
+{
+    PyMem_Free(rows->numbers);
+    PyMem_Free(rows->bounds);
+    PyMem_Free(rows->bytes);
+    PyMem_Free(rows->texts);
+}
+
+static int32_t read_rows(Use *use, const Wanted *wanted, Rows *rows)
+{
+    bool no_false_negatives = wanted->no_false_negatives;
+    size_t room = rows->rows;
+    switch (use->sketch->kind) {
+    case DS_FREQUENT_ITEMS_U64:
+        return ds_frequent_items_u64_rows(&use->share, no_false_negatives, wanted->threshold, rows->numbers, room, rows->bounds,
+                                          room, &rows->rows);
+    case DS_FREQUENT_ITEMS_I64:
+        return ds_frequent_items_i64_rows(&use->share, no_false_negatives, wanted->threshold, (int64_t *)rows->numbers, room,
+                                          rows->bounds, room, &rows->rows);
+    default:
+        return ds_frequent_items_string_rows(&use->share, no_false_negatives, wanted->threshold, rows->bytes, rows->num_bytes,
+                                             rows->numbers, room + 1, rows->bounds, room, &rows->rows, &rows->num_bytes);
+    }
+}
+
+/* Compares rows: the heavier one comes first, and rows of equal estimates are in the order of their bytes. */
+static int heavier(const void *first, const void *second)
+{
+    const TextRow *a = first, *b = second;
+    if (a->bounds.estimate != b->bounds.estimate) return a->bounds.estimate > b->bounds.estimate ? -1 : 1;
+    int order = memcmp(a->text, b->text, a->length < b->length ? a->length : b->length);
+    return order != 0 ? order : (a->length > b->length) - (a->length < b->length);
+}
+
+/* Sorts rows of strings. The library's rows already descend by estimate, but rows of equal estimates are in any order. */
+static void sort_texts(Rows *rows)
+{
+    for (size_t i = 0; i < rows->rows; i++) {
+        const uint64_t *offsets = rows->numbers + i;
+        rows->texts[i] = (TextRow){(const char *)rows->bytes + offsets[0], (size_t)(offsets[1] - offsets[0]), rows->bounds[i]};
+    }
+    qsort(rows->texts, rows->rows, sizeof *rows->texts, heavier);
+}
+
+static PyObject *list_of(const Sketch *self, Rows *rows, const Wanted *wanted)
 {
     RowList list;
-    bool good = row_list_open(&list, wanted->columns);
-    for (size_t i = 0; good && i < count && i < wanted->most; i++) {
-        uint64_t item = rows->items[i];
-        good = row_list_append(&list, has_sign(self) ? PyLong_FromLongLong((int64_t)item) : PyLong_FromUnsignedLongLong(item),
-                               &rows->bounds[i]);
+    bool with_texts = has_texts(self), good;
+    if (with_texts && rows->rows > 0) {
+        Py_BEGIN_ALLOW_THREADS
+        sort_texts(rows);
+        Py_END_ALLOW_THREADS
+    }
+    good = row_list_open(&list, wanted->columns);
+    for (size_t i = 0; good && i < rows->rows && i < wanted->most; i++) {
+        const TextRow *row = &rows->texts[i];
+        uint64_t number = rows->numbers[i];
+        PyObject *item = with_texts       ? PyUnicode_DecodeUTF8(row->text, (Py_ssize_t)row->length, NULL)
+                         : has_sign(self) ? PyLong_FromLongLong((int64_t)number)
+                                          : PyLong_FromUnsignedLongLong(number);
+        good = row_list_append(&list, item, with_texts ? &row->bounds : &rows->bounds[i]);
     }
     return row_list_close(&list, good);
-}
-
-/* Returns the rows of a sketch of numbers. */
-static PyObject *number_rows(Sketch *self, const Wanted *wanted)
-{
-    ds_status status;
-    Use use = {.sketch = self};
-    Rows rows = {NULL, NULL};
-    size_t room, count = 0;
-    int32_t answer;
-    if (!sketch_status(self, &status)) return NULL;
-    room = (size_t)status.num_active_items;
-    do {
-        PyMem_Free(rows.items);
-        PyMem_Free(rows.bounds);
-        rows.items = PyMem_New(uint64_t, room);
-        rows.bounds = PyMem_New(ds_frequent_items_bounds, room);
-        if (rows.items == NULL || rows.bounds == NULL) {
-            answer = DS_NO_MEMORY;
-        } else if (use_begin(&use)) {
-            Py_BEGIN_ALLOW_THREADS
-            answer = rows_of(&use, wanted, &rows, room, &count);
-            Py_END_ALLOW_THREADS
-            use_end(&use);
-            room = answer == DS_NO_ROOM ? count : room;
-        } else {
-            answer = DS_NO_SKETCH;
-        }
-    } while (answer == DS_NO_ROOM);
-    PyObject *list = answer >= 0 ? list_of(self, &rows, count, wanted) : NULL;
-    PyMem_Free(rows.items);
-    PyMem_Free(rows.bounds);
-    return answer < 0 && answer != DS_NO_SKETCH ? refuse(answer) : list;
 }
 
 static PyObject *wanted_rows(PyObject *object, Wanted *wanted, const char *no_false)
 {
     Sketch *self = (Sketch *)object;
+    Use use = {.sketch = self};
+    ds_status status;
+    PyObject *list = NULL;
+    int32_t answer;
     wanted->no_false_negatives = strcmp(no_false, "negatives") == 0;
-    if (wanted->no_false_negatives || strcmp(no_false, "positives") == 0)
-        return has_texts(self) ? texts_rows(self, wanted) : number_rows(self, wanted);
-    PyErr_SetString(PyExc_ValueError, "no_false is 'negatives' or 'positives'");
-    return NULL;
+    if (!wanted->no_false_negatives && strcmp(no_false, "positives") != 0) {
+        PyErr_SetString(PyExc_ValueError, "no_false is 'negatives' or 'positives'");
+        return NULL;
+    }
+    Rows rows = {.rows = 64, .num_bytes = 1024};
+    if (!has_texts(self)) {
+        if (!sketch_status(self, &status)) return NULL;
+        rows = (Rows){.rows = (size_t)status.num_active_items};
+    }
+    do {
+        answer = DS_NO_SKETCH;
+        if (rows_alloc(&rows, has_texts(self)) && use_begin(&use)) {
+            Py_BEGIN_ALLOW_THREADS
+            answer = read_rows(&use, wanted, &rows);
+            Py_END_ALLOW_THREADS
+            use_end(&use);
+            list = answer >= 0 ? list_of(self, &rows, wanted) : answer == DS_NO_ROOM ? NULL : refuse(answer);
+        }
+        rows_free(&rows);
+    } while (answer == DS_NO_ROOM);
+    return list;
 }
 
 const char frequent_rows_doc[] = PyDoc_STR(

@@ -1,6 +1,6 @@
 /* Rows of runs: numbers, strings, and which rows are missing. The memory of a run may belong to other threads too, so what was
- * checked at first is checked again where it is used. */
-#include "sketches.h"
+ * checked at first is checked again where it is used: by the library, if it gets the offsets of strings. */
+#include "items.h"
 
 #include <string.h>
 
@@ -51,7 +51,6 @@ static const char *row_start(const Run *run, size_t at)
     return run->start + (Py_ssize_t)at * run->stride;
 }
 
-/* Copies the numbers of rows as they are stored: of a dictionary its indices. */
 static void copy_numbers(const Run *run, size_t at, size_t count, uint64_t *numbers)
 {
     const char *start = row_start(run, at);
@@ -66,8 +65,13 @@ static bool is_valid(const Run *run, size_t at)
     return run->layout != NOTHING && (run->validity == NULL || (run->validity[bit / 8] >> bit % 8 & 1) != 0);
 }
 
-/* Returns the value of a row by its index: a missing one for a missing row, or NULL if the index is out of range. */
-static const Item *entry_by_index(const Run *run, size_t at, uint64_t index)
+void run_numbers(const Run *run, size_t at, size_t count, uint64_t *numbers)
+{
+    if (run->layout == NOTHING) memset(numbers, 0, count * sizeof *numbers);
+    else copy_numbers(run, at, count, numbers);
+}
+
+const Item *run_entry_by_index(const Run *run, size_t at, uint64_t index)
 {
     if (run->validity != NULL && !is_valid(run, at)) return &gap;
     if (index < run->num_entries) return &run->entries[index];
@@ -78,19 +82,7 @@ const Item *run_entry(const Run *run, size_t at)
 {
     uint64_t index;
     copy_numbers(run, at, 1, &index);
-    return entry_by_index(run, at, index);
-}
-
-bool run_numbers(const Run *run, size_t at, size_t count, uint64_t *numbers)
-{
-    if (run->layout == NOTHING) memset(numbers, 0, count * sizeof *numbers);
-    else copy_numbers(run, at, count, numbers);
-    for (size_t i = 0; run->entries != NULL && i < count; i++) {
-        const Item *entry = entry_by_index(run, at + i, numbers[i]);
-        if (entry == NULL) return false;
-        numbers[i] = entry->value;
-    }
-    return true;
+    return run_entry_by_index(run, at, index);
 }
 
 void run_present(const Run *run, size_t at, size_t count, bool *present)
@@ -105,7 +97,7 @@ void run_present(const Run *run, size_t at, size_t count, bool *present)
     }
 }
 
-/* Makes a pair of a string behind offsets. */
+/* Finds a string by its offsets. */
 static bool string_by_offsets(const Run *run, size_t at, ds_string *string)
 {
     uint64_t ends[2];
@@ -116,7 +108,7 @@ static bool string_by_offsets(const Run *run, size_t at, ds_string *string)
     return true;
 }
 
-/* Makes a pair of a string by its view. */
+/* Finds a string by its view. */
 static bool string_by_view(const Run *run, size_t at, ds_string *string)
 {
     const char *view = row_start(run, at);
@@ -178,20 +170,7 @@ static bool encode_fixed_wide(const Run *run, size_t at, uint8_t *out, ds_string
     return used > 0;
 }
 
-/* Makes pairs of values of a dictionary. A pair of a number has no bytes. */
-static bool strings_by_entries(const Run *run, size_t at, size_t count, ds_string *strings)
-{
-    uint64_t indices[CHUNK];
-    for (size_t i = 0; i < count; i++) {
-        if (i % CHUNK == 0) copy_numbers(run, at + i, count - i < CHUNK ? count - i : CHUNK, indices);
-        const Item *entry = entry_by_index(run, at + i, indices[i % CHUNK]);
-        if (entry == NULL) return false;
-        strings[i] = (ds_string){(const uint8_t *)entry->text, entry->value};
-    }
-    return true;
-}
-
-static bool string_of(const Run *run, size_t at, uint8_t *room, ds_string *string)
+bool run_string(const Run *run, size_t at, uint8_t *room, ds_string *string)
 {
     switch (run->layout) {
     case STRINGS_32:
@@ -201,17 +180,6 @@ static bool string_of(const Run *run, size_t at, uint8_t *room, ds_string *strin
     case FIXED_WIDE: return encode_fixed_wide(run, at, room, string);
     default: *string = (ds_string){empty, 0}; return true;
     }
-}
-
-bool run_strings(const Run *run, size_t at, size_t count, uint8_t *room, ds_string *strings)
-{
-    if (run->entries != NULL) return strings_by_entries(run, at, count, strings);
-    for (size_t i = 0; i < count; i++)
-        if (!string_of(run, at + i, room != NULL ? room + i * (size_t)run->size : NULL, &strings[i])) {
-            if (is_valid(run, at + i)) return false;
-            strings[i] = (ds_string){empty, 0};
-        }
-    return true;
 }
 
 static bool is_ascii(const uint8_t *bytes, size_t length)
@@ -287,7 +255,7 @@ static bool check_index(Run *run, size_t at)
 static bool check_row(const Run *run, size_t at, uint8_t *room, PyObject *array)
 {
     ds_string string = {empty, 0};
-    if (!string_of(run, at, room, &string))
+    if (!run_string(run, at, room, &string))
         return run->layout == FIXED_WIDE ? not_unicode(array, at, &string) : malformed("a view out of range", run->first + at);
     return run->layout == FIXED_WIDE || is_utf8(&string) || not_unicode(array, at, &string);
 }

@@ -1,5 +1,5 @@
 /* Columns with a type and an array of their values, such as a Series or an Index of pandas. */
-#include "sketches.h"
+#include "items.h"
 
 int is_series(PyObject *object)
 {

@@ -1,5 +1,5 @@
 /* Suggested sizes from error targets. These functions use no sketch, so they take no lock. */
-#include "sketches.h"
+#include "items.h"
 
 static bool one_natural(PyObject *args, PyObject *keywords, const char *format, char *name, uint64_t *number)
 {

@@ -1,7 +1,5 @@
-/* The weights of many items, and the arguments of an update. */
-#include "sketches.h"
-
-#include <string.h>
+/* The weights of many items. */
+#include "items.h"
 
 /* Returns whether the object is many weights, or -1 with an error set. */
 static int is_many(PyObject *object)
@@ -46,30 +44,14 @@ static bool read_beside(Items *items, Items *weights)
     return items->count == weights->count || differ(items, weights);
 }
 
-/* Returns whether some weight may be out of the sketch's range: the numbers of runs are of the other signedness. */
-static bool may_not_hold(const Weights *weights)
+/* Checks the weights of runs that belong to an item, if they have the other signedness than the sketch's. */
+static bool each_fits(const Items *items, Weights *weights)
 {
-    return weights->each && weights->items.items == NULL && weights->items.with_sign != weights->with_sign;
-}
-
-/* Checks the weights of runs that belong to an item. */
-static bool each_fits(const Items *items, const Weights *weights)
-{
-    uint64_t chunk[CHUNK];
-    bool present[CHUNK];
-    for (size_t i = 0, count; may_not_hold(weights) && i < items->count; i += count) {
-        count = items->count - i < CHUNK ? items->count - i : CHUNK;
-        weights_chunk(weights, i, count, chunk);
-        if (below_top(chunk, count)) continue;
-        memset(present, true, count);
-        items_present(items, i, count, present);
-        items_present(&weights->items, i, count, present);
-        for (size_t j = 0; j < count; j++)
-            if (present[j] &&
-                !number_fits("a weight", weights->with_sign, chunk[j], weights->items.with_sign && chunk[j] > INT64_MAX))
-                return false;
-    }
-    return true;
+    Items *each = &weights->items;
+    uint64_t number;
+    each->below_top = each->items == NULL && each->with_sign != weights->with_sign;
+    return !each->below_top || !find_above_top(each, items, &number) ||
+           number_fits("a weight", weights->with_sign, number, each->with_sign);
 }
 
 static bool open_sources(const Source *source, const Source *weight_source, Items *items, Weights *weights)
@@ -100,22 +82,6 @@ static bool find_sources(PyObject *given, PyObject *given_weights, Source *sourc
     if (weights->each) return source_of(given, "update", false, source) && weight_source_of(given_weights, weight_source);
     return (given_weights == NULL || number_of_kind(given_weights, "weight", weights->with_sign, &weights->same)) &&
            source_of(given, "update", false, source);
-}
-
-bool update_arguments(PyObject *const *args, Py_ssize_t count, PyObject *names, PyObject **weight)
-{
-    Py_ssize_t named = names != NULL ? PyTuple_GET_SIZE(names) : 0;
-    for (Py_ssize_t i = 0; i < named; i++)
-        if (PyUnicode_CompareWithASCIIString(PyTuple_GET_ITEM(names, i), "weight") != 0) {
-            PyErr_Format(PyExc_TypeError, "update() got an unexpected keyword argument '%U'", PyTuple_GET_ITEM(names, i));
-            return false;
-        }
-    if (count < 1 || count + named > 2) {
-        PyErr_Format(PyExc_TypeError, "update takes items and a weight, not %zd arguments", count + named);
-        return false;
-    }
-    *weight = count + named == 2 ? args[1] : NULL;
-    return true;
 }
 
 bool update_open(PyObject *given, PyObject *given_weights, bool with_sign, Items *items, Weights *weights)
@@ -158,41 +124,26 @@ bool update_next(Items *items, Weights *weights)
     return items->count == others->count;
 }
 
-bool weights_hold(const Weights *weights, const uint64_t *chunk, size_t count)
-{
-    return !may_not_hold(weights) || below_top(chunk, count);
-}
-
 static uint64_t distance(uint64_t weight, bool with_sign)
 {
     return with_sign && weight > INT64_MAX ? 0 - weight : weight;
-}
-
-/* Subtracts the weights of items from the room, but for those of missing items. */
-static int32_t take_room(const Weights *weights, const uint64_t *chunk, const bool *present, size_t count, uint64_t *room)
-{
-    for (size_t i = 0; i < count; i++) {
-        uint64_t weight = present[i] ? distance(chunk[i], weights->with_sign) : 0;
-        if (present[i] && !weights_hold(weights, &chunk[i], 1)) return CHANGED;
-        if (weight > *room) return DS_WEIGHT_OVERFLOW;
-        *room -= weight;
-    }
-    return DS_OK;
 }
 
 int32_t weights_fit(const Items *items, const Weights *weights, uint64_t room)
 {
     uint64_t chunk[CHUNK], same = distance(weights->same, weights->with_sign);
     bool present[CHUNK];
-    int32_t answer = DS_OK;
     if (!weights->each && (same == 0 || items->count <= room / same)) return DS_OK;
-    for (size_t i = 0, count; i < items->count && answer >= 0; i += count) {
+    for (size_t i = 0, count; i < items->count; i += count) {
         count = items->count - i < CHUNK ? items->count - i : CHUNK;
         weights_chunk(weights, i, count, chunk);
-        memset(present, true, count);
-        items_present(items, i, count, present);
-        if (weights->each) items_present(&weights->items, i, count, present);
-        answer = take_room(weights, chunk, present, count, &room);
+        rows_present(items, &weights->items, i, count, present);
+        for (size_t j = 0; j < count; j++) {
+            uint64_t weight = present[j] ? distance(chunk[j], weights->with_sign) : 0;
+            if (present[j] && weights->items.below_top && chunk[j] > INT64_MAX) return CHANGED;
+            if (weight > room) return DS_WEIGHT_OVERFLOW;
+            room -= weight;
+        }
     }
-    return answer;
+    return DS_OK;
 }

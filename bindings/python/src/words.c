@@ -1,5 +1,5 @@
 /* The words and the lines of a string or of a buffer. */
-#include "sketches.h"
+#include "items.h"
 
 #include <string.h>
 
@@ -78,26 +78,6 @@ static uint64_t count_front(const Text *text, bool of_lines, size_t length)
     return count;
 }
 
-static int32_t take_words(Sketch *self, const uint8_t *text, size_t length)
-{
-    switch (self->kind) {
-    case DS_BLOOM: return ds_bloom_insert_words(&self->handle, text, length);
-    case DS_COUNT_MIN_U64: return ds_count_min_u64_update_words(&self->handle, text, length);
-    case DS_COUNT_MIN_I64: return ds_count_min_i64_update_words(&self->handle, text, length);
-    default: return ds_frequent_items_string_update_words(&self->handle, text, length);
-    }
-}
-
-static int32_t take_lines(Sketch *self, const uint8_t *text, size_t length)
-{
-    switch (self->kind) {
-    case DS_BLOOM: return ds_bloom_insert_lines(&self->handle, text, length);
-    case DS_COUNT_MIN_U64: return ds_count_min_u64_update_lines(&self->handle, text, length);
-    case DS_COUNT_MIN_I64: return ds_count_min_i64_update_lines(&self->handle, text, length);
-    default: return ds_frequent_items_string_update_lines(&self->handle, text, length);
-    }
-}
-
 /* Takes the words or lines of a piece. Runs without the interpreter's lock. */
 static int32_t take_piece(Sketch *self, Text *text, bool of_lines, size_t from, size_t end)
 {
@@ -110,7 +90,8 @@ static int32_t take_piece(Sketch *self, Text *text, bool of_lines, size_t from, 
         memcpy(copy, piece, end - from);
         piece = copy;
     }
-    int32_t answer = of_lines ? take_lines(self, piece, end - from) : take_words(self, piece, end - from);
+    ds_items items = of_lines ? ds_items_lines(piece, end - from) : ds_items_words(piece, end - from);
+    int32_t answer = self->kind == DS_BLOOM ? ds_bloom_insert_all(&self->handle, &items) : ds_update_all(&self->handle, &items);
     text->done += sketch_total(self) - before;
     return answer;
 }
@@ -188,87 +169,57 @@ static PyObject *take(PyObject *object, PyObject *args, PyObject *keywords, cons
     return used;
 }
 
-#define WORDS_ARE "A word is a longest run of bytes that are not space, tab, LF, FF or CR. "
-#define LINES_ARE "A line ends with LF or CR LF, which do not belong to it. A last line without LF counts if it is not empty.\n\n"
-#define HOW_MUCH(words) \
-    "Return how much of `text` was used: `text[used:]` is\n" \
-    "the rest. With `final=False` this is an unfinished last " words ", which goes before the next chunk of a stream. Otherwise\n" \
-    "there is none.\n\n"
-#define ERRORS_ARE(words) \
-    "Raise 'InvalidUtf8' if some bytes are not UTF-8, with the offset of the first as `byte`. A buffer is read in pieces of about\n" \
-    "1 MiB. " words " before an error may be counted: a note of the error has their number.\n\n"
+/* The docs of a method: what it does with each word or line, and an example. */
+#define TEXT_DOC(method, does, one, many, what_one_is, example) \
+    method \
+        "($self, text, /, *, final=True)\n--\n\n" does " each " one \
+        " of a str, or of a buffer of UTF-8 bytes, such as bytes or an mmap.\n\n" what_one_is \
+        "Return how much of `text` was used: `text[used:]` is\n" \
+        "the rest. With `final=False` this is an unfinished last " one \
+        ", which goes before the next chunk of a stream. Otherwise\n" \
+        "there is none.\n\n" \
+        "Raise 'InvalidUtf8' if some bytes are not UTF-8, with the offset of the first as `byte`. A buffer is read in pieces of" \
+        " about\n1 MiB. " many " before an error may be counted: a note of the error has their number.\n\n" \
+        ">>> import datasketches_rattle as ds\n" example
+#define WORDS_DOC(method, does, example) \
+    TEXT_DOC(method, does, "word", "Words", "A word is a longest run of bytes that are not space, tab, LF, FF or CR. ", example)
+#define LINES_DOC(method, does, example) \
+    TEXT_DOC(method, does, "line", "Lines", \
+             "A line ends with LF or CR LF, which do not belong to it. A last line without LF counts if it is not empty.\n\n", \
+             example)
 
-const char filter_words_doc[] =
-    PyDoc_STR(
-"insert_words($self, text, /, *, final=True)\n--\n\n"
-"Insert each word of a str, or of a buffer of UTF-8 bytes, such as bytes or an mmap.\n\n"
-WORDS_ARE HOW_MUCH("word") ERRORS_ARE("Words")
-">>> import datasketches_rattle as ds\n"
+/* The docs of updates, with an example of a sketch of this name. */
+#define UPDATE_WORDS_DOC(name, sketch) \
+    WORDS_DOC("update_words", "Add 1 to the weight of", \
+              ">>> " name " = " sketch "\n>>> " name ".update_words(b'to be or not to be')\n18\n" \
+              ">>> " name "['be'], " name ".total_weight\n(2, 6)\n")
+#define UPDATE_LINES_DOC(name, sketch) \
+    LINES_DOC("update_lines", "Add 1 to the weight of", \
+              ">>> " name " = " sketch "\n>>> " name ".update_lines('first line\\nsecond line\\n')\n23\n" \
+              ">>> " name "['second line'], " name ".total_weight\n(1, 2)\n")
+
+const char filter_words_doc[] = PyDoc_STR(WORDS_DOC("insert_words", "Insert",
 ">>> seen = ds.BloomFilter(num_bits=1024, num_hashes=5)\n"
 ">>> seen.insert_words(b'to be or not to be')\n"
 "18\n"
 ">>> 'not' in seen, 'apple' in seen\n"
-"(True, False)\n");
+"(True, False)\n"));
 
-const char filter_lines_doc[] =
-    PyDoc_STR(
-"insert_lines($self, text, /, *, final=True)\n--\n\n"
-"Insert each line of a str, or of a buffer of UTF-8 bytes, such as bytes or an mmap.\n\n"
-LINES_ARE HOW_MUCH("line") ERRORS_ARE("Lines")
-">>> import datasketches_rattle as ds\n"
+const char filter_lines_doc[] = PyDoc_STR(LINES_DOC("insert_lines", "Insert",
 ">>> seen = ds.BloomFilter(num_bits=1024, num_hashes=5)\n"
 ">>> seen.insert_lines('first line\\nsecond line\\n')\n"
 "23\n"
 ">>> 'second line' in seen, 'second' in seen\n"
-"(True, False)\n");
+"(True, False)\n"));
 
-const char count_words_doc[] = PyDoc_STR(
-"update_words($self, text, /, *, final=True)\n--\n\n"
-"Add 1 to the weight of each word of a str, or of a buffer of UTF-8 bytes, such as bytes or an mmap.\n\n"
-WORDS_ARE HOW_MUCH("word") ERRORS_ARE("Words")
-">>> import datasketches_rattle as ds\n"
-">>> load = ds.CountMinSketch(num_hashes=4, num_buckets=1 << 10)\n"
-">>> load.update_words(b'to be or not to be')\n"
-"18\n"
-">>> load['be'], load.total_weight\n"
-"(2, 6)\n");
-
-const char count_lines_doc[] = PyDoc_STR(
-"update_lines($self, text, /, *, final=True)\n--\n\n"
-"Add 1 to the weight of each line of a str, or of a buffer of UTF-8 bytes, such as bytes or an mmap.\n\n"
-LINES_ARE HOW_MUCH("line") ERRORS_ARE("Lines")
-">>> import datasketches_rattle as ds\n"
-">>> load = ds.CountMinSketch(num_hashes=4, num_buckets=1 << 10)\n"
-">>> load.update_lines('first line\\nsecond line\\n')\n"
-"23\n"
-">>> load['second line'], load.total_weight\n"
-"(1, 2)\n");
-
-const char frequent_words_doc[] = PyDoc_STR(
-"update_words($self, text, /, *, final=True)\n--\n\n"
-"Add 1 to the weight of each word of a str, or of a buffer of UTF-8 bytes, such as bytes or an mmap.\n\n"
-WORDS_ARE HOW_MUCH("word") ERRORS_ARE("Words")
-">>> import datasketches_rattle as ds\n"
-">>> words = ds.FrequentItemsSketch(64, item=str)\n"
-">>> words.update_words(b'to be or not to be')\n"
-"18\n"
-">>> words['be'], words.total_weight\n"
-"(2, 6)\n"
+const char count_words_doc[] = PyDoc_STR(UPDATE_WORDS_DOC("load", "ds.CountMinSketch(num_hashes=4, num_buckets=1 << 10)"));
+const char count_lines_doc[] = PyDoc_STR(UPDATE_LINES_DOC("load", "ds.CountMinSketch(num_hashes=4, num_buckets=1 << 10)"));
+const char frequent_lines_doc[] = PyDoc_STR(UPDATE_LINES_DOC("lines", "ds.FrequentItemsSketch(64, item=str)"));
+const char frequent_words_doc[] = PyDoc_STR(UPDATE_WORDS_DOC("words", "ds.FrequentItemsSketch(64, item=str)")
 ">>> chunk = 'it is not easy to'\n"
 ">>> used = words.update_words(chunk, final=False)\n"
 ">>> chunk[used:]\n"
 "'to'\n");
-
-const char frequent_lines_doc[] = PyDoc_STR(
-"update_lines($self, text, /, *, final=True)\n--\n\n"
-"Add 1 to the weight of each line of a str, or of a buffer of UTF-8 bytes, such as bytes or an mmap.\n\n"
-LINES_ARE HOW_MUCH("line") ERRORS_ARE("Lines")
-">>> import datasketches_rattle as ds\n"
-">>> lines = ds.FrequentItemsSketch(64, item=str)\n"
-">>> lines.update_lines('first line\\nsecond line\\n')\n"
-"23\n"
-">>> lines['second line'], lines.total_weight\n"
-"(1, 2)\n");
 
 PyObject *sketch_words(PyObject *self, PyObject *args, PyObject *keywords)
 {

@@ -119,8 +119,10 @@ def _ends(data):
 
 
 def _array(description, owned=True):
-    held = [None if each is None else ctypes.create_string_buffer(each, max(1, len(each))) for each in description["buffers"]]
-    pointers = (VOID * max(1, len(held)))(*(None if each is None else ctypes.addressof(each) for each in held))
+    shift = description.get("shift", 0)  # how many bytes each buffer begins behind an aligned address
+    held = [None if each is None else ctypes.create_string_buffer(bytes(shift) + each, shift + max(1, len(each)))
+            for each in description["buffers"]]
+    pointers = (VOID * max(1, len(held)))(*(None if each is None else ctypes.addressof(each) + shift for each in held))
     thing = Array(description["length"], description["null_count"], description["offset"], description["n_buffers"],
                   description["n_children"])
     if not description.get("no_buffers"):

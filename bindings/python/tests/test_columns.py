@@ -122,6 +122,14 @@ class Arrow(Released):
                     self.same(lambda: Column(kind, values), values, str)
                     self.same(lambda: Column(kind, values, offset), values[offset:], str)
 
+    def test_buffers_that_are_not_aligned(self):
+        chance = random.Random(4)
+        for kind in ("u", "U", "vu"):
+            for shift in (1, 2, 4, 8):
+                for missing in (0, 0.3):
+                    values = words_of(chance, 3000, missing)
+                    self.same(lambda: Column(kind, values, 5, shift=shift), values[5:], str)
+
     def test_one_way_or_another(self):
         """The unknown number of nulls, arrays without offsets, and columns of nulls."""
         self.same(lambda: Column("u", ["a", None, "b"], null_count=-1), ["a", None, "b"])

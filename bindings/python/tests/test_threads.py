@@ -1,6 +1,7 @@
 """Many threads on one sketch, and on two in both orders."""
 import array
 import copy
+import ctypes
 import os
 import resource
 import sys
@@ -8,6 +9,7 @@ import threading
 import time
 import unittest
 
+import arrow
 import datasketches_rattle as ds
 
 
@@ -340,6 +342,50 @@ class Readers(unittest.TestCase):
             errors = run(*calls, seen.close, *calls)
             self.assertTrue(all(isinstance(error, ValueError) for error in errors), errors)
             self.assertLess(sys.getsizeof(seen), 1000)
+
+
+class Exported:
+    """A column of Arrow whose buffers the test changes."""
+
+    def __init__(self, *column):
+        self.capsules = arrow.Column(*column).__arrow_c_array__()
+        [self.array] = [each for each in arrow.live.values() if isinstance(each, arrow.Array)]
+
+    def __arrow_c_array__(self, requested_schema=None):
+        return self.capsules
+
+    def change(self, buffer, at, byte):
+        ctypes.memset(self.array.buffers[buffer] + at, byte, 1)
+
+
+class Changes(unittest.TestCase):
+    def test_a_column_that_changes_while_the_call_waits(self):
+        """Offsets and strings are checked before the call waits for the sketch, and again when it counts them."""
+        busy = array.array("Q", os.urandom(8 << 21))
+        for kind, buffer, at in (("u", 1, 4 * 4900 + 1), ("U", 1, 8 * 4900 + 1), ("u", 2, 4900)):
+            for attempt in range(1, 30):
+                load, column, errors = ds.CountMinSketch(64, 1 << 10), Exported(kind, ["a"] * 5000), []
+
+                def update():
+                    try:
+                        load.update(column)
+                    except (RuntimeError, ValueError) as error:
+                        errors.append(error)
+
+                first, second = threading.Thread(target=lambda: load.update(busy)), threading.Thread(target=update)
+                first.start()
+                time.sleep(0.01)
+                second.start()
+                time.sleep(0.005 * attempt)  # until it has checked all strings, and waits for the first call
+                column.change(buffer, at, 0xFF)
+                first.join()
+                second.join()
+                self.assertEqual(arrow.live, {})
+                if errors and isinstance(errors[0], RuntimeError):
+                    break
+            self.assertEqual([str(error) for error in errors], ["another thread changed a buffer during the call"], kind)
+            self.assertEqual(errors[0].__notes__, ["items taken before this error: 4096"])
+            self.assertEqual(load.total_weight, len(busy) + 4096)
 
 
 if __name__ == "__main__":

@@ -1,5 +1,5 @@
 -- What is said of a handle's sketch of a kind.
-use Rattle.std.proofs.Common.{◌≡◌, List, length, ℕ, Option, None, Some, ℤ, pos, negsuc, refl, sym, ap, ◌∙◌, subst}
+use Rattle.std.proofs.Common.{◌≡◌, Option, None, Some, ℤ, pos, negsuc, refl, sym, ap, ◌∙◌, subst}
 use Rattle.datasketches_c.specs.Kinds.{OnPart, OnKind, OfPart, HoldsKind, WritesDown}
 use Rattle.datasketches_c.specs.Numbers.{OnRefused, ok, no_sketch, wrong_kind}
 use Rattle.datasketches_c.specs.Sharing.{reads}

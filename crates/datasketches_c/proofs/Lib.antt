@@ -8,13 +8,13 @@ pub mod Handles
 pub mod ImageAnswers
 pub mod KindLemmas
 pub mod ManyHandleLemmas
+pub mod ManyItemsLemmas
 pub mod ManyJoinLemmas
 pub mod Reading
 pub mod ReadingCounts
 pub mod Refusals
 pub mod Reports
 pub mod ShortItems
-pub mod StringLemmas
 pub mod StringReports
 pub mod StringRows
 pub mod Words

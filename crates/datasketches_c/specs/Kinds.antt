@@ -1,11 +1,11 @@
 -- Calls for one kind of sketch on a handle that may hold any kind.
-use Rattle.std.specs.Prelude.{◌≡◌, ◌≢◌, ℕ, ℤ, List, Option, Some, None, length}
+use Rattle.std.specs.Prelude.{◌≡◌, ℕ, ℤ, Option, Some, None}
 use Rattle.std.specs.Global.{Global}
 use Rattle.std.specs.declared.string.String.{String}
 use Rattle.sketch_bloom.specs.State.{FilterState}
 use Rattle.sketch_countmin.specs.State.{CountState}
 use Rattle.sketch_frequencies.specs.State.{FrequentState}
-use Rattle.datasketches_c.specs.Numbers.{OnRefused, ok, no_room, no_sketch, wrong_kind}
+use Rattle.datasketches_c.specs.Numbers.{OnRefused, ok, no_sketch, wrong_kind}
 use Rattle.datasketches_c.specs.Sharing.{reads}
 use Rattle.datasketches_c.specs.declared.any_sketch.AnySketch.{AnySketch}
 use Rattle.datasketches_c.specs.declared.any_sketch.Held.TheVariants.{Own}

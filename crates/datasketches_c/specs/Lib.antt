@@ -1,5 +1,6 @@
 pub mod AnyImages
 pub mod AnyJoins
+pub mod AnyUpdates
 pub mod Changes
 pub mod Copies
 pub mod CountCalls
@@ -23,6 +24,7 @@ pub mod Images
 pub mod Joining
 pub mod Kinds
 pub mod ManyHandles
+pub mod ManyItems
 pub mod ManyJoins
 pub mod MemoryBytes
 pub mod Numbers

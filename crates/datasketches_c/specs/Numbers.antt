@@ -41,7 +41,11 @@ no_room = negsuc 2
 abbrev pub bad_fraction : ℤ
 bad_fraction = negsuc 3
 
--- there are no offsets, or they descend, or one exceeds the length of the buffer: -6. The C header uses -5
+-- the kind of many items is not known: -5. The C header uses the number for null pointers, too
+abbrev pub bad_argument : ℤ
+bad_argument = negsuc 4
+
+-- there are no offsets, or they descend, or one exceeds the length of the buffer: -6
 abbrev pub bad_offsets : ℤ
 bad_offsets = negsuc 5
 

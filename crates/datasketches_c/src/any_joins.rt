@@ -1,8 +1,6 @@
 //! Merges and comparisons of sketches of any kind.
 ghost use Rattle.std.specs.Prelude.{◌≡◌, Some, map};
 ghost use Rattle.datasketches_c.specs.AnyJoins.{ComparesAny, ComparesWith, MergesAny, MergesAnyWithAll, MergesWith, MergesWithAll};
-ghost use Rattle.datasketches_c.specs.Equality.{SaysWhetherSame};
-ghost use Rattle.datasketches_c.specs.Kinds.{ReadsKind};
 ghost use Rattle.datasketches_c.specs.Numbers.{OnRefused};
 ghost use Rattle.datasketches_c.specs.Sharing.{unshared};
 

@@ -1,9 +1,9 @@
 //! Calls on Count-Min sketches in handles, for any type of weights and of items.
-ghost use Rattle.std.specs.Prelude.{◌≡◌, ◌+◌, ◌-◌, ◌<◌, ◌≤◌, length, map, take, sum_by, unsigned_abs};
+ghost use Rattle.std.specs.Prelude.{◌≡◌, ◌+◌, ◌-◌, ◌<◌, ◌≤◌, length, map, unsigned_abs};
 ghost use Rattle.sketch_base.specs.Hashes.{fed_bytes};
-ghost use Rattle.datasketches_c.specs.CountCalls.{AddsWeight, AddsEach, AddsWeights, EstimatesAll, IsBound};
+ghost use Rattle.datasketches_c.specs.CountCalls.{AddsWeight, AddsEach, AddsWeights, IsBound};
 ghost use Rattle.datasketches_c.specs.CountJoins.{IsJoined};
-ghost use Rattle.datasketches_c.specs.CountSteps.{Weighs, WeighsAll, WeighsEach};
+ghost use Rattle.datasketches_c.specs.CountSteps.{Weighs};
 ghost use Rattle.datasketches_c.specs.Estimates.{AreEstimates, IsEstimate};
 ghost use Rattle.datasketches_c.specs.Kinds.{WritesDown};
 ghost use Rattle.datasketches_c.specs.Numbers.{OnRefused, ok, refusal_number};
@@ -53,60 +53,25 @@ where
 
 /// Adds 1 to the weight of each item in a sketch, in order, until the total is full. Returns the result's number.
 #[inline]
-fn add_all<V: CountMinValue, I: CountMinItems<V>>(sketch: &mut CountMinSketch<V>, items: I) -> i32
-    ensures counted { WeighsAll sketch.old (take (V.greatest - sketch.old.total) (I.list items)) sketch.new }
-    ensures done { sketch.old.total + length (I.list items) ≤ V.greatest → result ≡ ok }
-    ensures overflow { V.greatest < sketch.old.total + length (I.list items)
-        → result ≡ refusal_number Fault.WeightOverflow }
+pub(crate) fn add_all<V: CountMinValue, I: CountMinItems<V>>(
+    sketch: &mut CountMinSketch<V>,
+    items: I,
+) -> i32
+    ensures { AddsEach V.greatest sketch.old (I.list items) sketch.new result }
 {
     on_done!(sketch.update_all(items))
 }
 
-/// Adds 1 to the weight of each item, in order, until the total is full.
-#[inline]
-pub(crate) fn update_all<V: CountMinValue, I: CountMinItems<V>>(
-    alloc: Global,
-    handle: &mut SketchHandle,
-    items: I,
-) -> i32
-where
-    CountMinSketch<V>: Kind,
-    ensures { AddsEach (⟦<CountMinSketch<V> as Kind>⟧.part) V.greatest handle.old.value handle.new.value result (I.list items) }
-{
-    on_kind!(alloc, handle, CountMinSketch<V>, sketch => add_all(sketch, items))
-}
-
 /// Adds a weight to each item's in a sketch, in order. Returns the result's number.
-fn add_all_weighted<V: CountMinValue, I: CountMinItems<V>>(
+pub(crate) fn add_all_weighted<V: CountMinValue, I: CountMinItems<V>>(
     sketch: &mut CountMinSketch<V>,
     items: I,
     weights: &[V],
 ) -> i32
     requires { length weights.now ≡ length (I.list items) }
-    ensures counted { sketch.old.total + sum_by (λ weight. unsigned_abs (V.number weight)) weights.now ≤ V.greatest
-        → (result ≡ ok) × WeighsEach V.number sketch.old (I.list items) weights.now sketch.new }
-    ensures overflow { V.greatest < sketch.old.total + sum_by (λ weight. unsigned_abs (V.number weight)) weights.now
-        → result ≡ refusal_number Fault.WeightOverflow }
-    ensures refused { OnRefused result (sketch.new ≡ sketch.old) }
+    ensures { AddsWeights V.greatest V.number sketch.old (I.list items) weights.now sketch.new result }
 {
     on_done!(sketch.update_all_with_weights(items, weights))
-}
-
-/// Adds a weight to each item's, in order.
-#[inline]
-pub(crate) fn update_all_weighted<V: CountMinValue, I: CountMinItems<V>>(
-    alloc: Global,
-    handle: &mut SketchHandle,
-    items: I,
-    weights: &[V],
-) -> i32
-where
-    CountMinSketch<V>: Kind,
-    requires { length weights.now ≡ length (I.list items) }
-    ensures call { AddsWeights (⟦<CountMinSketch<V> as Kind>⟧.part) V.greatest handle.old.value handle.new.value result V.number (I.list items) weights.now (sum_by (λ weight. unsigned_abs (V.number weight)) weights.now) }
-    ensures refused { OnRefused result (handle.new.value ≡ handle.old.value) }
-{
-    on_kind!(alloc, handle, CountMinSketch<V>, sketch => add_all_weighted(sketch, items, weights))
 }
 
 /// Writes the estimate of an item's weight.
@@ -149,7 +114,7 @@ where
 
 /// Writes a sketch's estimate of each item's weight.
 #[inline]
-fn estimate_items<V: CountMinValue, I: CountMinItems<V>>(
+pub(crate) fn estimate_items<V: CountMinValue, I: CountMinItems<V>>(
     sketch: &CountMinSketch<V>,
     items: I,
     estimates: &mut [V],
@@ -162,28 +127,6 @@ fn estimate_items<V: CountMinValue, I: CountMinItems<V>>(
     let _ = sketch.num_hashes();
     min_cell_bounds();
     sketch.estimate_all(items, estimates);
-}
-
-/// Writes the estimate of each item's weight.
-#[inline]
-pub(crate) fn estimate_all<V: CountMinValue, I: CountMinItems<V>>(
-    alloc: Global,
-    handle: &mut SketchHandle,
-    items: I,
-    estimates: &mut [V],
-) -> i32
-where
-    CountMinSketch<V>: Kind,
-    requires { length estimates.old ≡ length (I.list items) }
-    ensures kept { handle.new.value ≡ handle.old.value }
-    ensures length { length estimates.new ≡ length estimates.old }
-    ensures estimates { EstimatesAll (reads (⟦<CountMinSketch<V> as Kind>⟧.part)) handle.old.value handle.new.value result (I.list items) (map V.number estimates.new) }
-    ensures untouched { OnRefused result (estimates.new ≡ estimates.old) }
-{
-    reading_kind!(alloc, handle, CountMinSketch<V>, sketch => {
-        estimate_items(sketch, items, estimates);
-        OK
-    })
 }
 
 impl<V: CountMinValue> Joins<()> for CountMinSketch<V>

@@ -1,17 +1,15 @@
-//! Calls that read weights from Count-Min sketches, for one item or for many numbers. The calls for many strings are in
-//! `many_strings`.
+//! Calls that read the weight of one item from Count-Min sketches.
 ghost use Rattle.std.specs.Hash as fed;
-ghost use Rattle.std.specs.Prelude.{length, map, pos, ◌≡◌, ◌≢◌};
+ghost use Rattle.std.specs.Prelude.{pos, ◌≡◌};
 ghost use Rattle.std.specs.Str.{IsUtf8};
 ghost use Rattle.sketch_base.specs.Hashes.{fed_bytes};
-ghost use Rattle.datasketches_c.specs.CountCalls.{Bounds, Estimates, EstimatesAll};
+ghost use Rattle.datasketches_c.specs.CountCalls.{Bounds, Estimates};
 ghost use Rattle.datasketches_c.specs.Kinds.{count_i64_of, count_u64_of};
-ghost use Rattle.datasketches_c.specs.Numbers.{OnRefused, max_i64, max_u64, no_room, refusal_number};
+ghost use Rattle.datasketches_c.specs.Numbers.{OnRefused, max_i64, max_u64, refusal_number};
 ghost use Rattle.datasketches_c.specs.Sharing.{reads};
 
 use crate::count;
 use crate::handle::SketchHandle;
-use crate::status_code::NO_ROOM;
 use crate::strings::on_string;
 use sketch_base::Fault;
 use std::alloc::Global;
@@ -94,60 +92,6 @@ pub extern "C" fn ds_count_min_i64_estimate_string(
     ensures untouched { OnRefused result (estimate.new ≡ estimate.old) }
 {
     on_string!(item => count::estimate(alloc, handle, item, estimate))
-}
-
-/// Writes the estimate of each number's weight.
-///
-/// Returns the first of these errors, and then changes nothing:
-///
-/// - `NO_ROOM` if `items` and `estimates` differ in length.
-/// - `NO_SKETCH` if the handle has no sketch, and `WRONG_KIND` if its sketch is of another kind.
-#[unsafe(no_mangle)]
-pub extern "C" fn ds_count_min_u64_estimate_all_u64(
-    alloc: Global,
-    handle: &mut SketchHandle,
-    items: &[u64],
-    estimates: &mut [u64],
-) -> i32
-    ensures kept { handle.new.value ≡ handle.old.value }
-    ensures length { length estimates.new ≡ length estimates.old }
-    ensures no_room { length estimates.old ≢ length items.now
-        → (result ≡ no_room) × (estimates.new ≡ estimates.old) }
-    ensures estimates { length estimates.old ≡ length items.now
-        → EstimatesAll (reads count_u64_of) handle.old.value handle.new.value result (map (fed_bytes fed.u64) items.now) (map pos estimates.new) }
-    ensures untouched { OnRefused result (estimates.new ≡ estimates.old) }
-{
-    if estimates.len() != items.len() {
-        return NO_ROOM;
-    }
-    count::estimate_all(alloc, handle, items, estimates)
-}
-
-/// Writes the estimate of each number's weight.
-///
-/// Returns the first of these errors, and then changes nothing:
-///
-/// - `NO_ROOM` if `items` and `estimates` differ in length.
-/// - `NO_SKETCH` if the handle has no sketch, and `WRONG_KIND` if its sketch is of another kind.
-#[unsafe(no_mangle)]
-pub extern "C" fn ds_count_min_i64_estimate_all_u64(
-    alloc: Global,
-    handle: &mut SketchHandle,
-    items: &[u64],
-    estimates: &mut [i64],
-) -> i32
-    ensures kept { handle.new.value ≡ handle.old.value }
-    ensures length { length estimates.new ≡ length estimates.old }
-    ensures no_room { length estimates.old ≢ length items.now
-        → (result ≡ no_room) × (estimates.new ≡ estimates.old) }
-    ensures estimates { length estimates.old ≡ length items.now
-        → EstimatesAll (reads count_i64_of) handle.old.value handle.new.value result (map (fed_bytes fed.u64) items.now) estimates.new }
-    ensures untouched { OnRefused result (estimates.new ≡ estimates.old) }
-{
-    if estimates.len() != items.len() {
-        return NO_ROOM;
-    }
-    count::estimate_all(alloc, handle, items, estimates)
 }
 
 /// Writes the estimate of a number's weight plus a margin, or 2^64 - 1 if the sum exceeds it. The margin is e times the

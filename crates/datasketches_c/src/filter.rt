@@ -1,20 +1,18 @@
 //! Calls on filters: create, insert, look up and combine.
 ghost use Rattle.std.specs.Hash as fed;
-ghost use Rattle.std.specs.Prelude.{◌≡◌, ◌≢◌, Some, None, length, map, if◌then◌else◌};
+ghost use Rattle.std.specs.Prelude.{◌≡◌, Some, None, length, if◌then◌else◌};
 ghost use Rattle.std.specs.Str.{IsUtf8};
 ghost use Rattle.sketch_base.specs.Errors.{refusal_of};
 ghost use Rattle.sketch_base.specs.Hashes.{fed_bytes};
 ghost use Rattle.sketch_bloom.specs.Building.{request_fault, words_for};
-ghost use Rattle.sketch_bloom.specs.History.{all_inserted_after};
 ghost use Rattle.sketch_bloom.specs.History.BloomHistory.{Difference, Insert, Intersection, New};
 ghost use Rattle.sketch_bloom.specs.Image.{IsSpelled, image_bytes};
 ghost use Rattle.sketch_bloom.specs.Stands.{Extends, ExtendsBoth, StandsFor};
-ghost use Rattle.sketch_bloom.specs.State.{empty_state, contains_item, inserted, all_inserted, IsCompatible, intersected, subtracted};
-ghost use Rattle.datasketches_c.specs.FilterCalls.{InsertsAll};
+ghost use Rattle.sketch_bloom.specs.State.{empty_state, contains_item, inserted, IsCompatible, intersected, subtracted};
 ghost use Rattle.datasketches_c.specs.Images.{WritesSizedImage};
 ghost use Rattle.datasketches_c.specs.Joining.{IsCombined};
 ghost use Rattle.datasketches_c.specs.Kinds.{OnFilter, ReadsFilter};
-ghost use Rattle.datasketches_c.specs.Numbers.{OnDone, OnRefused, ok, no, yes, no_room, refusal_number};
+ghost use Rattle.datasketches_c.specs.Numbers.{OnDone, OnRefused, ok, no, yes, refusal_number};
 ghost use Rattle.datasketches_c.specs.declared.any_sketch.Held.TheVariants.{Own};
 ghost use Rattle.datasketches_c.specs.declared.any_sketch.AnySketch.TheVariants.{Filter};
 
@@ -23,9 +21,9 @@ use crate::images::HasImage;
 use crate::join::{Joins, join};
 use crate::kind::{on_kind, reading_kind};
 use crate::making::put_made;
-use crate::status_code::{NO, NO_ROOM, NO_SKETCH, OK, WRONG_KIND, YES, on_done};
+use crate::status_code::{NO, NO_ROOM, OK, YES, on_done};
 use crate::strings::on_string;
-use sketch_base::{Fault, Item, Items};
+use sketch_base::{Fault, Item};
 use sketch_bloom::{BloomFilter, BloomFilterBuilder};
 use std::alloc::Global;
 
@@ -105,36 +103,6 @@ pub extern "C" fn ds_bloom_insert_string(
     on_string!(item => insert(alloc, handle, item))
 }
 
-/// Inserts many items, as one after another.
-#[inline]
-pub(crate) fn insert_all<I: Items>(alloc: Global, handle: &mut SketchHandle, items: I) -> i32
-    ensures call { InsertsAll handle.old.value handle.new.value result (I.list items) }
-    ensures refused { OnRefused result (handle.new.value ≡ handle.old.value) }
-{
-    on_kind!(alloc, handle, BloomFilter, filter => {
-        filter.insert_all(items);
-        OK
-    })
-}
-
-/// Inserts many numbers, as one after another, and faster.
-///
-/// Returns `NO_SKETCH` if the handle has no sketch, and `WRONG_KIND` if its sketch is of another kind. Then nothing
-/// changes.
-#[unsafe(no_mangle)]
-pub extern "C" fn ds_bloom_insert_all_u64(
-    alloc: Global,
-    handle: &mut SketchHandle,
-    items: &[u64],
-) -> i32
-    ensures { OnFilter handle.old.value handle.new.value result (λ s.
-        (result ≡ ok) × (handle.new.value ≡ Some (Filter (Own (all_inserted s (map (fed_bytes fed.u64) items.now)))))
-        × Extends s (all_inserted s (map (fed_bytes fed.u64) items.now))
-        (λ h. all_inserted_after h (map (fed_bytes fed.u64) items.now))) }
-{
-    insert_all(alloc, handle, items)
-}
-
 /// Returns whether the filter contains an item, as `YES` or `NO`, for the calls below.
 #[inline]
 fn contains<X: Item + Drop>(alloc: Global, handle: &mut SketchHandle, item: X) -> i32
@@ -176,52 +144,6 @@ pub extern "C" fn ds_bloom_contains_string(
     ensures invalid_utf8 { ¬ (IsUtf8 item.now) → result ≡ refusal_number Fault.InvalidUtf8 }
 {
     on_string!(item => contains(alloc, handle, item))
-}
-
-/// Writes for each item whether the filter contains it.
-#[inline]
-pub(crate) fn contains_all<I: Items>(
-    alloc: Global,
-    handle: &mut SketchHandle,
-    items: I,
-    answers: &mut [bool],
-) -> i32
-    requires { length answers.old ≡ length (I.list items) }
-    ensures kept { handle.new.value ≡ handle.old.value }
-    ensures answers { ReadsFilter handle.old.value handle.new.value result (λ s. (result ≡ ok)
-        × (answers.new ≡ map (contains_item s) (I.list items))) }
-    ensures untouched { OnRefused result (answers.new ≡ answers.old) }
-{
-    reading_kind!(alloc, handle, BloomFilter, filter => {
-        filter.contains_all(items, answers);
-        OK
-    })
-}
-
-/// Writes for each number whether the filter contains it.
-///
-/// Returns the first of these errors, and then changes nothing:
-///
-/// - `NO_ROOM` if `items` and `answers` differ in length.
-/// - `NO_SKETCH` if the handle has no sketch, and `WRONG_KIND` if its sketch is of another kind.
-#[unsafe(no_mangle)]
-pub extern "C" fn ds_bloom_contains_all_u64(
-    alloc: Global,
-    handle: &mut SketchHandle,
-    items: &[u64],
-    answers: &mut [bool],
-) -> i32
-    ensures kept { handle.new.value ≡ handle.old.value }
-    ensures no_room { length answers.old ≢ length items.now → (result ≡ no_room) × (answers.new ≡ answers.old) }
-    ensures answers { length answers.old ≡ length items.now
-        → ReadsFilter handle.old.value handle.new.value result (λ s. (result ≡ ok)
-        × (answers.new ≡ map (contains_item s) (map (fed_bytes fed.u64) items.now))) }
-    ensures untouched { OnRefused result (answers.new ≡ answers.old) }
-{
-    if answers.len() != items.len() {
-        return NO_ROOM;
-    }
-    contains_all(alloc, handle, items, answers)
 }
 
 /// The set operations that combine a filter with another.

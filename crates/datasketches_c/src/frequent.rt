@@ -44,7 +44,10 @@ where
 }
 
 /// Adds 1 to the weight of each key's item in a sketch, in order. Returns the result's number.
-fn add_all<T: Eq + Hash + Drop, K: Keys<T>>(sketch: &mut FrequentItemsSketch<T>, keys: K) -> i32
+pub(crate) fn add_all<T: Eq + Hash + Drop, K: Keys<T>>(
+    sketch: &mut FrequentItemsSketch<T>,
+    keys: K,
+) -> i32
 where
     K::Key: OwnedKey<T>,
     ensures { UpdatesMany T.eq sketch.old (K.names keys) sketch.new result }
@@ -52,23 +55,8 @@ where
     on_done!(sketch.update_all(keys))
 }
 
-/// Adds 1 to the weight of each key's item, in order.
-pub(crate) fn update_all<T: Eq + Hash + Drop, K: Keys<T>>(
-    alloc: Global,
-    handle: &mut SketchHandle,
-    keys: K,
-) -> i32
-where
-    FrequentItemsSketch<T>: Kind,
-    K::Key: OwnedKey<T>,
-    ensures { OnKind (⟦<FrequentItemsSketch<T> as Kind>⟧.part) handle.old.value handle.new.value result (λ s.
-        HoldsKind (⟦<FrequentItemsSketch<T> as Kind>⟧.part) handle.new.value (λ t. UpdatesMany T.eq s (K.names keys) t result)) }
-{
-    on_kind!(alloc, handle, FrequentItemsSketch<T>, sketch => add_all(sketch, keys))
-}
-
 /// Adds a weight to that of each key's item in a sketch, in order. Returns the result's number.
-fn add_all_weighted<T: Eq + Hash + Drop, K: Keys<T>>(
+pub(crate) fn add_all_weighted<T: Eq + Hash + Drop, K: Keys<T>>(
     sketch: &mut FrequentItemsSketch<T>,
     keys: K,
     weights: &[u64],
@@ -80,28 +68,6 @@ where
     ensures grows { ((key : K.Key) → K.Key.needs_no_memory key) → StopsOnlyToGrow sketch.old weights.now sketch.new result }
 {
     on_done!(sketch.update_all_with_counts(keys, weights))
-}
-
-/// Adds a weight to that of each key's item, in order.
-pub(crate) fn update_all_weighted<T: Eq + Hash + Drop, K: Keys<T>>(
-    alloc: Global,
-    handle: &mut SketchHandle,
-    keys: K,
-    weights: &[u64],
-) -> i32
-where
-    FrequentItemsSketch<T>: Kind,
-    K::Key: OwnedKey<T>,
-    requires { length weights.now ≡ length (K.names keys) }
-    ensures call { OnKind (⟦<FrequentItemsSketch<T> as Kind>⟧.part) handle.old.value handle.new.value result (λ s.
-        HoldsKind (⟦<FrequentItemsSketch<T> as Kind>⟧.part) handle.new.value (λ t.
-        WeighsMany T.eq s (K.names keys) weights.now t result)) }
-    ensures grows { ((key : K.Key) → K.Key.needs_no_memory key)
-        → OnKind (⟦<FrequentItemsSketch<T> as Kind>⟧.part) handle.old.value handle.new.value result (λ s.
-        HoldsKind (⟦<FrequentItemsSketch<T> as Kind>⟧.part) handle.new.value (λ t.
-        StopsOnlyToGrow s weights.now t result)) }
-{
-    on_kind!(alloc, handle, FrequentItemsSketch<T>, sketch => add_all_weighted(sketch, keys, weights))
 }
 
 /// Returns the bounds and the estimate of an item's weight, with one look-up.
@@ -133,7 +99,7 @@ where
 }
 
 /// Writes a sketch's bounds and estimate of the weight of each key's item.
-fn bounds_of_all<T: Eq + Hash + Drop, K: Keys<T>>(
+pub(crate) fn bounds_of_all<T: Eq + Hash + Drop, K: Keys<T>>(
     sketch: &FrequentItemsSketch<T>,
     keys: K,
     bounds: &mut [ItemBounds],
@@ -142,25 +108,6 @@ fn bounds_of_all<T: Eq + Hash + Drop, K: Keys<T>>(
     ensures { AreBoundsOfAll T.eq sketch.now (K.names keys) bounds.new }
 {
     sketch.bounds_all(keys, bounds);
-}
-
-/// Writes the bounds and the estimate of the weight of each key's item. Does not allocate.
-pub(crate) fn bounds_all<T: Eq + Hash + Drop, K: Keys<T>>(
-    alloc: Global,
-    handle: &mut SketchHandle,
-    keys: K,
-    bounds: &mut [ItemBounds],
-) -> i32
-where
-    FrequentItemsSketch<T>: Kind,
-    requires { length bounds.old ≡ length (K.names keys) }
-    ensures { WritesDown (reads (⟦<FrequentItemsSketch<T> as Kind>⟧.part)) handle.old.value handle.new.value result bounds.old bounds.new (λ s.
-        AreBoundsOfAll T.eq s (K.names keys) bounds.new) }
-{
-    reading_kind!(alloc, handle, FrequentItemsSketch<T>, sketch => {
-        bounds_of_all(sketch, keys, bounds);
-        OK
-    })
 }
 
 /// Merges the other sketch into this one. Returns the result's number.

@@ -1,23 +1,21 @@
-//! Calls that add weights to sketches of frequent items, or read from them: bounds of items, and reports.
+//! Calls that add the weight of one item to sketches of frequent items, or read from them: bounds of one item, and reports.
 ghost use Rattle.std.specs.Ordering.{int_eq};
-ghost use Rattle.std.specs.Prelude.{All, length, map, nat_eq, ◌+◌, ◌≡◌, ◌≢◌};
+ghost use Rattle.std.specs.Prelude.{nat_eq, ◌≡◌, ◌≢◌};
 ghost use Rattle.std.specs.Str.{IsUtf8};
-ghost use Rattle.datasketches_c.specs.FrequentBatches.{AreBoundsOfAll, AreBoundsOfString};
-ghost use Rattle.datasketches_c.specs.FrequentCalls.{AreBounds, StopsOnlyToGrow, Updates, UpdatesMany, WeighsMany};
+ghost use Rattle.datasketches_c.specs.FrequentBatches.{AreBoundsOfString};
+ghost use Rattle.datasketches_c.specs.FrequentCalls.{AreBounds, Updates};
 ghost use Rattle.datasketches_c.specs.FrequentRows.{WritesRows, error_type};
 ghost use Rattle.datasketches_c.specs.FrequentStringRows.{WritesStringRows};
-ghost use Rattle.datasketches_c.specs.FrequentStrings.{UpdatesString, WeighsStrings};
+ghost use Rattle.datasketches_c.specs.FrequentStrings.{UpdatesString};
 ghost use Rattle.datasketches_c.specs.Kinds.{HoldsFrequentI64, HoldsFrequentStrings, HoldsFrequentU64, OnFrequentI64, OnFrequentStrings, OnFrequentU64, ReadsFrequentStrings, ReadsFrequentU64, ReadsFrequentI64};
-ghost use Rattle.datasketches_c.specs.Numbers.{OnRefused, bad_offsets, no_room, ok, refusal_number};
-ghost use Rattle.sketch_base.specs.Strings.{AreOffsets, AreStrings, strings_of};
+ghost use Rattle.datasketches_c.specs.Numbers.{OnRefused, no_room, ok, refusal_number};
 
 use crate::frequent;
 use crate::frequent_string::{bounds_of_string, update_string, write_rows};
 use crate::handle::SketchHandle;
 use crate::kind::{on_kind, reading_kind};
-use crate::status_code::NO_ROOM;
-use crate::strings::{on_string, on_strings, strings_for};
-use sketch_base::{Fault, OffsetStrings};
+use crate::strings::on_string;
+use sketch_base::Fault;
 use sketch_frequencies::{FrequentItemsSketch, ItemBounds};
 use std::alloc::Global;
 
@@ -88,146 +86,6 @@ pub extern "C" fn ds_frequent_items_i64_update(
     frequent::update(alloc, handle, item, weight)
 }
 
-/// Adds 1 to the weight of each number, in order.
-///
-/// Returns `NO_SKETCH` if the handle has no sketch, and `WRONG_KIND` if its sketch is of another kind. Then nothing
-/// changes.
-///
-/// Returns the error of the first number for which `ds_frequent_items_u64_update` returns one. Then the numbers before
-/// it are added, and no others.
-#[unsafe(no_mangle)]
-pub extern "C" fn ds_frequent_items_u64_update_all(
-    alloc: Global,
-    handle: &mut SketchHandle,
-    items: &[u64],
-) -> i32
-    ensures { OnFrequentU64 handle.old.value handle.new.value result (λ s.
-        HoldsFrequentU64 handle.new.value (λ t. UpdatesMany nat_eq s (map nat_eq items.now) t result)) }
-{
-    frequent::update_all::<u64, &[u64]>(alloc, handle, items)
-}
-
-/// Adds 1 to the weight of each number, in order.
-///
-/// Returns `NO_SKETCH` if the handle has no sketch, and `WRONG_KIND` if its sketch is of another kind. Then nothing
-/// changes.
-///
-/// Returns the error of the first number for which `ds_frequent_items_i64_update` returns one. Then the numbers before
-/// it are added, and no others.
-#[unsafe(no_mangle)]
-pub extern "C" fn ds_frequent_items_i64_update_all(
-    alloc: Global,
-    handle: &mut SketchHandle,
-    items: &[i64],
-) -> i32
-    ensures { OnFrequentI64 handle.old.value handle.new.value result (λ s.
-        HoldsFrequentI64 handle.new.value (λ t. UpdatesMany int_eq s (map int_eq items.now) t result)) }
-{
-    frequent::update_all::<i64, &[i64]>(alloc, handle, items)
-}
-
-/// Adds a weight to each string's, in order. A weight of 0 changes nothing. The strings are the bytes between each
-/// offset and the next, so n strings have n + 1 offsets.
-///
-/// Returns the first of these errors, and then changes nothing:
-///
-/// - `BadOffsets` if there is no offset, an offset is below the one before it, or an offset exceeds the number of
-///   bytes.
-/// - `NO_ROOM` if the number of strings is not the length of `weights`.
-/// - `InvalidUtf8` if a string is not UTF-8.
-/// - `NO_SKETCH` if the handle has no sketch, and `WRONG_KIND` if its sketch is of another kind.
-/// - `WeightOverflow` if the total would exceed 2^64 - 1 with all weights.
-///
-/// Returns `NoMemory` for the first string that cannot be copied, or for which the table cannot grow. Then the strings
-/// before it are added, and no others.
-#[unsafe(no_mangle)]
-pub extern "C" fn ds_frequent_items_string_update_all_weighted(
-    alloc: Global,
-    handle: &mut SketchHandle,
-    bytes: &[u8],
-    offsets: &[u64],
-    weights: &[u64],
-) -> i32
-    ensures bad_offsets { ¬ AreOffsets bytes.now offsets.now
-        → (result ≡ bad_offsets) × (handle.new.value ≡ handle.old.value) }
-    ensures no_room { AreOffsets bytes.now offsets.now → length weights.now + 1 ≢ length offsets.now
-        → (result ≡ no_room) × (handle.new.value ≡ handle.old.value) }
-    ensures invalid_utf8 { AreOffsets bytes.now offsets.now → length weights.now + 1 ≡ length offsets.now
-        → ¬ All IsUtf8 (strings_of bytes.now offsets.now)
-        → (result ≡ refusal_number Fault.InvalidUtf8) × (handle.new.value ≡ handle.old.value) }
-    ensures call { AreStrings bytes.now offsets.now → length weights.now + 1 ≡ length offsets.now
-        → OnFrequentStrings handle.old.value handle.new.value result (λ s. HoldsFrequentStrings handle.new.value (λ t.
-        WeighsStrings s (strings_of bytes.now offsets.now) weights.now t result)) }
-{
-    on_strings!(strings_for(weights.len(), bytes, offsets), strings => {
-        frequent::update_all_weighted::<String, OffsetStrings<&[u64]>>(alloc, handle, strings, weights)
-    })
-}
-
-/// Adds a weight to each number's, in order. A weight of 0 changes nothing.
-///
-/// Returns the first of these errors, and then changes nothing:
-///
-/// - `NO_ROOM` if `items` and `weights` differ in length.
-/// - `NO_SKETCH` if the handle has no sketch, and `WRONG_KIND` if its sketch is of another kind.
-/// - `WeightOverflow` if the total would exceed 2^64 - 1 with all weights.
-///
-/// Returns `NoMemory` for the first number for which the table cannot grow. Then the numbers before it are added, and
-/// no others.
-#[unsafe(no_mangle)]
-pub extern "C" fn ds_frequent_items_u64_update_all_weighted(
-    alloc: Global,
-    handle: &mut SketchHandle,
-    items: &[u64],
-    weights: &[u64],
-) -> i32
-    ensures no_room { length weights.now ≢ length items.now
-        → (result ≡ no_room) × (handle.new.value ≡ handle.old.value) }
-    ensures call { length weights.now ≡ length items.now
-        → OnFrequentU64 handle.old.value handle.new.value result (λ s. HoldsFrequentU64 handle.new.value (λ t.
-        WeighsMany nat_eq s (map nat_eq items.now) weights.now t result)) }
-    ensures grows { length weights.now ≡ length items.now
-        → OnFrequentU64 handle.old.value handle.new.value result (λ s. HoldsFrequentU64 handle.new.value (λ t.
-        StopsOnlyToGrow s weights.now t result)) }
-{
-    if weights.len() != items.len() {
-        return NO_ROOM;
-    }
-    frequent::update_all_weighted::<u64, &[u64]>(alloc, handle, items, weights)
-}
-
-/// Adds a weight to each number's, in order. A weight of 0 changes nothing.
-///
-/// Returns the first of these errors, and then changes nothing:
-///
-/// - `NO_ROOM` if `items` and `weights` differ in length.
-/// - `NO_SKETCH` if the handle has no sketch, and `WRONG_KIND` if its sketch is of another kind.
-/// - `WeightOverflow` if the total would exceed 2^64 - 1 with all weights.
-///
-/// Returns `NoMemory` for the first number for which the table cannot grow. Then the numbers before it are added, and
-/// no others.
-#[unsafe(no_mangle)]
-pub extern "C" fn ds_frequent_items_i64_update_all_weighted(
-    alloc: Global,
-    handle: &mut SketchHandle,
-    items: &[i64],
-    weights: &[u64],
-) -> i32
-    ensures no_room { length weights.now ≢ length items.now
-        → (result ≡ no_room) × (handle.new.value ≡ handle.old.value) }
-    ensures call { length weights.now ≡ length items.now
-        → OnFrequentI64 handle.old.value handle.new.value result (λ s. HoldsFrequentI64 handle.new.value (λ t.
-        WeighsMany int_eq s (map int_eq items.now) weights.now t result)) }
-    ensures grows { length weights.now ≡ length items.now
-        → OnFrequentI64 handle.old.value handle.new.value result (λ s. HoldsFrequentI64 handle.new.value (λ t.
-        StopsOnlyToGrow s weights.now t result)) }
-{
-    if weights.len() != items.len() {
-        return NO_ROOM;
-    }
-    frequent::update_all_weighted::<i64, &[i64]>(alloc, handle, items, weights)
-}
-
 /// Writes the bounds and the estimate of a string's weight. Does not allocate.
 ///
 /// Returns the first of these errors, and then changes nothing:
@@ -288,58 +146,6 @@ pub extern "C" fn ds_frequent_items_i64_bounds(
     ensures untouched { OnRefused result (bounds.new ≡ bounds.old) }
 {
     frequent::bounds(alloc, handle, &item, bounds)
-}
-
-/// Writes the bounds and the estimate of each number's weight.
-///
-/// Returns the first of these errors, and then changes nothing:
-///
-/// - `NO_ROOM` if `items` and `bounds` differ in length.
-/// - `NO_SKETCH` if the handle has no sketch, and `WRONG_KIND` if its sketch is of another kind.
-#[unsafe(no_mangle)]
-pub extern "C" fn ds_frequent_items_u64_bounds_all(
-    alloc: Global,
-    handle: &mut SketchHandle,
-    items: &[u64],
-    bounds: &mut [ItemBounds],
-) -> i32
-    ensures kept { handle.new.value ≡ handle.old.value }
-    ensures no_room { length bounds.old ≢ length items.now → result ≡ no_room }
-    ensures bounds { length bounds.old ≡ length items.now
-        → ReadsFrequentU64 handle.old.value handle.new.value result (λ s.
-        (result ≡ ok) × AreBoundsOfAll nat_eq s (map nat_eq items.now) bounds.new) }
-    ensures untouched { OnRefused result (bounds.new ≡ bounds.old) }
-{
-    if bounds.len() != items.len() {
-        return NO_ROOM;
-    }
-    frequent::bounds_all::<u64, &[u64]>(alloc, handle, items, bounds)
-}
-
-/// Writes the bounds and the estimate of each number's weight.
-///
-/// Returns the first of these errors, and then changes nothing:
-///
-/// - `NO_ROOM` if `items` and `bounds` differ in length.
-/// - `NO_SKETCH` if the handle has no sketch, and `WRONG_KIND` if its sketch is of another kind.
-#[unsafe(no_mangle)]
-pub extern "C" fn ds_frequent_items_i64_bounds_all(
-    alloc: Global,
-    handle: &mut SketchHandle,
-    items: &[i64],
-    bounds: &mut [ItemBounds],
-) -> i32
-    ensures kept { handle.new.value ≡ handle.old.value }
-    ensures no_room { length bounds.old ≢ length items.now → result ≡ no_room }
-    ensures bounds { length bounds.old ≡ length items.now
-        → ReadsFrequentI64 handle.old.value handle.new.value result (λ s.
-        (result ≡ ok) × AreBoundsOfAll int_eq s (map int_eq items.now) bounds.new) }
-    ensures untouched { OnRefused result (bounds.new ≡ bounds.old) }
-{
-    if bounds.len() != items.len() {
-        return NO_ROOM;
-    }
-    frequent::bounds_all::<i64, &[i64]>(alloc, handle, items, bounds)
 }
 
 /// Writes the tracked strings whose bound exceeds both the threshold and the error, in rows of descending estimates.

@@ -1,16 +1,16 @@
 //! Questions to filters and Count-Min sketches in the bytes of their images, which are not read into memory.
 ghost use Rattle.std.specs.Hash as fed;
-ghost use Rattle.std.specs.Prelude.{◌≡◌, ◌≢◌, pos, length, map, if◌then◌else◌};
+ghost use Rattle.std.specs.Prelude.{◌≡◌, pos, if◌then◌else◌};
 ghost use Rattle.std.specs.Str.{IsUtf8};
 ghost use Rattle.sketch_base.specs.Hashes.{fed_bytes};
 ghost use Rattle.sketch_bloom.specs.State.{contains_item};
 ghost use Rattle.datasketches_c.specs.Estimates.{IsEstimate};
 ghost use Rattle.datasketches_c.specs.ImageViews.{AsksCount, AsksFilter};
-ghost use Rattle.datasketches_c.specs.Numbers.{OnRefused, max_i64, max_u64, min_i64, no, no_room, ok, refusal_number, yes};
+ghost use Rattle.datasketches_c.specs.Numbers.{OnRefused, max_i64, max_u64, min_i64, no, ok, refusal_number, yes};
 
-use crate::status_code::{NO, NO_ROOM, OK, YES, on_done};
+use crate::status_code::{NO, OK, YES, on_done};
 use crate::strings::on_string;
-use sketch_base::{Fault, Item, Items};
+use sketch_base::{Fault, Item};
 use sketch_bloom::BloomFilterView;
 use sketch_countmin::{CountMinValue, CountMinView, RowItem};
 
@@ -44,41 +44,6 @@ pub extern "C" fn ds_bloom_image_contains_string(image: &[u8], item: &[u8]) -> i
     ensures invalid_utf8 { ¬ (IsUtf8 item.now) → result ≡ refusal_number Fault.InvalidUtf8 }
 {
     on_string!(item => contains(image, item))
-}
-
-/// Writes for each item whether the filter in an image contains it, for the calls below.
-#[inline]
-fn contains_all<I: Items>(image: &[u8], items: I, answers: &mut [bool]) -> i32
-    requires { length answers.old ≡ length (I.list items) }
-    ensures answers { AsksFilter image.now (λ s. (result ≡ ok)
-        × (answers.new ≡ map (contains_item s) (I.list items))) result }
-    ensures untouched { OnRefused result (answers.new ≡ answers.old) }
-{
-    on_done!(BloomFilterView::new(image), filter => {
-            filter.contains_all(items, answers);
-            OK
-        })
-}
-
-/// Writes for each number whether the filter in an image contains it. See `ds_bloom_image_contains_u64`.
-///
-/// Returns the first of these errors, and then changes nothing: `NO_ROOM` if `items` and `answers` differ in length, and
-/// that of the first failed check.
-#[unsafe(no_mangle)]
-pub extern "C" fn ds_bloom_image_contains_all_u64(
-    image: &[u8],
-    items: &[u64],
-    answers: &mut [bool],
-) -> i32
-    ensures no_room { length answers.old ≢ length items.now → result ≡ no_room }
-    ensures answers { length answers.old ≡ length items.now → AsksFilter image.now (λ s. (result ≡ ok)
-        × (answers.new ≡ map (contains_item s) (map (fed_bytes fed.u64) items.now))) result }
-    ensures untouched { OnRefused result (answers.new ≡ answers.old) }
-{
-    if answers.len() != items.len() {
-        return NO_ROOM;
-    }
-    contains_all(image, items, answers)
 }
 
 /// Writes the estimate of an item by the Count-Min sketch in an image, for the calls below.

@@ -1,5 +1,5 @@
 //! Sketches that were created, or read from images, and are put into handles.
-ghost use Rattle.std.specs.Prelude.{◌≡◌, ℕ, Some, Ok, MatchResult};
+ghost use Rattle.std.specs.Prelude.{◌≡◌, Some, Ok, MatchResult};
 ghost use Rattle.datasketches_c.specs.Numbers.{OnDone, OnRefused, ok, refusal_number};
 
 use crate::handle::SketchHandle;

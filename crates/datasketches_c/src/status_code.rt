@@ -22,8 +22,11 @@ pub const WRONG_KIND: i32 = -2;
 /// A buffer of the caller does not have the length that the call needs.
 pub const NO_ROOM: i32 = -3;
 
-/// A fraction is not above 0 and at most 1. The header for C uses the number -5.
+/// A fraction is not above 0 and at most 1.
 pub const BAD_FRACTION: i32 = -4;
+
+/// The kind of many items is not known. The header for C uses the number for null pointers, too.
+pub const BAD_ARGUMENT: i32 = -5;
 
 /// Returns the number of a fault: -11 or less, or -6 for `BadOffsets`.
 pub(crate) fn refusal_number(fault: Fault) -> i32

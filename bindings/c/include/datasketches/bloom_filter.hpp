@@ -4,35 +4,10 @@
 
 #include "sketch.hpp"
 
-#include <initializer_list>
-
 namespace datasketches {
 inline namespace DATASKETCHES_FORM {
 
-namespace detail {
-
-/* The C calls on items. */
-struct bloom_calls {
-    static constexpr item_calls insert{ds_bloom_insert_u64, ds_bloom_insert_i64, ds_bloom_insert_string};
-    static constexpr range_calls insert_all{ds_bloom_insert_all_u64, ds_bloom_insert_all_i64, ds_bloom_insert_all_string,
-                                            ds_bloom_insert_all_string_pairs};
-    static constexpr item_calls contains{ds_bloom_contains_u64, ds_bloom_contains_i64, ds_bloom_contains_string};
-    static constexpr range_calls contains_all{ds_bloom_contains_all_u64, ds_bloom_contains_all_i64, ds_bloom_contains_all_string,
-                                              ds_bloom_contains_all_string_pairs};
-    static constexpr item_calls contains_and_insert{ds_bloom_contains_and_insert_u64, ds_bloom_contains_and_insert_i64,
-                                                    ds_bloom_contains_and_insert_string};
-    static constexpr range_calls contains_and_insert_all{
-        ds_bloom_contains_and_insert_all_u64, ds_bloom_contains_and_insert_all_i64, ds_bloom_contains_and_insert_all_string,
-        ds_bloom_contains_and_insert_all_string_pairs};
-    static constexpr item_calls image_contains{ds_bloom_image_contains_u64, ds_bloom_image_contains_i64,
-                                               ds_bloom_image_contains_string};
-};
-
-} /* namespace detail */
-
-class bloom_filter : public detail::comparable<bloom_filter> {
-    using calls = detail::bloom_calls;
-
+class bloom_filter : public detail::owner<bloom_filter, detail::any_item>, public detail::comparable<bloom_filter> {
 public:
     /* The kind, as in `ds_status`. */
     static constexpr std::int32_t kind = DS_BLOOM;
@@ -64,63 +39,64 @@ public:
         return detail::written<std::uint16_t>(ds_bloom_suggest_num_hashes, num_bits, num_items);
     }
 
-    /* Inserts an item: `ds_bloom_insert_u64`, `_i64` and `_string`. */
-    template <class Item> outcome<> insert(const Item &item) { return detail::done(on_item(calls::insert, item)); }
-
-    /* Inserts the items of a range: `ds_bloom_insert_all_u64`, `_i64`, `_string` and `_string_pairs`. */
-    template <class Items> outcome<> insert_all(Items &&items) { return detail::done(on_items(calls::insert_all, items)); }
-    template <class Item> outcome<> insert_all(std::initializer_list<Item> items)
+    /* Inserts an item: `ds_bloom_insert_u64` and `_string`. */
+    template <class Item> outcome<> insert(const Item &item)
     {
-        return detail::done(on_items(calls::insert_all, items));
+        return detail::done(on_item(detail::item_calls{ds_bloom_insert_u64, ds_bloom_insert_string}, item));
     }
 
-    /* Inserts each word or each line of a string: `ds_bloom_insert_words` and `ds_bloom_insert_lines`. */
-    outcome<> insert_words(std::string_view text) { return detail::done(on_text(ds_bloom_insert_words, text)); }
-    outcome<> insert_lines(std::string_view text) { return detail::done(on_text(ds_bloom_insert_lines, text)); }
+    /* Inserts many items: `ds_bloom_insert_all`. */
+    template <class Items> outcome<> insert_all(Items &&items) { return detail::done(on_items(ds_bloom_insert_all, items)); }
+    template <class Item> outcome<> insert_all(std::initializer_list<Item> items)
+    {
+        return detail::done(on_items(ds_bloom_insert_all, items));
+    }
 
-    /* Returns whether the filter contains the item: `ds_bloom_contains_u64`, `_i64` and `_string`. */
-    template <class Item> outcome<bool> contains(const Item &item) { return detail::yes(on_item(calls::contains, item)); }
+    /* Returns whether the filter contains the item: `ds_bloom_contains_u64` and `_string`. */
+    template <class Item> outcome<bool> contains(const Item &item)
+    {
+        return detail::yes(on_item(detail::item_calls{ds_bloom_contains_u64, ds_bloom_contains_string}, item));
+    }
 
-    /* Writes for each item whether the filter contains it, to a range of as many `bool`: `ds_bloom_contains_all_u64`, `_i64`,
-     * `_string` and `_string_pairs`. An error in a block leaves the results of the blocks before it written. */
+    /* Writes for each item whether the filter contains it, to a range of as many `bool`: `ds_bloom_contains_all`. An error in a
+     * block leaves the results of the blocks before it written. */
     template <class Items, class Results> outcome<> contains_all(Items &&items, Results &&results)
     {
-        return detail::done(on_items(calls::contains_all, items, detail::span_of<bool>(results)));
+        return detail::done(on_items(ds_bloom_contains_all, items, detail::span_of<bool>(results)));
     }
 
     /* Returns for each item whether the filter contains it. */
     template <class Items> outcome<std::vector<bool>> contains_all(Items &&items)
     {
-        return results_of<bool>(calls::contains_all, items);
+        return results_of<bool>(ds_bloom_contains_all, items);
     }
     template <class Item> outcome<std::vector<bool>> contains_all(std::initializer_list<Item> items)
     {
-        return results_of<bool>(calls::contains_all, items);
+        return results_of<bool>(ds_bloom_contains_all, items);
     }
 
-    /* Inserts an item, and returns whether the filter contained it before: `ds_bloom_contains_and_insert_u64`, `_i64` and
-     * `_string`. */
+    /* Inserts an item, and returns whether the filter contained it before: `ds_bloom_contains_and_insert_u64` and `_string`. */
     template <class Item> outcome<bool> contains_and_insert(const Item &item)
     {
-        return detail::yes(on_item(calls::contains_and_insert, item));
+        constexpr detail::item_calls calls{ds_bloom_contains_and_insert_u64, ds_bloom_contains_and_insert_string};
+        return detail::yes(on_item(calls, item));
     }
 
-    /* Inserts the items of a range, and writes for each whether the filter contained it before, to a range of as many `bool`:
-     * `ds_bloom_contains_and_insert_all_u64`, `_i64`, `_string` and `_string_pairs`. An error in a block leaves the blocks before
-     * it inserted and their results written. */
+    /* Inserts many items, and writes for each whether the filter contained it before, to a range of as many `bool`:
+     * `ds_bloom_contains_and_insert_all`. An error in a block leaves the blocks before it inserted and their results written. */
     template <class Items, class Results> outcome<> contains_and_insert_all(Items &&items, Results &&results)
     {
-        return detail::done(on_items(calls::contains_and_insert_all, items, detail::span_of<bool>(results)));
+        return detail::done(on_items(ds_bloom_contains_and_insert_all, items, detail::span_of<bool>(results)));
     }
 
-    /* Inserts the items of a range, and returns for each whether the filter contained it before. */
+    /* Inserts many items, and returns for each whether the filter contained it before. */
     template <class Items> outcome<std::vector<bool>> contains_and_insert_all(Items &&items)
     {
-        return results_of<bool>(calls::contains_and_insert_all, items);
+        return results_of<bool>(ds_bloom_contains_and_insert_all, items);
     }
     template <class Item> outcome<std::vector<bool>> contains_and_insert_all(std::initializer_list<Item> items)
     {
-        return results_of<bool>(calls::contains_and_insert_all, items);
+        return results_of<bool>(ds_bloom_contains_and_insert_all, items);
     }
 
     /* Keeps the positions that both filters have, or removes the other's: `ds_bloom_intersect` and `ds_bloom_difference`.
@@ -135,32 +111,44 @@ public:
     }
 };
 
-/* A filter in the bytes of its image, which it neither owns nor copies: they must stay as they are while it is used. Each call
- * checks the image in constant time, allocates nothing, and may run in many threads at once. */
-class bloom_filter_image {
+/* A filter in the bytes of its image, which it neither owns nor copies: they must stay as they are while it is used. Each C call
+ * checks the image in constant time and allocates nothing. Many threads may use one object at once. */
+class bloom_filter_image : public detail::image_in_place {
 public:
-    constexpr bloom_filter_image(const std::uint8_t *image, std::size_t length) noexcept : image_(image, length) {}
+    constexpr bloom_filter_image(const std::uint8_t *image, std::size_t length) noexcept : image_in_place({image, length}) {}
 
     /* The image is a contiguous range of bytes, and no temporary but a span. */
     template <class Image, class = std::enable_if_t<detail::stays<Image>>>
-    explicit bloom_filter_image(Image &&image) noexcept : image_(detail::image_of(image))
+    explicit bloom_filter_image(Image &&image) noexcept : image_in_place(detail::image_of(image))
     {
     }
 
-    /* Returns whether the filter contains the item: `ds_bloom_image_contains_u64`, `_i64` and `_string`. */
+    /* Returns whether the filter contains the item: `ds_bloom_image_contains_u64` and `_string`. */
     template <class Item> outcome<bool> contains(const Item &item) const
     {
-        return detail::yes(detail::bloom_calls::image_contains.run(
-            detail::to_item<detail::any_item>(item), [this](auto call, auto... parts) -> std::int32_t {
-                if (detail::is_missing(image_)) return DS_BAD_ARGUMENT;
-                return call(detail::place(image_), image_.size(), parts...);
-            }));
+        constexpr detail::item_calls calls{ds_bloom_image_contains_u64, ds_bloom_image_contains_string};
+        auto make = [&](auto... parts) { return on_image(parts...); };
+        return detail::yes(calls.run(detail::to_item<detail::any_item>(item), make));
     }
 
-    constexpr span<const std::uint8_t> bytes() const noexcept { return image_; }
+    /* Writes for each item whether the filter contains it, to a range of as many `bool`: `ds_bloom_image_contains_all`. An error
+     * in a block leaves the results of the blocks before it written. */
+    template <class Items, class Results> outcome<> contains_all(Items &&items, Results &&results) const
+    {
+        auto make = [&](auto... parts) { return on_image(ds_bloom_image_contains_all, parts...); };
+        return detail::done(detail::on_items<detail::any_item>(items, detail::span_of<bool>(results), make));
+    }
 
-private:
-    span<const std::uint8_t> image_;
+    /* Returns for each item whether the filter contains it. */
+    template <class Items> outcome<std::vector<bool>> contains_all(Items &&items) const
+    {
+        auto make = [&](auto... parts) { return on_image(ds_bloom_image_contains_all, parts...); };
+        return detail::results_of<detail::any_item, bool>(items, make);
+    }
+    template <class Item> outcome<std::vector<bool>> contains_all(std::initializer_list<Item> items) const
+    {
+        return contains_all(span(items.begin(), items.size()));
+    }
 };
 
 } /* inline namespace */

@@ -4,8 +4,6 @@
 
 #include "sketch.hpp"
 
-#include <initializer_list>
-
 namespace datasketches {
 inline namespace DATASKETCHES_FORM {
 
@@ -16,58 +14,35 @@ template <class W> struct count_min_calls {};
 
 template <> struct count_min_calls<std::uint64_t> {
     static constexpr std::int32_t kind = DS_COUNT_MIN_U64;
-    static constexpr item_calls update{ds_count_min_u64_update_u64, ds_count_min_u64_update_i64, ds_count_min_u64_update_string};
-    static constexpr range_calls update_all{
-        ds_count_min_u64_update_all_u64, ds_count_min_u64_update_all_i64,
-        ds_count_min_u64_update_all_string, ds_count_min_u64_update_all_string_pairs};
-    static constexpr range_calls update_all_weighted{
-        ds_count_min_u64_update_all_weighted_u64, ds_count_min_u64_update_all_weighted_i64,
-        ds_count_min_u64_update_all_weighted_string, ds_count_min_u64_update_all_weighted_string_pairs};
-    static constexpr auto update_words = ds_count_min_u64_update_words;
-    static constexpr auto update_lines = ds_count_min_u64_update_lines;
-    static constexpr item_calls estimate{ds_count_min_u64_estimate_u64, ds_count_min_u64_estimate_i64,
-                                         ds_count_min_u64_estimate_string};
-    static constexpr range_calls estimate_all{
-        ds_count_min_u64_estimate_all_u64, ds_count_min_u64_estimate_all_i64,
-        ds_count_min_u64_estimate_all_string, ds_count_min_u64_estimate_all_string_pairs};
-    static constexpr item_calls upper_bound{ds_count_min_u64_upper_bound_u64, ds_count_min_u64_upper_bound_i64,
-                                            ds_count_min_u64_upper_bound_string};
-    static constexpr item_calls image_estimate{ds_count_min_u64_image_estimate_u64, ds_count_min_u64_image_estimate_i64,
-                                               ds_count_min_u64_image_estimate_string};
+    static constexpr item_calls update{ds_count_min_u64_update_u64, ds_count_min_u64_update_string};
+    static constexpr item_calls estimate{ds_count_min_u64_estimate_u64, ds_count_min_u64_estimate_string};
+    static constexpr auto estimate_all = ds_count_min_u64_estimate_all;
+    static constexpr item_calls upper_bound{ds_count_min_u64_upper_bound_u64, ds_count_min_u64_upper_bound_string};
+    static constexpr item_calls image_estimate{ds_count_min_u64_image_estimate_u64, ds_count_min_u64_image_estimate_string};
 };
 
 template <> struct count_min_calls<std::int64_t> {
     static constexpr std::int32_t kind = DS_COUNT_MIN_I64;
-    static constexpr item_calls update{ds_count_min_i64_update_u64, ds_count_min_i64_update_i64, ds_count_min_i64_update_string};
-    static constexpr range_calls update_all{
-        ds_count_min_i64_update_all_u64, ds_count_min_i64_update_all_i64,
-        ds_count_min_i64_update_all_string, ds_count_min_i64_update_all_string_pairs};
-    static constexpr range_calls update_all_weighted{
-        ds_count_min_i64_update_all_weighted_u64, ds_count_min_i64_update_all_weighted_i64,
-        ds_count_min_i64_update_all_weighted_string, ds_count_min_i64_update_all_weighted_string_pairs};
-    static constexpr auto update_words = ds_count_min_i64_update_words;
-    static constexpr auto update_lines = ds_count_min_i64_update_lines;
-    static constexpr item_calls estimate{ds_count_min_i64_estimate_u64, ds_count_min_i64_estimate_i64,
-                                         ds_count_min_i64_estimate_string};
-    static constexpr range_calls estimate_all{
-        ds_count_min_i64_estimate_all_u64, ds_count_min_i64_estimate_all_i64,
-        ds_count_min_i64_estimate_all_string, ds_count_min_i64_estimate_all_string_pairs};
-    static constexpr item_calls upper_bound{ds_count_min_i64_upper_bound_u64, ds_count_min_i64_upper_bound_i64,
-                                            ds_count_min_i64_upper_bound_string};
-    static constexpr item_calls image_estimate{ds_count_min_i64_image_estimate_u64, ds_count_min_i64_image_estimate_i64,
-                                               ds_count_min_i64_image_estimate_string};
+    static constexpr item_calls update{ds_count_min_i64_update_u64, ds_count_min_i64_update_string};
+    static constexpr item_calls estimate{ds_count_min_i64_estimate_u64, ds_count_min_i64_estimate_string};
+    static constexpr auto estimate_all = ds_count_min_i64_estimate_all;
+    static constexpr item_calls upper_bound{ds_count_min_i64_upper_bound_u64, ds_count_min_i64_upper_bound_string};
+    static constexpr item_calls image_estimate{ds_count_min_i64_image_estimate_u64, ds_count_min_i64_image_estimate_string};
 };
 
 } /* namespace detail */
 
-/* A Count-Min sketch with weights in `W`: `std::uint64_t`, or `std::int64_t`, which may be below 0. The C calls on items are named
- * `ds_count_min_u64_..` and `ds_count_min_i64_..`. */
-template <class W> class count_min_sketch : public detail::comparable<count_min_sketch<W>> {
+/* A Count-Min sketch with weights in `W`: `std::uint64_t`, or `std::int64_t`, which may be below 0. The C calls on an item are
+ * named `ds_count_min_u64_..` and `ds_count_min_i64_..`. */
+template <class W>
+class count_min_sketch
+    : public detail::weighted<count_min_sketch<W>, detail::any_item, W, detail::count_min_calls<W>>,
+      public detail::comparable<count_min_sketch<W>> {
     static_assert(std::is_same_v<W, std::int64_t> || std::is_same_v<W, std::uint64_t>,
                   "the weights of count_min_sketch are std::int64_t or std::uint64_t");
 
     using calls = detail::count_min_calls<W>;
-    using detail::comparable<count_min_sketch<W>>::handle_;
+    using detail::owner<count_min_sketch<W>, detail::any_item>::handle_;
 
 public:
     /* The kind, as in `ds_status`. */
@@ -100,47 +75,20 @@ public:
         return detail::written<std::uint8_t>(ds_count_min_suggest_num_hashes, questions);
     }
 
-    /* Adds 1, or a weight, to the item's: `.._update_u64`, `_i64` and `_string`. */
-    template <class Item> outcome<> update(const Item &item) { return update(item, W{1}); }
-    template <class Item, class Weight> outcome<> update(const Item &item, const Weight &weight)
-    {
-        return detail::done(this->on_item(calls::update, item, detail::to_weight<W>(weight)));
-    }
-
-    /* Adds 1 to the weight of each item: `.._update_all_u64`, `_i64`, `_string` and `_string_pairs`. If the total has no room for
-     * all items, those before the first that does not fit are counted. */
-    template <class Items> outcome<> update_all(Items &&items) { return detail::done(this->on_items(calls::update_all, items)); }
-    template <class Item> outcome<> update_all(std::initializer_list<Item> items)
-    {
-        return detail::done(this->on_items(calls::update_all, items));
-    }
-
-    /* Adds to each item's weight one of a contiguous range of as many weights in `W`: `.._update_all_weighted_u64`, `_i64`,
-     * `_string` and `_string_pairs`. If the total has no room for all weights of items that are passed whole, or of a block, none
-     * of them is added. */
-    template <class Items, class Weights> outcome<> update_all(Items &&items, const Weights &weights)
-    {
-        return detail::done(this->on_items(calls::update_all_weighted, items, detail::span_of<const W>(weights)));
-    }
-
-    /* Adds 1 to the weight of each word or each line of a string: `.._update_words` and `.._update_lines`. */
-    outcome<> update_words(std::string_view text) { return detail::done(this->on_text(calls::update_words, text)); }
-    outcome<> update_lines(std::string_view text) { return detail::done(this->on_text(calls::update_lines, text)); }
-
-    /* Returns the estimate of the item's weight: `.._estimate_u64`, `_i64` and `_string`. */
+    /* Returns the estimate of the item's weight: `.._estimate_u64` and `_string`. */
     template <class Item> outcome<W> estimate(const Item &item)
     {
         return detail::written<W>([&](W *found) { return this->on_item(calls::estimate, item, found); });
     }
 
-    /* Returns the estimate plus a margin: `.._upper_bound_u64`, `_i64` and `_string`. */
+    /* Returns the estimate plus a margin: `.._upper_bound_u64` and `_string`. */
     template <class Item> outcome<W> upper_bound(const Item &item)
     {
         return detail::written<W>([&](W *found) { return this->on_item(calls::upper_bound, item, found); });
     }
 
-    /* Writes the estimate of each item's weight to a contiguous range of as many `W`: `.._estimate_all_u64`, `_i64`, `_string` and
-     * `_string_pairs`. An error in a block leaves the estimates of the blocks before it written. */
+    /* Writes the estimate of each item's weight to a contiguous range of as many `W`: `.._estimate_all`. An error in a block
+     * leaves the estimates of the blocks before it written. */
     template <class Items, class Estimates> outcome<> estimate_all(Items &&items, Estimates &&estimates)
     {
         return detail::done(this->on_items(calls::estimate_all, items, detail::span_of<W>(estimates)));
@@ -171,7 +119,7 @@ public:
 };
 
 /* A Count-Min sketch in the bytes of its image, which it neither owns nor copies: see `bloom_filter_image`. */
-template <class W> class count_min_image {
+template <class W> class count_min_image : public detail::image_in_place {
     static_assert(std::is_same_v<W, std::int64_t> || std::is_same_v<W, std::uint64_t>,
                   "the weights of count_min_image are std::int64_t or std::uint64_t");
 
@@ -179,33 +127,27 @@ template <class W> class count_min_image {
 
 public:
     constexpr count_min_image(const std::uint8_t *image, std::size_t length, std::uint64_t seed = default_seed) noexcept
-        : image_(image, length), seed_(seed)
+        : image_in_place({image, length}), seed_(seed)
     {
     }
 
     /* The image is a contiguous range of bytes, and no temporary but a span. It was written under this seed. */
     template <class Image, class = std::enable_if_t<detail::stays<Image>>>
     explicit count_min_image(Image &&image, std::uint64_t seed = default_seed) noexcept
-        : image_(detail::image_of(image)), seed_(seed)
+        : image_in_place(detail::image_of(image)), seed_(seed)
     {
     }
 
-    /* Returns the estimate of the item's weight: `.._image_estimate_u64`, `_i64` and `_string`. */
+    /* Returns the estimate of the item's weight: `.._image_estimate_u64` and `_string`. */
     template <class Item> outcome<W> estimate(const Item &item) const
     {
         return detail::written<W>([&](W *found) {
-            return calls::image_estimate.run(
-                detail::to_item<detail::any_item>(item), [&](auto call, auto... parts) -> std::int32_t {
-                    if (detail::is_missing(image_)) return DS_BAD_ARGUMENT;
-                    return call(detail::place(image_), image_.size(), seed_, parts..., found);
-                });
+            auto make = [&](auto call, auto... parts) { return on_image(call, seed_, parts..., found); };
+            return calls::image_estimate.run(detail::to_item<detail::any_item>(item), make);
         });
     }
 
-    constexpr span<const std::uint8_t> bytes() const noexcept { return image_; }
-
 private:
-    span<const std::uint8_t> image_;
     std::uint64_t seed_;
 };
 

@@ -4,8 +4,6 @@
 
 #include "sketch.hpp"
 
-#include <initializer_list>
-
 namespace datasketches {
 inline namespace DATASKETCHES_FORM {
 
@@ -49,42 +47,31 @@ template <class T> struct frequent_items_calls {};
 
 template <> struct frequent_items_calls<std::uint64_t> {
     static constexpr std::int32_t kind = DS_FREQUENT_ITEMS_U64;
-    static constexpr item_calls update{ds_frequent_items_u64_update, nullptr, nullptr};
-    static constexpr range_calls update_all{ds_frequent_items_u64_update_all, nullptr, nullptr, nullptr};
-    static constexpr range_calls update_all_weighted{ds_frequent_items_u64_update_all_weighted, nullptr, nullptr, nullptr};
-    static constexpr item_calls bounds{ds_frequent_items_u64_bounds, nullptr, nullptr};
-    static constexpr range_calls bounds_all{ds_frequent_items_u64_bounds_all, nullptr, nullptr, nullptr};
+    static constexpr item_calls update{ds_frequent_items_u64_update, nullptr};
+    static constexpr item_calls bounds{ds_frequent_items_u64_bounds, nullptr};
     static constexpr auto rows = ds_frequent_items_u64_rows;
 };
 
 template <> struct frequent_items_calls<std::int64_t> {
     static constexpr std::int32_t kind = DS_FREQUENT_ITEMS_I64;
-    static constexpr item_calls update{nullptr, ds_frequent_items_i64_update, nullptr};
-    static constexpr range_calls update_all{nullptr, ds_frequent_items_i64_update_all, nullptr, nullptr};
-    static constexpr range_calls update_all_weighted{nullptr, ds_frequent_items_i64_update_all_weighted, nullptr, nullptr};
-    static constexpr item_calls bounds{nullptr, ds_frequent_items_i64_bounds, nullptr};
-    static constexpr range_calls bounds_all{nullptr, ds_frequent_items_i64_bounds_all, nullptr, nullptr};
+    static constexpr item_calls update{ds_frequent_items_i64_update, nullptr};
+    static constexpr item_calls bounds{ds_frequent_items_i64_bounds, nullptr};
     static constexpr auto rows = ds_frequent_items_i64_rows;
 };
 
 template <> struct frequent_items_calls<std::string> {
     static constexpr std::int32_t kind = DS_FREQUENT_ITEMS_STRING;
-    static constexpr item_calls update{nullptr, nullptr, ds_frequent_items_string_update};
-    static constexpr range_calls update_all{nullptr, nullptr, ds_frequent_items_string_update_all,
-                                            ds_frequent_items_string_update_all_pairs};
-    static constexpr range_calls update_all_weighted{nullptr, nullptr, ds_frequent_items_string_update_all_weighted,
-                                                     ds_frequent_items_string_update_all_weighted_pairs};
-    static constexpr item_calls bounds{nullptr, nullptr, ds_frequent_items_string_bounds};
-    static constexpr range_calls bounds_all{nullptr, nullptr, ds_frequent_items_string_bounds_all,
-                                            ds_frequent_items_string_bounds_all_pairs};
+    static constexpr item_calls update{nullptr, ds_frequent_items_string_update};
+    static constexpr item_calls bounds{nullptr, ds_frequent_items_string_bounds};
     static constexpr auto rows = ds_frequent_items_string_rows;
 };
 
 } /* namespace detail */
 
 /* A sketch of the items of the largest weights. `T` is `std::string`, `std::int64_t` or `std::uint64_t`. Weights are
- * `std::uint64_t`. The C calls on items are named `ds_frequent_items_string_..`, `.._i64_..` and `.._u64_..`. */
-template <class T> class frequent_items : public detail::owner<frequent_items<T>, T> {
+ * `std::uint64_t`. The C calls on an item are named `ds_frequent_items_string_..`, `.._i64_..` and `.._u64_..`. */
+template <class T>
+class frequent_items : public detail::weighted<frequent_items<T>, T, std::uint64_t, detail::frequent_items_calls<T>> {
     static_assert(std::is_same_v<T, std::string> || std::is_same_v<T, std::int64_t> || std::is_same_v<T, std::uint64_t>,
                   "the items of frequent_items are std::string, std::int64_t or std::uint64_t");
 
@@ -137,63 +124,27 @@ public:
         return detail::made<frequent_items>(ds_frequent_items_new, kind, max_map_size, sample_size, &words);
     }
 
-    /* Adds 1, or a weight, to the item's: `.._update`. */
-    template <class Item> outcome<> update(const Item &item) { return update(item, std::uint64_t{1}); }
-    template <class Item, class Weight> outcome<> update(const Item &item, const Weight &weight)
-    {
-        return detail::done(this->on_item(calls::update, item, detail::to_weight<std::uint64_t>(weight)));
-    }
-
-    /* Adds 1 to the weight of each item: `.._update_all` and `.._update_all_pairs`. If an item's own update returns an error, the
-     * items before it are added. */
-    template <class Items> outcome<> update_all(Items &&items) { return detail::done(this->on_items(calls::update_all, items)); }
-    template <class Item> outcome<> update_all(std::initializer_list<Item> items)
-    {
-        return detail::done(this->on_items(calls::update_all, items));
-    }
-
-    /* Adds to each item's weight one of a contiguous range of as many weights: `.._update_all_weighted` and
-     * `.._update_all_weighted_pairs`. If the total has no room for all weights of items that are passed whole, or of a block, none
-     * of them is added. If memory runs out at an item, the items before it are added. */
-    template <class Items, class Weights> outcome<> update_all(Items &&items, const Weights &weights)
-    {
-        return detail::done(this->on_items(calls::update_all_weighted, items, detail::span_of<const std::uint64_t>(weights)));
-    }
-
-    /* Adds 1 to the weight of each word or each line of a string, in a sketch of strings: `.._update_words` and
-     * `.._update_lines`. If a word's own update returns an error, those before it are added. */
-    outcome<> update_words(std::string_view text)
-    {
-        static_assert(std::is_same_v<T, std::string>, "only a sketch of strings counts words");
-        return detail::done(this->on_text(ds_frequent_items_string_update_words, text));
-    }
-    outcome<> update_lines(std::string_view text)
-    {
-        static_assert(std::is_same_v<T, std::string>, "only a sketch of strings counts lines");
-        return detail::done(this->on_text(ds_frequent_items_string_update_lines, text));
-    }
-
     /* Returns the item's lower bound, estimate and upper bound: `.._bounds`. */
     template <class Item> outcome<bounds_type> bounds(const Item &item)
     {
         return detail::written<bounds_type>([&](auto *found) { return this->on_item(calls::bounds, item, found); });
     }
 
-    /* Writes the bounds of each item to a contiguous range of as many `ds_frequent_items_bounds`: `.._bounds_all` and
-     * `.._bounds_all_pairs`. An error in a block leaves the bounds of the blocks before it written. */
+    /* Writes the bounds of each item to a contiguous range of as many `ds_frequent_items_bounds`:
+     * `ds_frequent_items_bounds_all`. An error in a block leaves the bounds of the blocks before it written. */
     template <class Items, class Bounds> outcome<> bounds_all(Items &&items, Bounds &&found)
     {
-        return detail::done(this->on_items(calls::bounds_all, items, detail::span_of<bounds_type>(found)));
+        return detail::done(this->on_items(ds_frequent_items_bounds_all, items, detail::span_of<bounds_type>(found)));
     }
 
     /* Returns the bounds of each item. */
     template <class Items> outcome<std::vector<bounds_type>> bounds_all(Items &&items)
     {
-        return this->template results_of<bounds_type>(calls::bounds_all, items);
+        return this->template results_of<bounds_type>(ds_frequent_items_bounds_all, items);
     }
     template <class Item> outcome<std::vector<bounds_type>> bounds_all(std::initializer_list<Item> items)
     {
-        return this->template results_of<bounds_type>(calls::bounds_all, items);
+        return this->template results_of<bounds_type>(ds_frequent_items_bounds_all, items);
     }
 
     /* Returns the rows whose bound exceeds the threshold and the sketch's error: `.._rows`.

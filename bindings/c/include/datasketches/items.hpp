@@ -1,4 +1,4 @@
-/* Items, ranges of items, and the C calls on them by their types. See `datasketches.hpp`. */
+/* Items, ranges of items, and how C calls take them. See `datasketches.hpp`. */
 #ifndef DATASKETCHES_ITEMS_HPP
 #define DATASKETCHES_ITEMS_HPP
 
@@ -7,8 +7,10 @@
 #include <array>
 #include <cstddef>
 #include <iterator>
+#include <memory>
 #include <string_view>
 #include <type_traits>
+#include <vector>
 
 namespace datasketches {
 inline namespace DATASKETCHES_FORM {
@@ -28,21 +30,10 @@ private:
     std::size_t size_;
 };
 
-/* Strings in one buffer of bytes with offsets, as in Arrow's `large_utf8`: string i is the bytes from offset i up to offset i + 1.
- * They are passed by the C calls with offsets, whole. */
-class offset_strings {
-public:
-    constexpr offset_strings(std::string_view bytes, const std::uint64_t *offsets, std::size_t num_offsets) noexcept
-        : bytes_(bytes), offsets_(offsets, num_offsets)
-    {
-    }
-
-    constexpr std::string_view bytes() const noexcept { return bytes_; }
-    constexpr span<const std::uint64_t> offsets() const noexcept { return offsets_; }
-
-private:
-    std::string_view bytes_;
-    span<const std::uint64_t> offsets_;
+/* Strings that C calls take where they are: those of `offset_strings`, `words` or `lines`. It points to the caller's bytes and
+ * offsets, and copies neither. */
+struct string_items {
+    ds_items items;
 };
 
 namespace detail {
@@ -81,22 +72,28 @@ inline constexpr bool is_same_number = is_number<T> && is_number<U> && sizeof(T)
 /* The kinds of items of sketches that take strings and numbers of both signs. */
 struct any_item {};
 
-template <class As> inline constexpr bool takes_strings = std::is_same_v<As, any_item> || std::is_same_v<As, std::string>;
+/* Returns the bytes of a string. If it has none, they are not at null. */
+inline ds_string bytes_of(std::string_view string)
+{
+    const void *bytes = string.empty() && !string.data() ? ds_no_values() : string.data();
+    return {static_cast<const std::uint8_t *>(bytes), string.size()};
+}
 
-/* Converts an item to one that the C calls of the sketch take: `std::string_view`, `std::uint64_t` or `std::int64_t`. */
+/* Converts an item to one that the C calls of the sketch take: a string or a number. A number below 0 is the same `any_item` as
+ * the `std::uint64_t` of its bits. */
 template <class As, class Item> auto to_item(const Item &item)
 {
-    if constexpr (std::is_same_v<As, std::string>) {
-        static_assert(is_string<const Item &>, "an item of frequent_items<std::string> converts to std::string_view");
-        return std::string_view(item);
-    } else if constexpr (!std::is_same_v<As, any_item>) {
+    if constexpr (std::is_arithmetic_v<As>) {
         static_assert(fits<Item, As>, "an item of frequent_items is of an integer type all whose values the sketch's type has");
         return static_cast<As>(item);
+    } else if constexpr (std::is_same_v<Item, ds_string>) {
+        return item;
     } else if constexpr (is_string<const Item &>) {
-        return std::string_view(item);
+        return bytes_of(item);
     } else {
+        static_assert(std::is_same_v<As, any_item>, "an item of frequent_items<std::string> converts to std::string_view");
         static_assert(is_number<Item>, "an item is a string, or an integer of up to 64 bits and no bool or character");
-        return static_cast<std::conditional_t<std::is_signed_v<Item>, std::int64_t, std::uint64_t>>(item);
+        return static_cast<std::uint64_t>(item);
     }
 }
 
@@ -107,25 +104,27 @@ template <class W, class Weight> W to_weight(const Weight &weight)
     return static_cast<W>(weight);
 }
 
-/* --- The checks of `datasketches_checks.h`, by types. --- */
+/* --- Pointers. --- */
 
 template <class T> bool is_missing(span<T> values) { return !values.data() && values.size() > 0; }
-inline bool is_missing(span<const ds_string> strings) { return ds_have_null(strings.data(), strings.size()); }
 
 template <class T> T *place(span<T> values) { return values.data() ? values.data() : static_cast<T *>(ds_no_values()); }
 
-inline span<const std::uint8_t> bytes_of(std::string_view string)
-{
-    return {reinterpret_cast<const std::uint8_t *>(string.data()), string.size()};
-}
+/* --- C calls on an item. --- */
 
-/* Converts an item to one of an array. The call rejects a string at null that is not empty. */
-inline ds_string to_value(std::string_view string)
-{
-    return {string.empty() ? place(bytes_of(string)) : bytes_of(string).data(), string.size()};
-}
-inline std::uint64_t to_value(std::uint64_t item) { return item; }
-inline std::int64_t to_value(std::int64_t item) { return item; }
+/* The C calls that do the same with a number and with a string. A call that a sketch lacks is `nullptr`. */
+template <class Number, class String> struct item_calls {
+    Number number;
+    String string;
+
+    /* Runs `make` with the call for the item's type, and the arguments that are the item. */
+    template <class Item, class Make> std::int32_t run(Item item, Make make) const { return make(number, item); }
+    template <class Make> std::int32_t run(ds_string item, Make make) const
+    {
+        return item.bytes ? make(string, item.bytes, item.length) : DS_BAD_ARGUMENT;
+    }
+};
+template <class Number, class String> item_calls(Number, String) -> item_calls<Number, String>;
 
 /* --- Ranges. --- */
 
@@ -140,19 +139,21 @@ inline constexpr bool is_contiguous<
     Range, std::void_t<decltype(*std::data(std::declval<Range &>())), decltype(std::size(std::declval<Range &>()))>> = true;
 
 template <class Range> using reference_of = decltype(*std::begin(std::declval<Range &>()));
-template <class Range> using iterator_of = bare<decltype(std::begin(std::declval<Range &>()))>;
+template <class Range>
+using category_of = typename std::iterator_traits<bare<decltype(std::begin(std::declval<Range &>()))>>::iterator_category;
 
 /* Whether a range can be walked twice. */
 template <class Range, class = void> inline constexpr bool is_forward = false;
 template <class Range>
-inline constexpr bool is_forward<Range, std::void_t<typename std::iterator_traits<iterator_of<Range>>::iterator_category>> =
-    std::is_base_of_v<std::forward_iterator_tag, typename std::iterator_traits<iterator_of<Range>>::iterator_category>;
+inline constexpr bool is_forward<Range, std::void_t<category_of<Range>>> =
+    std::is_base_of_v<std::forward_iterator_tag, category_of<Range>>;
 
 /* Whether the strings of a range stay where they are while its iterator goes on. */
 template <class Range>
 inline constexpr bool keeps_strings =
     is_forward<Range> && (std::is_lvalue_reference_v<reference_of<Range>> ||
                           std::is_same_v<bare<reference_of<Range>>, std::string_view> ||
+                          std::is_same_v<bare<reference_of<Range>>, ds_string> ||
                           std::is_pointer_v<bare<reference_of<Range>>>);
 
 /* Returns a contiguous range of another name of the same type. */
@@ -167,121 +168,155 @@ template <class T, class Range> span<T> span_of(Range &&range)
     return span<T>(reinterpret_cast<T *>(std::data(range)), std::size(range));
 }
 
+/* --- Many items. --- */
+
+inline ds_items to_items(span<const std::uint64_t> numbers) { return ds_items_u64(numbers.data(), numbers.size()); }
+inline ds_items to_items(span<const std::int64_t> numbers) { return ds_items_i64(numbers.data(), numbers.size()); }
+inline ds_items to_items(span<const ds_string> strings) { return ds_items_strings(strings.data(), strings.size()); }
+
 /* What `whole` returns for items that are passed in blocks. */
 struct no_whole {};
 
-/* Returns items that are passed whole and where they are, as the range that `range_calls` takes. */
+/* Returns items that are passed whole and where they are. */
 template <class As, class Items> auto whole(Items &items)
 {
-    if constexpr (std::is_same_v<bare<Items>, offset_strings>) {
-        static_assert(takes_strings<As>, "the items are numbers, and no strings");
-        return items;
+    if constexpr (std::is_same_v<bare<Items>, string_items>) {
+        static_assert(!std::is_arithmetic_v<As>, "the items are numbers, and no strings");
+        return items.items;
     } else {
-        static_assert(is_range<Items>, "items are a range of strings or integers, or offset_strings");
+        static_assert(is_range<Items>, "items are a range of strings or integers, or offset_strings, words or lines");
         using element = bare<reference_of<Items>>;
-        if constexpr (std::is_same_v<element, ds_string>) {
-            static_assert(takes_strings<As>, "the items are numbers, and no strings");
-            static_assert(is_contiguous<Items>, "strings as ds_string are contiguous");
-            return span<const ds_string>(std::data(items), std::size(items));
-        } else {
-            using item = decltype(to_item<As>(std::declval<const element &>()));
-            if constexpr (is_contiguous<Items> && is_same_number<element, item>)
-                return span<const item>(reinterpret_cast<const item *>(std::data(items)), std::size(items));
-            else
-                return no_whole();
-        }
+        using item = decltype(to_item<As>(std::declval<const element &>()));
+        constexpr bool is_kept = std::is_same_v<element, ds_string> || (is_number<element> && sizeof(element) == sizeof(item));
+        if constexpr (is_contiguous<Items> && is_kept)
+            return to_items(span_of<const std::conditional_t<std::is_signed_v<element>, std::int64_t, item>>(items));
+        else
+            return no_whole();
     }
 }
 
 template <class As, class Items>
-inline constexpr bool is_whole = !std::is_same_v<decltype(whole<As>(std::declval<Items &>())), no_whole>;
+inline constexpr bool is_whole = std::is_same_v<decltype(whole<As>(std::declval<Items &>())), ds_items>;
 
-/* Returns the number of items. */
+/* Returns the number of items, or 0 for bytes at null, which calls reject. */
+inline std::size_t count_of(const ds_items &items)
+{
+    switch (items.kind) {
+    case DS_ITEMS_U64: return items.num_u64s;
+    case DS_ITEMS_I64: return items.num_i64s;
+    case DS_ITEMS_OFFSETS: return items.num_offsets - (items.num_offsets > 0);
+    case DS_ITEMS_OFFSETS32: return items.num_offsets32 - (items.num_offsets32 > 0);
+    case DS_ITEMS_STRINGS: return items.num_strings;
+    }
+    /* A line begins at each byte at the start or after a separator, and a word at one that is no separator. */
+    bool of_words = items.kind == DS_ITEMS_WORDS, may_begin = true;
+    std::size_t count = 0;
+    for (std::size_t i = 0; items.bytes && i < items.num_bytes; i++) {
+        std::uint8_t byte = items.bytes[i];
+        bool separates = byte == '\n' || (of_words && (byte == ' ' || byte == '\t' || byte == '\f' || byte == '\r'));
+        count += may_begin && !(of_words && separates);
+        may_begin = separates;
+    }
+    return count;
+}
 template <class As, class Items> std::size_t count_of(Items &items)
 {
-    if constexpr (std::is_same_v<bare<Items>, offset_strings>) {
-        return items.offsets().size() > 0 ? items.offsets().size() - 1 : 0;
-    } else if constexpr (is_whole<As, Items>) {
-        return std::size(items);
+    if constexpr (is_whole<As, Items>) {
+        return count_of(whole<As>(items));
     } else {
         static_assert(is_forward<Items>, "items with weights or results are a range that can be walked twice");
         return static_cast<std::size_t>(std::distance(std::begin(items), std::end(items)));
     }
 }
 
-/* Passes items on, whole or converted in blocks, with the index of the first item of each part, up to the first error. Returns it,
- * or the result of the last block. A range without items is a block without items, so that errors of the handle are returned. */
-template <class As, class Items, class Each> std::int32_t in_parts(Items &items, Each each)
+/* Makes a call on items, whole or converted in blocks, with the index of the first item of each part, up to the first error.
+ * Returns it, or the result of the last block. No items are a block of none, so that errors of the handle are returned. */
+template <class As, class Items, class Call> std::int32_t in_parts(Items &items, Call call)
 {
+    auto checked = [&](const ds_items &part, std::size_t first) -> std::int32_t {
+        return ds_items_have_null(&part) ? DS_BAD_ARGUMENT : call(&part, first);
+    };
     if constexpr (is_whole<As, Items>) {
-        return each(whole<As>(items), std::size_t{0});
+        return checked(whole<As>(items), 0);
     } else {
         using item = decltype(to_item<As>(*std::begin(items)));
-        using value = decltype(to_value(std::declval<item>()));
-        constexpr std::size_t most = std::is_same_v<item, std::string_view> && !keeps_strings<Items> ? 1 : block;
-        std::array<value, most> values;
+        constexpr std::size_t most = std::is_same_v<item, ds_string> && !keeps_strings<Items> ? 1 : block;
+        std::array<item, most> part;
         std::size_t count = 0, first = 0;
         auto last = std::end(items);
         for (auto it = std::begin(items); it != last; ++it) {
             auto &&element = *it;
-            values[count++] = to_value(to_item<As>(element));
+            part[count++] = to_item<As>(element);
             if (count < most) continue;
-            if (std::int32_t code = each(span<const value>(values.data(), count), first); code < 0) return code;
+            if (std::int32_t code = checked(to_items(span<const item>(part.data(), count)), first); code < 0) return code;
             first += count;
             count = 0;
         }
-        return count > 0 || first == 0 ? each(span<const value>(values.data(), count), first) : DS_OK;
+        return count > 0 || first == 0 ? checked(to_items(span<const item>(part.data(), count)), first) : DS_OK;
     }
 }
 
-/* --- C calls. --- */
+/* Makes a C call on items. */
+template <class As, class Items, class Call> std::int32_t on_items(Items &items, Call call)
+{
+    return in_parts<As>(items, [&](const ds_items *part, std::size_t) { return call(part); });
+}
 
-/* The C calls that do the same with an item of each type. A call that a sketch lacks is `nullptr`. */
-template <class U64, class I64, class String> struct item_calls {
-    U64 u64;
-    I64 i64;
-    String string;
-
-    /* Runs `make` with the call for the item's type, and the arguments that are the item. */
-    template <class Make> std::int32_t run(std::uint64_t item, Make make) const { return make(u64, item); }
-    template <class Make> std::int32_t run(std::int64_t item, Make make) const { return make(i64, item); }
-    template <class Make> std::int32_t run(std::string_view item, Make make) const
-    {
-        span<const std::uint8_t> bytes = bytes_of(item);
-        if (is_missing(bytes)) return DS_BAD_ARGUMENT;
-        return make(string, place(bytes), bytes.size());
+/* Makes a C call on items with as many weights or results. */
+template <class As, class Items, class Other, class Call> std::int32_t on_items(Items &items, span<Other> others, Call call)
+{
+    if (is_missing(others)) return DS_BAD_ARGUMENT;
+    if constexpr (is_whole<As, Items>) {
+        return on_items<As>(items, [&](const ds_items *all) { return call(all, place(others), others.size()); });
+    } else {
+        if (count_of<As>(items) != others.size()) return DS_NO_ROOM;
+        return in_parts<As>(items, [&](const ds_items *part, std::size_t first) {
+            return call(part, place(others) + first, count_of(*part));
+        });
     }
-};
-template <class U64, class I64, class String> item_calls(U64, I64, String) -> item_calls<U64, I64, String>;
+}
 
-/* The C calls that do the same with many items of each type. A call that a sketch lacks is `nullptr`. */
-template <class U64, class I64, class Offsets, class Pairs> struct range_calls {
-    U64 u64;
-    I64 i64;
-    Offsets offsets;
-    Pairs pairs;
-
-    /* Runs `make` with the call for the items' type, and the arguments that are the items. */
-    template <class Make> std::int32_t run(span<const std::uint64_t> items, Make make) const { return made(u64, items, make); }
-    template <class Make> std::int32_t run(span<const std::int64_t> items, Make make) const { return made(i64, items, make); }
-    template <class Make> std::int32_t run(span<const ds_string> items, Make make) const { return made(pairs, items, make); }
-    template <class Make> std::int32_t run(offset_strings items, Make make) const
-    {
-        span<const std::uint8_t> bytes = bytes_of(items.bytes());
-        if (is_missing(bytes) || is_missing(items.offsets())) return DS_BAD_ARGUMENT;
-        return make(offsets, place(bytes), bytes.size(), place(items.offsets()), items.offsets().size());
+/* Returns the results of a C call on items. */
+template <class As, class T, class Items, class Call> outcome<std::vector<T>> results_of(Items &items, Call call)
+{
+    std::size_t count = count_of<As>(items);
+    if constexpr (std::is_same_v<T, bool>) {
+        std::unique_ptr<bool[]> found(new bool[count]());
+        std::int32_t code = on_items<As>(items, span<bool>(found.get(), count), call);
+        return done(code, std::vector<bool>(found.get(), found.get() + count));
+    } else {
+        std::vector<T> found(count);
+        std::int32_t code = on_items<As>(items, span<T>(found.data(), count), call);
+        return done(code, std::move(found));
     }
-
-private:
-    template <class Call, class T, class Make> static std::int32_t made(Call call, span<const T> items, Make make)
-    {
-        return is_missing(items) ? DS_BAD_ARGUMENT : make(call, place(items), items.size());
-    }
-};
-template <class U64, class I64, class Offsets, class Pairs>
-range_calls(U64, I64, Offsets, Pairs) -> range_calls<U64, I64, Offsets, Pairs>;
+}
 
 } /* namespace detail */
+
+/* Returns the strings of one buffer of bytes: string i is the bytes from offset i up to offset i + 1. The offsets are integers of
+ * 32 or 64 bits, as in Arrow's `utf8` and `large_utf8`: `ds_items_offsets32` and `ds_items_offsets`. */
+template <class Offset>
+string_items offset_strings(std::string_view bytes, const Offset *offsets, std::size_t num_offsets) noexcept
+{
+    static_assert(detail::is_number<Offset> && sizeof(Offset) >= sizeof(std::uint32_t), "offsets are integers of 32 or 64 bits");
+    auto [data, length] = detail::bytes_of(bytes);
+    if constexpr (sizeof(Offset) == sizeof(std::uint32_t))
+        return {ds_items_offsets32(data, length, reinterpret_cast<const std::uint32_t *>(offsets), num_offsets)};
+    else
+        return {ds_items_offsets(data, length, reinterpret_cast<const std::uint64_t *>(offsets), num_offsets)};
+}
+
+/* Return the words or the lines of a string: `ds_items_words` and `ds_items_lines`.
+ *
+ *     heavy.update_all(datasketches::words("to be or not to be")); */
+inline string_items words(std::string_view text) noexcept
+{
+    return {ds_items_words(detail::bytes_of(text).bytes, text.size())};
+}
+inline string_items lines(std::string_view text) noexcept
+{
+    return {ds_items_lines(detail::bytes_of(text).bytes, text.size())};
+}
 
 } /* inline namespace */
 } /* namespace datasketches */

@@ -29,25 +29,38 @@
 namespace datasketches {
 inline namespace DATASKETCHES_FORM {
 
+namespace detail {
+
+/* The number of a result. */
+class result_code {
+public:
+    explicit result_code(std::int32_t code) noexcept : code_(code) {}
+
+    /* Returns DS_OK, or the error's number, below 0, as DS_MISMATCH. */
+    std::int32_t code() const noexcept { return code_; }
+
+    /* Returns the name, as "Mismatch", and the message of the code: see `ds_result_name`. */
+    const char *name() const noexcept { return ds_result_name(code_); }
+    const char *message() const noexcept { return ds_result_message(code_); }
+
+private:
+    std::int32_t code_;
+};
+
+} /* namespace detail */
+
 #ifdef DATASKETCHES_NO_EXCEPTIONS
 
 /* A value, or the error of a call. */
-template <class T> class [[nodiscard]] result {
+template <class T> class [[nodiscard]] result : public detail::result_code {
 public:
-    explicit result(T value) : code_(DS_OK), value_(std::move(value)) {}
+    explicit result(T value) : result_code(DS_OK), value_(std::move(value)) {}
 
     /* An error: a number below 0, as DS_MISMATCH. */
     static result failed(std::int32_t code) { return result(code, std::nullopt); }
 
     /* Returns whether there is a value. */
     bool ok() const noexcept { return value_.has_value(); }
-
-    /* Returns DS_OK, or the error's number. */
-    std::int32_t code() const noexcept { return code_; }
-
-    /* Returns the name, as "Mismatch", and the message of the code: see `ds_result_name`. */
-    const char *name() const noexcept { return ds_result_name(code_); }
-    const char *message() const noexcept { return ds_result_message(code_); }
 
     /* Returns the value. Ends the program by `std::abort` if there is none. */
     T &value() &
@@ -63,26 +76,17 @@ public:
     }
 
 private:
-    result(std::int32_t code, std::nullopt_t none) : code_(code), value_(none) {}
+    result(std::int32_t code, std::nullopt_t none) : result_code(code), value_(none) {}
 
-    std::int32_t code_;
     std::optional<T> value_;
 };
 
 /* The result of a call that returns no value. */
-template <> class [[nodiscard]] result<void> {
+template <> class [[nodiscard]] result<void> : public detail::result_code {
 public:
-    result() = default;
-    static result failed(std::int32_t code)
-    {
-        result made;
-        made.code_ = code;
-        return made;
-    }
-    bool ok() const noexcept { return code_ >= 0; }
-    std::int32_t code() const noexcept { return code_; }
-    const char *name() const noexcept { return ds_result_name(code_); }
-    const char *message() const noexcept { return ds_result_message(code_); }
+    result() noexcept : result_code(DS_OK) {}
+    static result failed(std::int32_t code) { return result(code); }
+    bool ok() const noexcept { return code() >= 0; }
 
     /* Ends the program by `std::abort` if there is an error. */
     void value() const
@@ -91,7 +95,7 @@ public:
     }
 
 private:
-    std::int32_t code_ = DS_OK;
+    explicit result(std::int32_t code) noexcept : result_code(code) {}
 };
 
 template <class T = void> using outcome = result<T>;
@@ -110,22 +114,12 @@ template <class T> outcome<T> done(std::int32_t code, T value)
 #else
 
 /* The error of a call. `what()` is its name and message, as "Mismatch: shapes or seeds differ". */
-class error : public std::runtime_error {
+class error : public std::runtime_error, public detail::result_code {
 public:
     explicit error(std::int32_t code)
-        : std::runtime_error(std::string(ds_result_name(code)) + ": " + ds_result_message(code)), code_(code)
+        : std::runtime_error(std::string(ds_result_name(code)) + ": " + ds_result_message(code)), result_code(code)
     {
     }
-
-    /* Returns the number, below 0, as DS_MISMATCH. */
-    std::int32_t code() const noexcept { return code_; }
-
-    /* Returns the name, as "Mismatch", and the message: see `ds_result_name`. */
-    const char *name() const noexcept { return ds_result_name(code_); }
-    const char *message() const noexcept { return ds_result_message(code_); }
-
-private:
-    std::int32_t code_;
 };
 
 template <class T = void> using outcome = T;
@@ -153,10 +147,10 @@ namespace detail {
 inline outcome<bool> yes(std::int32_t code) { return done(code, code == DS_YES); }
 
 /* Returns the value that a call writes to its last argument. */
-template <class T, class Call, class... Words> outcome<T> written(Call call, Words... words)
+template <class T, class Call, class... Parts> outcome<T> written(Call call, Parts... parts)
 {
     T value = {};
-    std::int32_t code = call(words..., &value);
+    std::int32_t code = call(parts..., &value);
     return done(code, std::move(value));
 }
 

@@ -4,9 +4,8 @@
 
 #include "items.hpp"
 
-#include <memory>
+#include <initializer_list>
 #include <optional>
-#include <vector>
 
 namespace datasketches {
 inline namespace DATASKETCHES_FORM {
@@ -57,10 +56,10 @@ template <class Image>
 inline constexpr bool stays = is_contiguous<const bare<Image>> && (std::is_lvalue_reference_v<Image> || is_span<bare<Image>>);
 
 /* Returns the sketch that a call writes to its first argument. */
-template <class Sketch, class Call, class... Words> outcome<Sketch> made(Call call, Words... words)
+template <class Sketch, class Call, class... Parts> outcome<Sketch> made(Call call, Parts... parts)
 {
     Sketch sketch;
-    std::int32_t code = call(sketch.get(), words...);
+    std::int32_t code = call(sketch.get(), parts...);
     return done(code, std::move(sketch));
 }
 
@@ -176,61 +175,83 @@ protected:
         return calls.run(to_item<As>(item), [&](auto call, auto... parts) { return call(&handle_, parts..., more...); });
     }
 
-    /* Makes the calls on a range of items, whole or in blocks. */
-    template <class Calls, class Items> std::int32_t on_items(const Calls &calls, Items &items)
+    /* Makes the call on items, alone or with as many weights or results. */
+    template <class Call, class Items, class... Other> std::int32_t on_items(Call call, Items &items, span<Other>... others)
     {
-        return in_parts<As>(items, [&](auto part, std::size_t) {
-            return calls.run(part, [&](auto call, auto... parts) { return call(&handle_, parts...); });
-        });
+        return detail::on_items<As>(items, others..., [&](auto... parts) { return call(&handle_, parts...); });
     }
 
-    /* Makes the calls on a range of items with as many weights or results. */
-    template <class Calls, class Items, class Other>
-    std::int32_t on_items(const Calls &calls, Items &items, span<Other> others)
+    /* Returns the results of the call on items. */
+    template <class T, class Call, class Items> outcome<std::vector<T>> results_of(Call call, Items &items)
     {
-        constexpr bool at_once = is_whole<As, Items>;
-        if (!at_once && count_of<As>(items) != others.size()) return DS_NO_ROOM;
-        if (is_missing(others)) return DS_BAD_ARGUMENT;
-        return in_parts<As>(items, [&](auto part, std::size_t first) {
-            span<Other> some = others;
-            if constexpr (!at_once) some = span<Other>(others.data() + first, part.size());
-            return calls.run(part, [&](auto call, auto... parts) { return call(&handle_, parts..., place(some), some.size()); });
-        });
-    }
-
-    /* Returns the results of the items of a range. */
-    template <class T, class Calls, class Items> outcome<std::vector<T>> results_of(const Calls &calls, Items &items)
-    {
-        std::size_t count = count_of<As>(items);
-        if constexpr (std::is_same_v<T, bool>) {
-            std::unique_ptr<bool[]> found(new bool[count]());
-            std::int32_t code = on_items(calls, items, span<bool>(found.get(), count));
-            return done(code, std::vector<bool>(found.get(), found.get() + count));
-        } else {
-            std::vector<T> found(count);
-            std::int32_t code = on_items(calls, items, span<T>(found.data(), count));
-            return done(code, std::move(found));
-        }
-    }
-
-    /* Makes the call on a string of words or lines. */
-    template <class Call> std::int32_t on_text(Call call, std::string_view text)
-    {
-        return ds_check_bytes(call, &handle_, bytes_of(text).data(), text.size());
+        return detail::results_of<As, T>(items, [&](auto... parts) { return call(&handle_, parts...); });
     }
 
     ds_sketch handle_ = DS_NONE;
 };
 
+/* What Count-Min sketches and frequent items have too: items with weights in `W`. */
+template <class Sketch, class As, class W, class Calls> class weighted : public owner<Sketch, As> {
+public:
+    /* Adds 1, or a weight, to the item's: `.._update_u64` and `.._update_string` of Count-Min sketches, and `.._update` of frequent
+     * items. */
+    template <class Item> outcome<> update(const Item &item) { return update(item, W{1}); }
+    template <class Item, class Weight> outcome<> update(const Item &item, const Weight &weight)
+    {
+        return done(this->on_item(Calls::update, item, to_weight<W>(weight)));
+    }
+
+    /* Adds 1 to the weight of each item: `ds_update_all`. If an item's own update returns an error, the items before it are
+     * added. */
+    template <class Items> outcome<> update_all(Items &&items) { return done(this->on_items(ds_update_all, items)); }
+    template <class Item> outcome<> update_all(std::initializer_list<Item> items)
+    {
+        return done(this->on_items(ds_update_all, items));
+    }
+
+    /* Adds to each item's weight one of a contiguous range of as many weights in `W`: `ds_update_all_weighted` and
+     * `ds_count_min_i64_update_all_weighted`. If the total has no room for all weights of items that are passed whole, or of a
+     * block, none of them is added. If memory runs out at an item, the items before it are added. */
+    template <class Items, class Weights> outcome<> update_all(Items &&items, const Weights &weights)
+    {
+        auto plain = span_of<const W>(weights);
+        if constexpr (std::is_signed_v<W>)
+            return done(this->on_items(ds_count_min_i64_update_all_weighted, items, plain));
+        else
+            return done(this->on_items(ds_update_all_weighted, items, plain));
+    }
+};
+
 /* What filters and Count-Min sketches have too. */
-template <class Sketch> class comparable : public owner<Sketch, any_item> {
+template <class Sketch> class comparable {
 public:
     /* Returns whether both sketches are equal: `ds_equal`. The sketch itself as the other is DS_BAD_ARGUMENT. */
-    outcome<bool> equal(Sketch &other) { return yes(ds_check_two_handles(ds_equal, this->get(), other.get())); }
+    outcome<bool> equal(Sketch &other)
+    {
+        return yes(ds_check_two_handles(ds_equal, static_cast<Sketch *>(this)->get(), other.get()));
+    }
 #ifndef DATASKETCHES_NO_EXCEPTIONS
     friend bool operator==(Sketch &a, Sketch &b) { return a.equal(b); }
     friend bool operator!=(Sketch &a, Sketch &b) { return !a.equal(b); }
 #endif
+};
+
+/* The bytes of an image that is queried in place. */
+class image_in_place {
+public:
+    constexpr span<const std::uint8_t> bytes() const noexcept { return image_; }
+
+protected:
+    constexpr explicit image_in_place(span<const std::uint8_t> image) noexcept : image_(image) {}
+
+    /* Makes a C call on the image. */
+    template <class Call, class... Parts> std::int32_t on_image(Call call, Parts... parts) const
+    {
+        return is_missing(image_) ? DS_BAD_ARGUMENT : call(place(image_), image_.size(), parts...);
+    }
+
+private:
+    span<const std::uint8_t> image_;
 };
 
 } /* namespace detail */

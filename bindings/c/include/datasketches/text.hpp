@@ -1,4 +1,4 @@
-/* Hashes of bytes under a key, and the parts of a text. See `datasketches.hpp`. */
+/* Hashes of bytes under a key, and chunks of a text. See `datasketches.hpp`. */
 #ifndef DATASKETCHES_TEXT_HPP
 #define DATASKETCHES_TEXT_HPP
 
@@ -10,22 +10,22 @@ inline namespace DATASKETCHES_FORM {
 /* Returns the hash to insert in place of an item that others choose: `ds_keyed_hash`. */
 inline std::uint64_t keyed_hash(std::string_view bytes, key words) noexcept
 {
-    return ds_check_hash(ds_keyed_hash, detail::bytes_of(bytes).data(), bytes.size(), words.k0, words.k1);
+    return ds_check_hash(ds_keyed_hash, detail::bytes_of(bytes).bytes, bytes.size(), words.k0, words.k1);
 }
 
 /* Returns the number of bytes through the last byte of white space, through the last LF, and before the first that is not UTF-8:
  * `ds_finished_words`, `ds_finished_lines` and `ds_valid_utf8`. */
 inline std::size_t finished_words(std::string_view text) noexcept
 {
-    return ds_check_text(ds_finished_words, detail::bytes_of(text).data(), text.size());
+    return ds_check_text(ds_finished_words, detail::bytes_of(text).bytes, text.size());
 }
 inline std::size_t finished_lines(std::string_view text) noexcept
 {
-    return ds_check_text(ds_finished_lines, detail::bytes_of(text).data(), text.size());
+    return ds_check_text(ds_finished_lines, detail::bytes_of(text).bytes, text.size());
 }
 inline std::size_t valid_utf8(std::string_view text) noexcept
 {
-    return ds_check_text(ds_valid_utf8, detail::bytes_of(text).data(), text.size());
+    return ds_check_text(ds_valid_utf8, detail::bytes_of(text).bytes, text.size());
 }
 
 } /* inline namespace */

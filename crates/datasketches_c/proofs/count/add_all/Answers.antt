@@ -1,9 +1,14 @@
+use Rattle.std.proofs.Common.{refl}
 use Rattle.std.proofs.lemmas.Bool.{false≢true}
 use Rattle.datasketches_c.proofs.Refusals.{refused_for}
 use Rattle.datasketches_c.proofs.count.add_all.Goals as goal
 
-pub returns-in-Ok-clause-counted : goal.returns-in-Ok-clause-counted
-returns-in-Ok-clause-counted g c = record { counted = c.in-Ok.ensures.counted; stands = c.in-Ok.ensures.stands }
+pub returns-in-Ok : goal.returns-in-Ok
+returns-in-Ok g c = record {
+  counted = record { counted = c.in-Ok.ensures.counted; stands = c.in-Ok.ensures.stands };
+  done = λ _. refl;
+  overflow = λ over. let refused = c.in-Ok.ensures.overflow over in cc;
+}
 
 pub returns-in-Err : goal.returns-in-Err
 returns-in-Err g c = record {

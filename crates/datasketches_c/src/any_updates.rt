@@ -1,0 +1,202 @@
+//! Calls for many items on sketches of any kind that takes them: add weights, and read bounds of frequent items.
+ghost use Rattle.std.specs.Prelude.{◌≡◌, ◌≢◌, length};
+ghost use Rattle.datasketches_c.specs.AnyUpdates.{BoundsAny, BoundsWith, UpdatesAny, UpdatesWith, WeighsAny, WeighsWith};
+ghost use Rattle.datasketches_c.specs.ManyItems.{OnItems, OnPlaces, many, num_items};
+ghost use Rattle.datasketches_c.specs.Numbers.{OnRefused, no_room};
+ghost use Rattle.datasketches_c.specs.Sharing.{unshared};
+
+use crate::any_sketch::{AnySketch, Held};
+use crate::count_items::{add_given, add_given_weighted};
+use crate::frequent_batches::{
+    add_i64s, add_i64s_weighted, add_strings, add_strings_weighted, add_u64s, add_u64s_weighted,
+    bounds_of_i64s, bounds_of_strings, bounds_of_u64s,
+};
+use crate::handle::SketchHandle;
+use crate::items_argument::{GivenItems, ItemsArgument, has_count, on_given};
+use crate::status_code::{NO_ROOM, NO_SKETCH, WRONG_KIND};
+use sketch_frequencies::ItemBounds;
+use std::alloc::Global;
+
+/// Adds 1 to the weight of each given item in a sketch, in order. Returns the result's number.
+fn update_with(sketch: &mut AnySketch, items: GivenItems<'_>) -> i32
+    ensures { UpdatesWith sketch.old sketch.new (many items.entry) result }
+{
+    match sketch {
+        AnySketch::FrequentStrings(Held::Own(sketch)) => add_strings(sketch, items),
+        AnySketch::FrequentI64(Held::Own(sketch)) => add_i64s(sketch, items),
+        AnySketch::FrequentU64(Held::Own(sketch)) => add_u64s(sketch, items),
+        AnySketch::CountI64(Held::Own(sketch)) => add_given(sketch, items),
+        AnySketch::CountU64(Held::Own(sketch)) => add_given(sketch, items),
+        _ => WRONG_KIND,
+    }
+}
+
+/// Adds 1 to the weight of each given item, in order.
+fn update_given(alloc: Global, handle: &mut SketchHandle, items: GivenItems<'_>) -> i32
+    ensures { UpdatesAny handle.old.value handle.new.value (many items.entry) result }
+{
+    let Some(mut sketch) = handle.take(alloc) else {
+        return NO_SKETCH;
+    };
+    let answer = update_with(&mut *sketch, items);
+    handle.give(sketch);
+    answer
+}
+
+/// Adds 1 to the weight of each item, in order. The sketch is a Count-Min sketch or one of frequent items, which takes items of its
+/// own type alone.
+///
+/// Returns the first of these errors, and then changes nothing:
+///
+/// - `BAD_ARGUMENT` if the kind of the items is not known.
+/// - `BadOffsets` if there is no offset, an offset is below the one before it, or an offset exceeds the number of bytes.
+/// - `InvalidUtf8` if a string is not UTF-8.
+/// - `NO_SKETCH` if the handle has no sketch, and `WRONG_KIND` if its sketch is a filter, shared, or one of frequent items of another
+///   type.
+///
+/// Returns the error of the first item whose own update returns one. Then the items before it are added, and no others. The error is
+/// `WeightOverflow` if the total would exceed 2^64 - 1, or 2^63 - 1 for weights in `i64`. It is `NoMemory` if an allocation fails,
+/// which only a sketch of frequent items makes.
+#[unsafe(no_mangle)]
+pub extern "C" fn ds_update_all(
+    alloc: Global,
+    handle: &mut SketchHandle,
+    items: &ItemsArgument<'_>,
+) -> i32
+    ensures { OnItems items.now result (handle.new.value ≡ handle.old.value) (λ given.
+        UpdatesAny handle.old.value handle.new.value given result) }
+{
+    on_given!(items, given => update_given(alloc, handle, given))
+}
+
+/// Adds a weight to each given item's in a sketch, in order. Returns the result's number.
+fn update_weighted_with(sketch: &mut AnySketch, items: GivenItems<'_>, weights: &[u64]) -> i32
+    requires { length weights.now ≡ num_items (many items) }
+    ensures { WeighsWith sketch.old sketch.new (many items.entry) weights.now result }
+{
+    match sketch {
+        AnySketch::FrequentStrings(Held::Own(sketch)) => add_strings_weighted(
+            sketch, items, weights,
+        ),
+        AnySketch::FrequentI64(Held::Own(sketch)) => add_i64s_weighted(sketch, items, weights),
+        AnySketch::FrequentU64(Held::Own(sketch)) => add_u64s_weighted(sketch, items, weights),
+        AnySketch::CountU64(Held::Own(sketch)) => add_given_weighted(sketch, items, weights),
+        _ => WRONG_KIND,
+    }
+}
+
+/// Adds a weight to each given item's, in order.
+fn update_weighted_given(
+    alloc: Global,
+    handle: &mut SketchHandle,
+    items: GivenItems<'_>,
+    weights: &[u64],
+) -> i32
+    ensures no_room { length weights.now ≢ num_items (many items.entry)
+        → (result ≡ no_room) × (handle.new.value ≡ handle.old.value) }
+    ensures call { length weights.now ≡ num_items (many items.entry)
+        → WeighsAny handle.old.value handle.new.value (many items.entry) weights.now result }
+{
+    if !has_count(&items, weights.len()) {
+        return NO_ROOM;
+    }
+    let Some(mut sketch) = handle.take(alloc) else {
+        return NO_SKETCH;
+    };
+    let answer = update_weighted_with(&mut *sketch, items, weights);
+    handle.give(sketch);
+    answer
+}
+
+/// Adds a weight to each item's, in order. The sketch is a Count-Min sketch with weights in `u64` or one of frequent items, which
+/// takes items of its own type alone. A weight of 0 changes nothing in a sketch of frequent items.
+///
+/// Returns the first of these errors, and then changes nothing:
+///
+/// - `BAD_ARGUMENT` if the kind of the items is not known.
+/// - `BadOffsets` if there is no offset, an offset is below the one before it, or an offset exceeds the number of bytes.
+/// - `InvalidUtf8` if a string is not UTF-8.
+/// - `NO_ROOM` if the number of items is not the length of `weights`.
+/// - `NO_SKETCH` if the handle has no sketch, and `WRONG_KIND` if its sketch is of another kind, shared, or one of frequent items of
+///   another type.
+/// - `WeightOverflow` if the total would exceed 2^64 - 1 with all weights.
+///
+/// Returns `NoMemory` for the first item for which an allocation fails. Then the items before it are added, and no others. Only a
+/// sketch of frequent items allocates: for a string that is not tracked, and for its table.
+#[unsafe(no_mangle)]
+pub extern "C" fn ds_update_all_weighted(
+    alloc: Global,
+    handle: &mut SketchHandle,
+    items: &ItemsArgument<'_>,
+    weights: &[u64],
+) -> i32
+    ensures { OnItems items.now result (handle.new.value ≡ handle.old.value) (λ given.
+        OnPlaces (length weights.now) given result (handle.new.value ≡ handle.old.value)
+        (WeighsAny handle.old.value handle.new.value given weights.now result)) }
+{
+    on_given!(items, given => update_weighted_given(alloc, handle, given, weights))
+}
+
+/// Writes a sketch's bounds and estimate of each given item's weight. Returns the result's number.
+fn bounds_with(sketch: &AnySketch, items: GivenItems<'_>, bounds: &mut [ItemBounds]) -> i32
+    requires { length bounds.old ≡ num_items (many items) }
+    ensures bounds { BoundsWith (unshared sketch.now) (many items.entry) bounds.old bounds.new result }
+    ensures untouched { OnRefused result (bounds.new ≡ bounds.old) }
+{
+    match sketch {
+        AnySketch::FrequentStrings(held) => bounds_of_strings(held.get(), items, bounds),
+        AnySketch::FrequentI64(held) => bounds_of_i64s(held.get(), items, bounds),
+        AnySketch::FrequentU64(held) => bounds_of_u64s(held.get(), items, bounds),
+        _ => WRONG_KIND,
+    }
+}
+
+/// Writes the bounds and the estimate of each given item's weight.
+fn bounds_given(
+    alloc: Global,
+    handle: &mut SketchHandle,
+    items: GivenItems<'_>,
+    bounds: &mut [ItemBounds],
+) -> i32
+    ensures kept { handle.new.value ≡ handle.old.value }
+    ensures no_room { length bounds.old ≢ num_items (many items.entry) → (result ≡ no_room) × (bounds.new ≡ bounds.old) }
+    ensures bounds { length bounds.old ≡ num_items (many items.entry)
+        → BoundsAny handle.old.value (many items.entry) bounds.old bounds.new result }
+    ensures untouched { OnRefused result (bounds.new ≡ bounds.old) }
+{
+    if !has_count(&items, bounds.len()) {
+        return NO_ROOM;
+    }
+    let Some(sketch) = handle.take(alloc) else {
+        return NO_SKETCH;
+    };
+    let answer = bounds_with(&sketch, items, bounds);
+    handle.give(sketch);
+    answer
+}
+
+/// Writes the bounds and the estimate of each item's weight in a sketch of frequent items, which takes items of its own type alone.
+/// Does not allocate.
+///
+/// Returns the first of these errors, and then changes nothing:
+///
+/// - `BAD_ARGUMENT` if the kind of the items is not known.
+/// - `BadOffsets` if there is no offset, an offset is below the one before it, or an offset exceeds the number of bytes.
+/// - `InvalidUtf8` if a string is not UTF-8.
+/// - `NO_ROOM` if the number of items is not the length of `bounds`.
+/// - `NO_SKETCH` if the handle has no sketch, and `WRONG_KIND` if its sketch is not one of frequent items of this type.
+#[unsafe(no_mangle)]
+pub extern "C" fn ds_frequent_items_bounds_all(
+    alloc: Global,
+    handle: &mut SketchHandle,
+    items: &ItemsArgument<'_>,
+    bounds: &mut [ItemBounds],
+) -> i32
+    ensures kept { handle.new.value ≡ handle.old.value }
+    ensures bounds { OnItems items.now result (bounds.new ≡ bounds.old) (λ given.
+        OnPlaces (length bounds.old) given result (bounds.new ≡ bounds.old)
+        (BoundsAny handle.old.value given bounds.old bounds.new result)) }
+    ensures untouched { OnRefused result (bounds.new ≡ bounds.old) }
+{
+    on_given!(items, given => bounds_given(alloc, handle, given, bounds))
+}
