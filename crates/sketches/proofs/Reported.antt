@@ -1,0 +1,239 @@
+-- What a report of a sketch shows of the items that were added to it.
+use Rattle.std.proofs.Common.{◌≡◌, ◌⊎◌, inl, inr, ⊎_elim, ℕ, zero, suc, ◌+◌, ◌*◌, ◌/◌, ◌<◌, ◌≤◌, ◌||◌, max, min, Bool, true, false, cond, List, [], ◌∷◌, length, map, take, get_or, Option, None, Some, refl, sym, ◌∙◌, ap, subst, arith}
+use Rattle.std.proofs.lemmas.Bool.{cases_lt, ltb-true}
+use Rattle.std.proofs.lemmas.List.{get_or-take, get_or_default, length-take, length-map}
+use Rattle.std.proofs.lemmas.List.Sums.{sum_by-cons}
+use Rattle.std.proofs.lemmas.List.Elements.{All-take}
+use Rattle.std.proofs.lemmas.List.Folds.{Any-from_list_any, list_any_at}
+use Rattle.std.specs.Cmp.Lexicographic.{bytes_decides}
+use Rattle.std.specs.Global.{Global}
+use Rattle.std.specs.Io.KnownBytes.{Appends}
+use Rattle.std.specs.List.{All, AllByRecursion, AllPairs, IsDistinct, flat_map, list_any}
+use Rattle.std.specs.Str.{bytes_eq}
+use Rattle.std.specs.String.{string_bytes, string_eq}
+use Rattle.std.specs.declared.string.String.{String}
+use Rattle.counter_table.specs.Tables.{count_of}
+use Rattle.sketch_frequencies.specs.Batches.{all_updated}
+use Rattle.sketch_frequencies.specs.History.{FrequentHistory, true_weight, total_weight, min_sample, min_size, budget_size}
+use Rattle.sketch_frequencies.specs.History.FrequentHistory.{New, Update}
+use Rattle.sketch_frequencies.specs.Rows.{Descends, MissesNone, Shows, ShowsExactly}
+use Rattle.sketch_frequencies.specs.Stands.{Encloses as Represents, KeepsTailBudget, StandsFor}
+use Rattle.sketch_frequencies.specs.State.{capacity, max_sample_size}
+use Rattle.sketch_frequencies.specs.SuggestedSizes.{usual_budget}
+use Rattle.sketch_frequencies.specs.declared.error_type.ErrorType.TheVariants.{NoFalseNegatives}
+use Rattle.sketch_frequencies.proofs.SuggestedSizes.{error_by_budget}
+use Rattle.sketches.specs.Added.{Sketch, AddsStrings}
+use Rattle.sketches.specs.Inputs.{CountsInputs}
+use Rattle.sketches.specs.Items.{items_of}
+use Rattle.sketches.specs.Reports.{Row, Encloses, HasAll, IsListed, Reports, ShowsTop, WritesReport, occurrences, report_text}
+use Rattle.sketches.specs.declared.top.Options.{Options}
+
+-- ---- weights are occurrences
+
+one_more : (items : List (List ℕ)) (first item : List ℕ) → occurrences (first ∷ items) item ≡ cond (bytes_eq first item) 1 0 + occurrences items item
+one_more items first item = sum_by-cons (λ (other : List ℕ). cond (bytes_eq other item) 1 0) first items
+
+weight_of : (h : FrequentHistory (String Global)) (items : List (String Global)) (x : String Global) → true_weight string_eq (all_updated h items) x ≡ true_weight string_eq h x + occurrences (map string_bytes items) (string_bytes x)
+weight_of h [] x = omega arith
+weight_of h (y ∷ ys) x = omega (arith, weight_of (Update h y 1) ys x, one_more (map string_bytes ys) (string_bytes y) (string_bytes x))
+
+total_of : (h : FrequentHistory (String Global)) (items : List (String Global)) → total_weight (all_updated h items) ≡ total_weight h + length items
+total_of h [] = omega arith
+total_of h (y ∷ ys) = omega (arith, total_of (Update h y 1) ys)
+
+sample_of : (h : FrequentHistory (String Global)) (items : List (String Global)) → min_sample (all_updated h items) ≡ min_sample h
+sample_of h [] = refl
+sample_of h (y ∷ ys) = sample_of (Update h y 1) ys
+
+size_of : (h : FrequentHistory (String Global)) (items : List (String Global)) → min_size (all_updated h items) ≡ min_size h
+size_of h [] = refl
+size_of h (y ∷ ys) = size_of (Update h y 1) ys
+
+abbrev hit : Bool → ℕ
+hit b = cond b 1 0
+
+occurring_first : (y : String Global) (item : List ℕ) (b : Bool) → bytes_eq (string_bytes y) item ≡ b → (hit (bytes_eq (string_bytes y) item) ≡ 0 → (x : String Global) × (string_bytes x ≡ item)) → (x : String Global) × (string_bytes x ≡ item)
+occurring_first y item true e later = (y, (bytes_decides (string_bytes y) item).0 e)
+occurring_first y item false e later = later (ap hit e)
+
+-- an item that occurs is that of a string
+occurring : (items : List (String Global)) (item : List ℕ) → 0 < occurrences (map string_bytes items) item → (x : String Global) × (string_bytes x ≡ item)
+occurring [] item some = absurd (let none : 0 < 0 = some in omega (arith, none))
+occurring (y ∷ ys) item some = occurring_first y item (bytes_eq (string_bytes y) item) refl (λ none. occurring ys item (omega (arith, some, none, one_more (map string_bytes ys) (string_bytes y) item)))
+
+-- ---- few items
+
+record HasStrings (items : List (String Global)) (list : List (List ℕ)) : Type 0 where
+  strings : List (String Global)
+  few : length strings ≤ length list
+  cover : (x : String Global) → 0 < occurrences (map string_bytes items) (string_bytes x) → list_any (bytes_eq (string_bytes x)) list ≡ true → list_any (string_eq x) strings ≡ true
+
+either_more : (t u v : Bool) → (u ≡ true → v ≡ true) → (t || u) ≡ true → (t || v) ≡ true
+either_more true u v f e = refl
+either_more false u v f e = f e
+
+second : (t u : Bool) → (t ≡ true → ⊥) → (t || u) ≡ true → u ≡ true
+second true u none e = absurd (none refl)
+second false u none e = e
+
+-- the items of a list that occur, as strings
+strings_among : (items : List (String Global)) (list : List (List ℕ)) → HasStrings items list
+strings_among items [] = record { strings = []; few = omega arith; cover = λ x some any. any }
+strings_among items (first ∷ list) =
+    let r = strings_among items list in
+    ⊎_elim
+    (λ some.
+    let (x, is) = occurring items first some in
+    record {
+      strings = x ∷ r.strings;
+      few = omega (arith, r.few);
+      cover = λ y here any.
+          subst (λ (l : List ℕ). (bytes_eq (string_bytes y) l || list_any (string_eq y) r.strings) ≡ true) (sym is)
+          (either_more (bytes_eq (string_bytes y) first) (list_any (bytes_eq (string_bytes y)) list) (list_any (string_eq y) r.strings) (r.cover y here) any);
+    })
+    (λ none. record {
+      strings = r.strings;
+      few = omega (arith, r.few);
+      cover = λ y here any.
+          r.cover y here
+          (second (bytes_eq (string_bytes y) first) (list_any (bytes_eq (string_bytes y)) list)
+          (λ t. omega (arith, here, none, ap (occurrences (map string_bytes items)) ((bytes_decides (string_bytes y) first).0 t))) any);
+    })
+    (cases_lt 0 (occurrences (map string_bytes items) first))
+
+-- ---- the first rows
+
+distinct_from : (n : ℕ) (first : Row) (rows : List Row) → AllByRecursion (λ (y : String Global). string_eq first.item y ≡ false) (map (λ (row : Row). row.item) rows) → AllByRecursion (λ (y : String Global). string_eq first.item y ≡ false) (map (λ (row : Row). row.item) (take n rows))
+distinct_from zero first rows a = tt
+distinct_from (suc n) first [] a = tt
+distinct_from (suc n) first (row ∷ rows) a = (a.0, distinct_from n first rows a.1)
+
+distinct_of_first : (n : ℕ) (rows : List Row) → IsDistinct string_eq (map (λ (row : Row). row.item) rows) → IsDistinct string_eq (map (λ (row : Row). row.item) (take n rows))
+unfolding IsDistinct
+distinct_of_first zero rows d = tt
+distinct_of_first (suc n) [] d = tt
+distinct_of_first (suc n) (row ∷ rows) d = (distinct_from n row rows d.0, distinct_of_first n rows d.1)
+
+-- ---- a report
+
+module _ (items : List (String Global)) (m : ℕ) (s : Sketch) (so : Represents string_eq s (all_updated (New m (max_sample_size m)) items)) where
+  weight : (x : String Global) → true_weight string_eq (all_updated (New m (max_sample_size m)) items) x ≡ occurrences (map string_bytes items) (string_bytes x)
+  weight x = let e = weight_of (New m (max_sample_size m)) items x in omega (arith, e)
+
+  pub total_is : s.total ≡ length (map string_bytes items)
+  total_is = omega (arith, so.total, total_of (New m (max_sample_size m)) items, length-map items string_bytes)
+
+  row_encloses : (row : Row) → Shows string_eq NoFalseNegatives 0 s row → Encloses (map string_bytes items) row
+  row_encloses row shows = (
+    omega (arith, shows.lower_bound, so.at_least row.item, weight row.item),
+    omega (arith, shows.upper_bound, so.at_most row.item, weight row.item),
+  )
+
+  upper_is_estimate : (row : Row) → Shows string_eq NoFalseNegatives 0 s row → row.estimate ≡ row.upper_bound
+  upper_is_estimate row shows = shows.estimate ∙ (ap (λ (b : Bool). cond b (count_of string_eq s.counters row.item + s.error) 0) shows.tracked ∙ sym shows.upper_bound)
+
+  descending : (n : ℕ) (rows : List Row) → ShowsExactly string_eq NoFalseNegatives 0 s rows → Descends rows → AllPairs (λ (earlier later : Row). later.upper_bound ≤ earlier.upper_bound) (take n rows)
+  descending n rows exact d i j none less within =
+      let len : length (take n rows) ≡ min n (length rows) = length-take n rows in
+      let a : get_or (take n rows) i none ≡ get_or rows i none = get_or-take n rows i none (omega (arith, len)) in
+      let b : get_or (take n rows) j none ≡ get_or rows j none = get_or-take n rows j none (omega (arith, len)) in
+      let order : (get_or rows j none).estimate ≤ (get_or rows i none).estimate = d i j none less (omega (arith, len)) in
+      let earlier = upper_is_estimate (get_or rows i none) (exact.shown i none (omega (arith, len))) in
+      let later = upper_is_estimate (get_or rows j none) (exact.shown j none (omega (arith, len))) in
+      rw (a, b) (omega (arith, order, earlier, later))
+
+  row_occurs : (row : Row) → Shows string_eq NoFalseNegatives 0 s row → 0 < row.lower_bound
+  row_occurs row shows = omega (arith, ltb-true _ _ shows.passing, shows.lower_bound)
+
+  lighter : (x : String Global) (row row' above above' : Row) → row' ≡ row → above' ≡ above → string_bytes x ≡ string_bytes row.item → row'.estimate ≤ above.estimate → Shows string_eq NoFalseNegatives 0 s row → Shows string_eq NoFalseNegatives 0 s above
+      → occurrences (map string_bytes items) (string_bytes x) ≤ above'.upper_bound
+  lighter x row row' above above' e f bytes order shown shown_above =
+      let a : row'.estimate ≡ row.estimate = ap (λ (r : Row). r.estimate) e in
+      let b : above'.upper_bound ≡ above.upper_bound = ap (λ (r : Row). r.upper_bound) f in
+      let c : occurrences (map string_bytes items) (string_bytes x) ≡ occurrences (map string_bytes items) (string_bytes row.item) = ap (occurrences (map string_bytes items)) bytes in
+      omega (arith, order, a, b, c, (row_encloses row shown).1, upper_is_estimate row shown, upper_is_estimate above shown_above)
+
+  listed_or_lighter : (top n : ℕ) (rows : List Row) → n ≡ min top (length rows) → ShowsExactly string_eq NoFalseNegatives 0 s rows → Descends rows → (x : String Global) → list_any (λ (row : Row). string_eq x row.item) rows ≡ true
+      → IsListed (take n rows) (string_bytes x) ⊎ ((length (take n rows) ≡ top) × All (λ (row : Row). occurrences (map string_bytes items) (string_bytes x) ≤ row.upper_bound) (take n rows))
+  listed_or_lighter top n rows is exact descends x any =
+      let (k, row, less, here, same) = Any-from_list_any (λ (row : Row). string_eq x row.item) rows any in
+      let len : length (take n rows) ≡ min n (length rows) = length-take n rows in
+      ⊎_elim
+      (λ before. inl (list_any_at (λ (row : Row). string_eq x row.item) (take n rows) k row (omega (arith, len))
+      (ap (λ (r : Row). string_eq x r.item) (get_or-take n rows k row before ∙ here) ∙ same)))
+      (λ after. inr (
+        omega (arith, len, is),
+        λ j none within.
+            let at : get_or (take n rows) j none ≡ get_or rows j none = get_or-take n rows j none (omega (arith, len)) in
+            let whole : get_or rows j none ≡ get_or rows j row = get_or_default rows j none row (omega (arith, len)) in
+            let shown_row : Shows string_eq NoFalseNegatives 0 s row = subst (Shows string_eq NoFalseNegatives 0 s) here (exact.shown k row less) in
+            let shown_at : Shows string_eq NoFalseNegatives 0 s (get_or rows j row) = exact.shown j row (omega (arith, len)) in
+            let order : (get_or rows k row).estimate ≤ (get_or rows j row).estimate = descends j k row (omega (arith, len)) less in
+            let bytes : string_bytes x ≡ string_bytes row.item = (bytes_decides (string_bytes x) (string_bytes row.item)).0 same in
+            lighter x row (get_or rows k row) (get_or rows j row) (get_or (take n rows) j none) here (at ∙ whole) bytes order shown_row shown_at,
+      ))
+      (cases_lt k n)
+
+  error_share : KeepsTailBudget string_eq s (all_updated (New m (max_sample_size m)) items) → usual_budget m * s.error ≤ length (map string_bytes items)
+  error_share keeps =
+      let few : usual_budget m ≤ budget_size (all_updated (New m (max_sample_size m)) items) = omega (arith, ap (λ (n : ℕ). n / 2) (sample_of (New m (max_sample_size m)) items)) in
+      let bound : usual_budget m * s.error ≤ total_weight (all_updated (New m (max_sample_size m)) items) = error_by_budget string_eq s (all_updated (New m (max_sample_size m)) items) (usual_budget m) so keeps few in
+      omega (arith, bound, so.total, total_is)
+
+  error_exact : (distinct : List (List ℕ)) → length distinct ≤ capacity m → HasAll distinct (map string_bytes items) → s.error ≡ 0
+  error_exact distinct fit all =
+      let r = strings_among items distinct in
+      so.exact (record {
+        items = r.strings;
+        fit = omega (arith, r.few, fit, ap capacity (size_of (New m (max_sample_size m)) items));
+        cover = λ x some.
+            let here : 0 < occurrences (map string_bytes items) (string_bytes x) = omega (arith, some, weight x) in
+            r.cover x here (all (string_bytes x) here);
+      })
+
+  pub reports : KeepsTailBudget string_eq s (all_updated (New m (max_sample_size m)) items) → (top n : ℕ) (rows : List Row) → n ≡ min top (length rows) → ShowsExactly string_eq NoFalseNegatives 0 s rows → Descends rows → MissesNone string_eq 0 s rows → Reports (map string_bytes items) m top s.error (take n rows)
+  reports keeps top n rows is exact descends misses = record {
+    few = let len : length (take n rows) ≡ min n (length rows) = length-take n rows in omega (arith, len, is);
+    enclosed = All-take (Encloses (map string_bytes items)) n rows (λ k d less. row_encloses _ (exact.shown k d less));
+    width = All-take (λ (row : Row). row.upper_bound ≡ row.lower_bound + s.error) n rows (λ k d less. omega (arith, (exact.shown k d less).upper_bound, (exact.shown k d less).lower_bound));
+    once = distinct_of_first n rows exact.once;
+    occurring = All-take (λ (row : Row). 0 < row.lower_bound) n rows (λ k d less. row_occurs _ (exact.shown k d less));
+    descends = descending n rows exact descends;
+    missing = λ item more.
+        let (x, is_item) = occurring items item (omega (arith, more)) in
+        let heavy : max 0 s.error < true_weight string_eq (all_updated (New m (max_sample_size m)) items) x = (let c : occurrences (map string_bytes items) (string_bytes x) ≡ occurrences (map string_bytes items) item = ap (occurrences (map string_bytes items)) is_item in omega (arith, more, c, weight x)) in
+        subst (λ (t : List ℕ). IsListed (take n rows) t ⊎ ((length (take n rows) ≡ top) × All (λ (row : Row). occurrences (map string_bytes items) t ≤ row.upper_bound) (take n rows))) is_item
+        (listed_or_lighter top n rows is exact descends x (misses _ so x heavy));
+    share = error_share keeps;
+    exact = error_exact;
+  }
+
+-- what a report shows of strings that were added to a new sketch
+record IsReported (items : List (List ℕ)) (header : Bool) (m top : ℕ) (text : List ℕ) : Type 0 where
+  error : ℕ
+  rows : List Row
+  written : text ≡ report_text header error (length items) rows
+  reports : Reports items m top error rows
+
+reported_of : (header : Bool) (m top : ℕ) (start s : Sketch) (items : List (List ℕ)) (text : List ℕ) → StandsFor string_eq start (New m (max_sample_size m)) → KeepsTailBudget string_eq start (New m (max_sample_size m)) → AddsStrings start items s → ShowsTop s header top text → IsReported items header m top text
+reported_of header m top start s items text new keeps added shows =
+    let h : FrequentHistory (String Global) = all_updated (New m (max_sample_size m)) added.items in
+    let so : Represents string_eq s h = (added.stands (New m (max_sample_size m)) new).encloses in
+    let n : ℕ = min top (length shows.rows) in
+    let total : s.total ≡ length (map string_bytes added.items) = total_is added.items m s so in
+    record {
+      error = s.error;
+      rows = take n shows.rows;
+      written = shows.written ∙ ap (λ (t : ℕ). report_text header s.error t (take n shows.rows)) (total ∙ ap (λ (l : List (List ℕ)). length l) added.are);
+      reports =
+          subst (λ (t : List (List ℕ)). Reports t m top s.error (take n shows.rows)) added.are
+          (reports added.items m s so (added.budget (New m (max_sample_size m)) new keeps) top n shows.rows refl shows.exact shows.descends shows.misses);
+    }
+
+pub reported : (options : Options) (inputs : Option (List (List ℕ))) (complete : Bool) (held holds : Option (List ℕ)) (start s : Sketch) (text : List ℕ)
+    → StandsFor string_eq start (New options.size (max_sample_size options.size)) → KeepsTailBudget string_eq start (New options.size (max_sample_size options.size))
+    → CountsInputs options.selection inputs complete start s → ShowsTop s options.header options.rows text → Appends held holds text → WritesReport options inputs complete held holds
+reported options None complete held holds start s text new keeps counted shows wrote = tt
+reported options (Some all) complete held holds start s text new keeps (read, are, added) shows wrote =
+    let r = reported_of options.header options.size options.rows start s (flat_map (items_of options.selection) read) text new keeps added shows in
+    (read, r.error, r.rows, are, subst (Appends held holds) r.written wrote, r.reports)

@@ -1,0 +1,29 @@
+-- The items of lines.
+use Rattle.std.specs.Prelude.{ℕ, ◌==◌, List, [], ◌∷◌, take, drop}
+use Rattle.std.specs.List.{flat_map, slice_split}
+use Rattle.std.specs.Str.Lossy.{utf8_lossy}
+use Rattle.std.specs.Str.Lines.{lines}
+use Rattle.sketch_base.specs.Split.{words_of}
+use Rattle.sketches.specs.declared.selection.Part.{Part}
+use Rattle.sketches.specs.declared.selection.Part.TheVariants as part
+use Rattle.sketches.specs.declared.selection.Selection.{Selection}
+use Rattle.sketches.specs.declared.selection.Selection.TheVariants as selection
+
+-- a part of a line, or nothing if the line has too few words or fields
+abbrev pub part_of : Part → List ℕ → List (List ℕ)
+part_of part.Line line = line ∷ []
+part_of (part.Word index) line = take 1 (drop index (words_of line))
+part_of (part.Field field) line = take 1 (drop field.index (slice_split (λ byte. byte == field.delimiter) line))
+
+-- the items of a line
+abbrev pub items_of_line : Selection → List ℕ → List (List ℕ)
+items_of_line selection.Words line = words_of line
+items_of_line (selection.Part part) line = part_of part line
+
+-- the items of a line of bytes, with U+FFFD for each sequence that is not UTF-8
+abbrev pub items_of_raw_line : Selection → List ℕ → List (List ℕ)
+items_of_raw_line chosen line = items_of_line chosen (utf8_lossy line)
+
+-- the items of an input: those of each of its lines
+abbrev pub items_of : Selection → List ℕ → List (List ℕ)
+items_of chosen bytes = flat_map (items_of_raw_line chosen) (lines bytes)

@@ -1,0 +1,52 @@
+//! The items of a line.
+ghost use Rattle.std.specs.Prelude.{◌≡◌, ◌∷◌, [], MatchOption, drop, take};
+ghost use Rattle.sketch_base.specs.Split.{words_of};
+ghost use Rattle.sketches.specs.Items.{part_of};
+
+use crate::field::{Field, field_at};
+use sketch_base::{Strings, Words};
+
+/// The items of a line.
+#[derive(Clone, Copy)]
+pub enum Selection {
+    /// Each word between ASCII white space.
+    Words,
+    /// One part of the line, if it has it.
+    Part(Part),
+}
+
+/// A part of a line.
+#[derive(Clone, Copy)]
+pub enum Part {
+    /// The whole line.
+    Line,
+    /// The word of this index, counted from 0.
+    Word(u32),
+    /// A field between delimiters.
+    Field(Field),
+}
+
+/// Returns a part of a line, or `None` if the line has too few words or fields.
+#[inline(always)]
+pub fn part_of(part: Part, line: &str) -> Option<&str>
+    ensures { MatchOption result (part_of part line.now ≡ []) (λ item. part_of part line.now ≡ item.now ∷ []) }
+{
+    match part {
+        Part::Line => Some(line),
+        Part::Word(index) => word_at(line, index),
+        Part::Field(field) => field_at(line, field),
+    }
+}
+
+/// Returns the word of an index, or `None` if the line has too few words.
+#[inline(always)]
+fn word_at(line: &str, index: u32) -> Option<&str>
+    ensures { MatchOption result (take 1 (drop index (words_of line.now)) ≡ [])
+        (λ item. take 1 (drop index (words_of line.now)) ≡ item.now ∷ []) }
+{
+    let mut words = Words::new(line);
+    'words: for at in 0..index {
+        words.next_str()?;
+    }
+    words.next_str()
+}

@@ -1,0 +1,325 @@
+"""Runs `sketches top` over generated files, and compares its reports with exact counts.
+
+    python3 tests/program/sketches.py [--after 'N passed, M failed'] crates/sketches/out/sketches
+
+prints a line for each check that failed, and then 'N passed, M failed', counted on from the numbers after `--after`.
+"""
+import collections
+import os
+import random
+import re
+import shutil
+import subprocess
+import sys
+import tempfile
+
+TESTS = os.path.dirname(os.path.dirname(os.path.abspath(__file__)))
+BLOCK = 1 << 18
+VARIABLE = "DATASKETCHES_TABLE_KEY"
+HEX = "000102030405060708090a0b0c0d0e0f"
+
+# Bytes that a reader can get wrong: line ends, blanks, NUL, and parts of sequences of UTF-8.
+PIECES = [b"\n", b"\n", b"\r\n", b"\r", b"\0", b" ", b"\t", b"\x0b", b"\x0c", b",", b"a", b"b", "é".encode(), "€".encode(), "😀".encode(),
+          b"\xc3", b"\xe2\x82", b"\xf0\x9f\x98", b"\x80", b"\xff", b"\xed\xa0\x80", b"\xc0\xaf", b"\xf4\x90\x80\x80"]
+
+# The options that choose items, and the items of a line.
+SELECTIONS = [
+    ([], lambda line: [line]),
+    (["--words"], lambda line: words_of(line)),
+    (["-f", "1"], lambda line: words_of(line)[:1]),
+    (["-f", "3"], lambda line: words_of(line)[2:3]),
+    (["-f", "4294967295"], lambda line: []),
+    (["-d", ",", "-f", "1"], lambda line: line.split(b",")[:1]),
+    (["-d", ",", "-f", "2"], lambda line: line.split(b",")[1:2]),
+    (["-d", "\t", "--field", "2"], lambda line: line.split(b"\t")[1:2]),
+    (["--delimiter", " ", "-f", "3"], lambda line: line.split(b" ")[2:3]),
+    (["-d", "\r", "-f", "1"], lambda line: line.split(b"\r")[:1]),
+]
+
+
+def words_of(line):
+    """Returns the words of a line, between runs of ASCII white space."""
+    return [word for word in re.split(rb"[ \t\n\x0c\r]+", line) if word]
+
+
+def lines_of(data):
+    """Returns the lines of an input, with U+FFFD for what is not UTF-8."""
+    parts = data.split(b"\n")
+    last = parts.pop()
+    lines = [part[:-1] if part.endswith(b"\r") else part for part in parts] + ([last] if last else [])
+    return [line.decode("utf-8", "replace").encode() for line in lines]
+
+
+def counts_of(inputs, items_of):
+    """Returns how often each item occurs in the inputs, of which each ends its last line."""
+    return collections.Counter(item for data in inputs for line in lines_of(data) for item in items_of(line))
+
+
+class Tests:
+    def __init__(self, program, work):
+        self.program = os.path.abspath(program)
+        self.work = work
+        self.passed = 0
+        self.failed = 0
+        self.library = os.path.join(work, "alloc_failures.so")
+        names = [os.environ.get("CC", "cc"), "gcc", "clang"]
+        compiler = next(name for name in names if shutil.which(name))
+        source = os.path.join(TESTS, "memory", "alloc_failures.c")
+        subprocess.run([compiler, "-shared", "-fPIC", "-O1", "-o", self.library, source, "-ldl"], check=True)
+
+    def check(self, name, holds, said=""):
+        if holds:
+            self.passed += 1
+        else:
+            self.failed += 1
+            print(f"failed: {name} {str(said)[:600]}")
+
+    def file(self, name, data):
+        with open(os.path.join(self.work, name), "wb") as file:
+            file.write(data)
+        return name
+
+    def run(self, words, data=b"", key="plain", stdout=subprocess.PIPE, **settings):
+        """Runs the program. Returns its status, both outputs, and the numbers of the preloaded library if it has settings."""
+        env = {"PATH": "/usr/bin:/bin"}
+        if key is not None:
+            env[VARIABLE] = key
+        report = os.path.join(self.work, "report")
+        if settings:
+            env.update({name: str(value) for name, value in settings.items()}, LD_PRELOAD=self.library, REFUSED_REPORT=report)
+        command = [self.program, *[str(word) for word in words]]
+        with open(os.path.join(self.work, self.file("input", data)), "rb") as file:
+            ran = subprocess.run(command, stdin=file, stdout=stdout, stderr=subprocess.PIPE, env=env, cwd=self.work, timeout=120)
+        numbers = None
+        if settings:
+            with open(report) as file:
+                numbers = [int(word) for word in file.read().split()]
+        return ran.returncode, ran.stdout, ran.stderr, numbers
+
+    def is_exact(self, name, ran, counts, rows=10, status=0, said=b""):
+        """Checks a whole report, of so few items that the error is 0."""
+        self.check(f"{name}: status and messages", (ran[0], ran[2]) == (status, said), ran)
+        header, *lines = ran[1].split(b"\n")[:-1]
+        self.check(f"{name}: header", header == b"# error 0 of %d" % counts.total(), header)
+        shown = [tuple(line.split(b"\t", 2)) for line in lines]
+        heaviest = sorted(counts.values(), reverse=True)[:rows]
+        self.check(f"{name}: heaviest first", [int(row[1]) for row in shown] == heaviest, shown)
+        self.check(f"{name}: exact", all(int(lower) == int(upper) == counts[item] for lower, upper, item in shown), shown)
+        self.check(f"{name}: each once", len({row[2] for row in shown}) == len(shown), shown)
+
+    def worked(self):
+        """Checks reports that are written out by hand."""
+        for words, data, wanted in [
+            (["top"], b"", b"# error 0 of 0\n"),
+            (["top"], b"b\na\nb\n", b"# error 0 of 3\n2\t2\tb\n1\t1\ta\n"),
+            (["top", "--no-header"], b"b\na\nb", b"2\t2\tb\n1\t1\ta\n"),
+            (["top", "-n", "1"], b"b\r\na\r\nb\r\n", b"# error 0 of 3\n2\t2\tb\n"),
+            (["top", "-n", "0"], b"b\na\nb\n", b"# error 0 of 3\n"),
+            (["top"], b"\n\n\n", b"# error 0 of 3\n3\t3\t\n"),
+            (["top", "-f", "2"], b"x  y z\n\t y\nq\n  x\ty\n", b"# error 0 of 2\n2\t2\ty\n"),
+            (["top", "-d", ":", "-f", "1"], b"::\nx:y\n\n:\n", b"# error 0 of 4\n3\t3\t\n1\t1\tx\n"),
+            (["top", "--words"], b"to be or\nnot to be to\n", b"# error 0 of 7\n3\t3\tto\n2\t2\tbe\n"),
+            (["top"], b"\xff\n\xfe\n\xc3\n", b"# error 0 of 3\n3\t3\t\xef\xbf\xbd\n"),
+            (["top"], b"a\tb\0\na\tb\0", b"# error 0 of 2\n2\t2\ta\tb\0\n"),
+        ]:
+            status, out, said, _ = self.run(words, data)
+            self.check(f"{words} of {data}", (status, said) == (0, b"") and out.startswith(wanted), out)
+
+    def random_bytes(self):
+        """Checks each choice of items over random bytes, from files and from standard input."""
+        rng = random.Random(1)
+        for round in range(12):
+            inputs = [b"".join(rng.choices(PIECES, k=rng.choice([0, 1, 7, 300, 3000]))) for _ in range(3)]
+            names = [self.file(f"random{n}", data) for n, data in enumerate(inputs)]
+            for words, items_of in SELECTIONS:
+                name = f"random bytes {round} {words}"
+                rows = rng.choice([0, 1, 10, 100000])
+                size = 1 << 16
+                ran = self.run(["top", *words, "-n", rows, "--size", size, *names], key=None)
+                self.is_exact(name, ran, counts_of(inputs, items_of), rows)
+                ran = self.run(["top", "-n", rows, *words, "--size", size, "-"], inputs[0], key=HEX)
+                self.is_exact(f"{name} -", ran, counts_of(inputs[:1], items_of), rows)
+
+    def cuts(self):
+        """Cuts an input at each place: by reads of a few bytes, and by a block that ends there."""
+        data = b"ab\r\n\r\n\xe2\x82\xac b\n\xe2\x82\nab\r\na \xf0\x9f\x98\x80 c\r\r\n\nab"
+        for words, items_of in SELECTIONS:
+            for step in range(1, len(data) + 1):
+                ran = self.run(["top", *words], data, READ_STEP=step)
+                self.is_exact(f"reads of {step} bytes {words}", ran, counts_of([data], items_of))
+        for cut in range(len(data) + 1):
+            for lead in [b"x" * (BLOCK - cut - 1) + b"\n", b"y\n" * ((BLOCK - cut) // 2) + b"\n" * ((BLOCK - cut) % 2)]:
+                whole = lead + data
+                ran = self.run(["top"], whole)
+                self.is_exact(f"a block that ends at {cut}", ran, counts_of([whole], lambda line: [line]))
+
+    def long_lines(self):
+        """Checks lines around the limit, with each line end, whole and last."""
+        for limit in [0, 1, 5, BLOCK - 2, BLOCK - 1, BLOCK, BLOCK + 1, 3 * BLOCK]:
+            for length in [limit - 1, limit, limit + 1, limit + 2]:
+                for end in [b"\n", b""]:
+                    if length < 0:
+                        continue
+                    for lead in [b"", b"\n"]:
+                        data = lead + length * b"x" + end
+                        name = f"limit {limit}, a line of {length} and {end}"
+                        ran = self.run(["top", "--max-line", limit], data)
+                        if length <= limit:
+                            self.is_exact(name, ran, counts_of([data], lambda line: [line]))
+                        else:
+                            said = b"sketches: -: a line is longer than --max-line\n"
+                            self.check(name, ran[:3] == (2, b"", said), ran)
+        data = (1 << 23) * b"z" + b"\n"
+        self.is_exact("a line of 8 MB", self.run(["top"], 3 * data), counts_of([3 * data], lambda line: [line]))
+
+    def many_items(self):
+        """Checks bounds, their share and missing items over many more items than slots, in several orders."""
+        rng = random.Random(2)
+        names = [b"item%d" % n for n in range(20000)]
+        stream = rng.choices(names, [1 / (n + 1) for n in range(20000)], k=60000)
+        counts = collections.Counter(stream)
+        for size in [8, 64, 1024, 4096]:
+            for order, lines in [("random", stream), ("ascending", sorted(stream)), ("rare first", sorted(stream, key=counts.get))]:
+                for key in ["plain", HEX, None]:
+                    data = b"".join(line + b"\n" for line in lines)
+                    rows = rng.choice([3, 100, 100000])
+                    status, out, said, _ = self.run(["top", "--size", size, "-n", rows], data, key=key)
+                    name = f"{size} slots, {order}, key {key}"
+                    header, *shown = out.split(b"\n")[:-1]
+                    found = re.fullmatch(rb"# error (\d+) of 60000", header)
+                    self.check(f"{name}: header", (status, said) == (0, b"") and found, (header, said))
+                    error = int(found[1])
+                    places = min(1024, size * 3 // 4) // 2
+                    self.check(f"{name}: share", places * error <= 60000, error)
+                    bounds = [(int(lower), int(upper), item) for lower, upper, item in (line.split(b"\t") for line in shown)]
+                    self.check(f"{name}: enclosed", all(lower <= counts[item] <= upper == lower + error for lower, upper, item in bounds))
+                    self.check(f"{name}: heaviest first", bounds == sorted(bounds, key=lambda row: -row[1]))
+                    self.check(f"{name}: few", len(bounds) <= rows and len({row[2] for row in bounds}) == len(bounds))
+                    listed = {row[2] for row in bounds}
+                    least = min([row[1] for row in bounds], default=0) if len(bounds) == rows else 0
+                    missing = [item for item, count in counts.items() if count > max(error, least) and item not in listed]
+                    self.check(f"{name}: none is missing", not missing, missing[:3])
+
+    def pages(self):
+        """Runs the examples of the pages, at the top of the repository."""
+        top = os.path.dirname(TESTS)
+        for page, number in [("README.md", 1), ("crates/sketches/README.md", 2)]:
+            with open(os.path.join(top, page)) as file:
+                examples = re.findall(r"(?m)^    \$ sketches (.*)\n((?:    .*\n)+)", file.read())
+            self.check(f"{page}: number of examples", len(examples) == number, examples)
+            for words, output in examples:
+                wanted = "".join(line[4:] for line in output.splitlines(keepends=True))
+                ran = subprocess.run([self.program, *words.split()], capture_output=True, text=True, cwd=top, timeout=60)
+                self.check(f"{page}: {words}", (ran.returncode, ran.stdout, ran.stderr) == (0, wanted, ""), ran)
+
+    def statuses(self):
+        """Checks files that cannot be read, wrong use, and devices that fail."""
+        names = [self.file("one", b"a\nb"), self.file("two", b"b\nc\n")]
+        both = collections.Counter({b"b": 2, b"a": 1, b"c": 1})
+        self.is_exact("two files", self.run(["top", *names]), both)
+        self.is_exact("a file and standard input", self.run(["top", "one", "-"], b"b\nc\n"), both)
+        absent = b"sketches: none: No such file or directory (os error 2)\n"
+        self.is_exact("an absent file", self.run(["top", "one", "none", "two"]), both, status=1, said=absent)
+        self.is_exact("only an absent file", self.run(["top", "none"]), collections.Counter(), status=1, said=absent)
+        folder = b"sketches: .: Is a directory (os error 21)\n"
+        self.is_exact("a folder", self.run(["top", ".", "one", "two"]), both, status=1, said=folder)
+        for name, words in [
+            ("no command", []),
+            ("an unknown command", ["bottom"]),
+            ("an unknown option", ["top", "--much"]),
+            ("no number of rows", ["top", "-n", "ten"]),
+            ("a negative number of rows", ["top", "-n", "-1"]),
+            ("field 0", ["top", "-f", "0"]),
+            ("a delimiter without a field", ["top", "-d", ","]),
+            ("two characters", ["top", "-f", "1", "-d", ",,"]),
+            ("no character", ["top", "-f", "1", "-d", ""]),
+            ("a character beyond ASCII", ["top", "-f", "1", "-d", "é"]),
+            ("words and a field", ["top", "--words", "-f", "1"]),
+            ("a size of 0", ["top", "--size", "0"]),
+            ("a size of 4", ["top", "--size", "4"]),
+            ("a size of 100", ["top", "--size", "100"]),
+            ("a size of 2^31", ["top", "--size", "2147483648"]),
+            ("a short key", ["top", "--key", "00"]),
+            ("a key that is no number", ["top", "--key", HEX[:-1] + "g"]),
+        ]:
+            status, out, said, _ = self.run(words, b"a\n")
+            self.check(name, (status, out) == (2, b"") and said, (status, out, said))
+        for value in ["", "Plain", HEX[:-1], HEX + "0"]:
+            ran = self.run(["top"], b"a\n", key=value)
+            said = b"sketches: DATASKETCHES_TABLE_KEY must be plain or 32 hexadecimal digits\n"
+            self.check(f"a bad variable {value}", ran[:3] == (2, b"", said), ran)
+            self.check("the option comes first", self.run(["top", "--key", "plain"], b"a\n", key=value)[0] == 0)
+        for words, part in [(["--version"], b"sketches "), (["--help"], b"Usage"), (["top", "--help"], b"--max-line"), (["help", "top"], b"FILE")]:
+            status, out, said, _ = self.run(words)
+            self.check(f"{words}", (status, said) == (0, b"") and part in out, (status, out, said))
+        with open("/dev/full", "wb") as full:
+            ran = self.run(["top"], b"a\n", stdout=full)
+            self.check("a full device", (ran[0], ran[2]) == (2, b"sketches: output: No space left on device (os error 28)\n"), ran)
+        reader, writer = os.pipe()
+        os.close(reader)
+        ran = self.run(["top"], b"a\n", stdout=writer)
+        os.close(writer)
+        self.check("a closed pipe", (ran[0], ran[2]) == (0, b""), ran)
+        ran = self.run(["top"], b"a\n", key=None, NO_RANDOM_BYTES=1)
+        self.check("no random bytes", ran[:3] == (2, b"", b"sketches: no random bytes\n"), ran)
+
+    def failures_in_turn(self):
+        """Fails each allocation, each read and each write in turn, and interrupts each read and each write."""
+        data = b"".join(b"line %d\xff %d\n" % (n % 40, n) for n in range(200)) + 20 * b"\n" + b"x" * BLOCK
+        words = ["top", "-n", "3", "--size", "64"]
+        whole = self.run(words, data)
+        n = 1
+        while True:
+            ran = self.run(words, data, REFUSED_AT=n)
+            if ran[3][1] == 0:
+                self.check("no allocation fails", ran[:3] == whole[:3] and ran[3][2] == 0, ran)
+                break
+            # std ignores that a string of the arguments could not be made smaller
+            ended = ran[0] == 2 and ran[1] == b"" and ran[2]
+            self.check(f"allocation {n}", ended or ran[:3] == whole[:3], ran)
+            self.check(f"allocation {n}: all memory is freed", ran[3][2] == 0, ran)
+            n += 1
+        self.check("allocations were counted", n > 100, n)
+        short = b"a\nb\na\nb\nc"
+        whole = self.run(["top"], short)
+        for which in ["FAILS_READ_AT", "FAILS_WRITE_AT"]:
+            for interrupted in [{}, {"INTERRUPTED": 1}]:
+                n = 1
+                while True:
+                    ran = self.run(["top"], short, **{which: n, "READ_STEP": 1, **interrupted})
+                    name = f"{which} {n} {interrupted}"
+                    if ran[3][1] == 0 or interrupted:
+                        self.check(name, ran[:3] == whole[:3], ran)
+                    elif which == "FAILS_READ_AT":
+                        read = short[: n - 1]
+                        counts = counts_of([read[: read.rfind(b"\n") + 1]], lambda line: [line])
+                        said = b"sketches: -: Input/output error (os error 5)\n"
+                        self.is_exact(name, ran, counts, status=1, said=said)
+                    else:
+                        self.check(name, ran[0] == 2 and ran[2].startswith(b"sketches: output: "), ran)
+                    if ran[3][1] == 0:
+                        break
+                    n += 1
+
+
+def main():
+    words = sys.argv[1:]
+    before = (0, 0)
+    if words[0] == "--after":
+        before = tuple(int(number) for number in re.findall(r"\d+", words[1])[:2])
+        words = words[2:]
+    with tempfile.TemporaryDirectory() as work:
+        tests = Tests(words[0], work)
+        tests.worked()
+        tests.random_bytes()
+        tests.cuts()
+        tests.long_lines()
+        tests.many_items()
+        tests.pages()
+        tests.statuses()
+        tests.failures_in_turn()
+    print(f"{before[0] + tests.passed} passed, {before[1] + tests.failed} failed")
+    sys.exit(1 if before[1] + tests.failed else 0)
+
+
+main()
