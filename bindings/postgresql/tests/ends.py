@@ -104,7 +104,8 @@ def many_cancels(tests):
                 statement = list(LONG.values())[number % (len(LONG) - 1)]
                 cursor.execute(f"SET statement_timeout = {3 + number % 5}")
                 codes.append(code_of(cursor, statement))
-                cursor.execute("RESET statement_timeout")
+                while code_of(cursor, "RESET statement_timeout") == "57014":
+                    pass  # on a busy machine the timeout cancels the reset too
             return codes
 
         cancelled(100)
