@@ -15,6 +15,7 @@ pub mod laws;
 mod name_map;
 mod named_sketches;
 mod new_sketch;
+mod of_items;
 mod reply;
 mod session;
 mod sketch;

@@ -17,6 +17,7 @@ use crate::image_kind::ImageKind;
 use crate::joining::{Difference, Intersect, Joining, Merge, Union};
 use crate::name_map::NameMap;
 use crate::new_sketch::{NewSketch, SignedCounts, UnsignedCounts};
+use crate::of_items::OfItems;
 use crate::reply::{Bounds, Refusal, Reply, Status};
 use crate::sketch::Sketch;
 use sketch_base::MapState;
@@ -70,33 +71,6 @@ impl<T: Eq + Hash + Drop> Model for Session<T> {
       sketches = s.sketches.entries;
       images = s.images.entries;
       keys = record { table = s.key; sketch_names = s.sketches.hasher; image_names = s.images.hasher };
-    } };
-}
-
-/// The type of a session's items, as the clauses of its calls take it.
-pub(crate) trait OfItems {
-    ghost use Rattle.datasketches.specs.ItemTypes.{ItemType};
-
-    ghost Item: { Type 0 };
-
-    ghost Content: { Type 0 };
-
-    ghost items: { ItemType Item Content };
-}
-
-impl<T: FrequentItemValue + Drop> OfItems for Session<T> {
-    ghost use Rattle.counter_table.specs.Bytes.{option_bytes};
-
-    ghost Item = { T };
-
-    ghost Content = { T.Content };
-
-    ghost items = { record {
-      slot = option_bytes T.row;
-      eq = T.eq;
-      input = T.hash_input;
-      codec = T.codec;
-      content = T.content;
     } };
 }
 

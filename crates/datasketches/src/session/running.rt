@@ -13,8 +13,9 @@ ghost use Rattle.datasketches.specs.State.{IsUnchanged};
 ghost use Rattle.datasketches.specs.Steps.{Step, Run};
 
 use crate::command::Command;
+use crate::of_items::OfItems;
 use crate::reply::{Refusal, Reply};
-use crate::session::{OfItems, Session, told};
+use crate::session::{Session, told};
 use sketch_base::Error;
 use sketch_bloom::BloomFilterBuilder;
 use sketch_countmin::CountMinSizes;
