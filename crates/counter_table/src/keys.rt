@@ -1,17 +1,18 @@
 //! Keys in sequences.
 ghost use Rattle.std.specs.Prelude.{◌≡◌, Bool, List, [], ◌∷◌, map, MatchOption};
 ghost use Rattle.sketch_base.specs.Strings.{strings_at};
+ghost use Rattle.sketch_base.specs.Validity.{valid};
 ghost use Rattle.counter_table.specs.StringKeys.{names_string};
 
 use crate::equal_clone::EqualClone;
 use crate::item_key::OwnedKey;
-use sketch_base::{ByteStrings, Lines, OffsetStrings, Offsets, Strings, Strs, Words};
+use sketch_base::{ByteStrings, Lines, OffsetStrings, Offsets, Strings, Strs, ValidItems, Words};
 use std::hash::Hash;
 
 /// Keys in order, each of which names items of type `T`.
 ///
 /// It is implemented by `&[T]`, and for items of type `String` by the sequences of strings: [`Words`], [`Lines`],
-/// [`Strs`], [`OffsetStrings`] and [`ByteStrings`].
+/// [`Strs`], [`OffsetStrings`] and [`ByteStrings`]. [`ValidItems`] of such a sequence are keys too.
 ///
 /// # Examples
 ///
@@ -116,5 +117,21 @@ impl<'a> Keys<String> for ByteStrings<'a> {
     #[inline(always)]
     fn next_key(&mut self) -> Option<&'a str> {
         next_string(self)
+    }
+}
+
+impl<'a, T: Eq + Hash, K: Keys<T>> Keys<T> for ValidItems<'a, K> {
+    type Key = K::Key;
+
+    ghost names = { λ s. valid s.validity (K.names s.items) };
+
+    #[inline(always)]
+    fn next_key(&mut self) -> Option<K::Key> {
+        'each: loop {
+            let key = self.items.next_key()?;
+            if self.validity.next_is_set() {
+                return Some(key);
+            }
+        }
     }
 }

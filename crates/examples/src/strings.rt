@@ -1,8 +1,8 @@
 //! Examples of items and of strings in sequences: words, lines, slices and buffers.
 use sketch_base::{
     ByteStrings, Error, Item, Items, Lines, OffsetStrings, Rehashable, RehashableStr, Separator,
-    Strings, Strs, Words, are_offsets, finished_lines, finished_words, first_separator,
-    first_words, from_utf8,
+    Strings, Strs, ValidItems, Validity, Words, are_offsets, finished_lines, finished_words,
+    first_separator, first_words, from_utf8, nth_word,
 };
 
 /// Returns the shard of a user, of 100 shards.
@@ -105,4 +105,30 @@ pub fn shard_of_name(user: &str) -> u64 {
 pub fn hashes_of_name(user: &str, seeds: (u64, u64)) -> (u64, u64) {
     let user = RehashableStr::new(user);
     (user.murmur3(seeds.0).0, user.murmur3(seeds.1).0)
+}
+
+/// Returns the third column of a line, between runs of white space.
+pub fn third_column(line: &str) -> Option<&str> {
+    nth_word(line, Separator::AsciiWhitespace, 2)
+}
+
+/// Returns the number of bits of a bitmap that are not set.
+pub fn number_of_nulls(bitmap: &[u8]) -> u64 {
+    let mut rows = Validity::new(bitmap, 0);
+    let mut nulls: u64 = 0;
+    while let Some(is_valid) = rows.next() {
+        if !is_valid {
+            nulls = nulls.saturating_add(1);
+        }
+    }
+    nulls
+}
+
+/// Returns the first number whose bit is set.
+pub fn first_valid(numbers: &[u64], bitmap: &[u8]) -> Option<u64> {
+    let mut valid = ValidItems {
+        items: numbers,
+        validity: Validity::new(bitmap, 0),
+    };
+    valid.next().copied()
 }

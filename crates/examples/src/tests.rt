@@ -90,6 +90,7 @@ use crate::strings::complete_words;
 use crate::strings::first_field;
 use crate::strings::first_line;
 use crate::strings::first_of_three;
+use crate::strings::first_valid;
 use crate::strings::hashes_of_name;
 use crate::strings::is_pair;
 use crate::strings::is_text;
@@ -97,8 +98,10 @@ use crate::strings::last_word;
 use crate::strings::longest;
 use crate::strings::number_of_fruit;
 use crate::strings::number_of_names;
+use crate::strings::number_of_nulls;
 use crate::strings::number_of_words;
 use crate::strings::shard_of_name;
+use crate::strings::third_column;
 use crate::windows::load_of_a_customer;
 use crate::windows::weight_of_the_first;
 use counter_table::ReversePurgeItemHashMap;
@@ -162,6 +165,15 @@ fn words_and_lines_are_as_the_docs_say(rt: HostRuntime) {
     assert!(rt; complete_words(b"one two thr") == b"one two ".as_slice());
     assert!(rt; is_text(b"caf\xC3\xA9") && !is_text(b"caf\xC3"));
     assert!(rt; complete_lines(b"one\ntwo\nthr") == b"one\ntwo\n".as_slice());
+    assert!(rt;
+        third_column("one  two\tthree") == Some("three") && third_column("one two").is_none()
+    );
+}
+
+#[test]
+fn columns_with_nulls_are_as_the_docs_say(rt: HostRuntime) {
+    assert!(rt; number_of_nulls(&[0b101, 0]) == 14);
+    assert!(rt; first_valid(&[7, 8, 9], &[0b110]) == Some(8) && first_valid(&[7], &[0]).is_none());
 }
 
 #[test]

@@ -22,7 +22,9 @@ pub mod SplitLines
 pub mod SplitWords
 pub mod StringBoundaries
 pub mod StringEnd
+pub mod ValidBits
 mod Vectors
+mod WordEnds
 pub mod Writing
 pub mod Xxh64Pieces
 pub mod Xxh64String

@@ -16,5 +16,6 @@ pub mod SipHash
 pub mod SipHashState
 pub mod Split
 pub mod Strings
+pub mod Validity
 pub mod Xxh64
 pub mod Xxh64State

@@ -12,7 +12,7 @@
 //! - [`from_utf8`] returns the string of bytes, fast for short ones.
 //! - An [`Item`] is what a sketch takes: `&T` for each `T` that can be hashed, or `&str`. [`Items`] are many in order:
 //!   slices, and [`Strings`], which are [`Words`] and [`Lines`] of a string, [`Strs`], [`OffsetStrings`] of one buffer, and
-//!   [`ByteStrings`].
+//!   [`ByteStrings`]. [`ValidItems`] are those of a sequence that are set in a bitmap.
 //! - [`compute_seed_hash`] hashes a seed, and [`check_seed_hash`] compares two such hashes.
 //! - [`SketchSlice`] reads numbers from bytes, and [`SketchBytes`] writes them. Contracts see the bytes that are
 //!   unread, and those that are written.
@@ -20,8 +20,8 @@
 //! - [`Family`] names a kind of sketch in an image. An [`Error`] has a kind and a [`Fault`], its cause.
 //! - [`laws`] states the values of the constants.
 //! - [`Divisor`] computes remainders by a precomputed number without a division.
-//! - [`first_words`] splits a string into an array. [`finished_words`] and [`finished_lines`] return where a chunk of a
-//!   stream can be split.
+//! - [`first_words`] splits a string into an array, and [`nth_word`] returns one of its words. [`finished_words`] and
+//!   [`finished_lines`] return where a chunk of a stream can be split.
 #![tactic(auto)]
 
 mod byte_strings;
@@ -52,6 +52,7 @@ mod split;
 mod str_hash;
 mod strings;
 mod utf8;
+mod validity;
 mod words;
 mod xxhash;
 
@@ -78,5 +79,6 @@ pub use split::{finished_lines, finished_words, first_words};
 pub use str_hash::{keyed_hash_of_str, murmur3_of_str, xxh64_of_str};
 pub use strings::{Strings, Strs};
 pub use utf8::from_utf8;
-pub use words::Words;
+pub use validity::{ValidItems, Validity};
+pub use words::{Words, nth_word};
 pub use xxhash::XxHash64;

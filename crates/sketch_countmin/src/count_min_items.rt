@@ -8,7 +8,9 @@ ghost use Rattle.sketch_countmin.specs.State.{IsCountState, CountsAll, IsMinCell
 use crate::count_min_sketch::CountMinSketch;
 use crate::count_min_value::CountMinValue;
 use crate::row_item::RowItem;
-use sketch_base::{ByteStrings, Error, Fault, Items, Lines, OffsetStrings, Offsets, Strs, Words};
+use sketch_base::{
+    ByteStrings, Error, Fault, Items, Lines, OffsetStrings, Offsets, Strs, ValidItems, Words,
+};
 use std::hash::Hash;
 
 /// A sequence of items that a Count-Min sketch counts or looks up in one call.
@@ -84,3 +86,5 @@ impl<'a, T: CountMinValue> CountMinItems<T> for Strs<'a> {}
 impl<'a, T: CountMinValue, O: Offsets> CountMinItems<T> for OffsetStrings<'a, O> {}
 
 impl<'a, T: CountMinValue> CountMinItems<T> for ByteStrings<'a> {}
+
+impl<'a, T: CountMinValue, I: Items<Each: RowItem<T>>> CountMinItems<T> for ValidItems<'a, I> {}
