@@ -92,6 +92,8 @@ def main():
     cost("frequent.update of a dict", lambda n: dict.fromkeys(strings(n), 3), lambda items: new_strings().update(items))
     cost("frequent.update of an iterator", lambda n: iter(strings(n)), lambda items: new_strings().update(items))
     cost("frequent.update of an Arrow column", lambda n: arrow.Column("u", strings(n)), lambda items: new_strings().update(items))
+    cost("frequent.update of an Arrow column with nulls", lambda n: arrow.Column("u", [*strings(n), None, ""]),
+         lambda items: new_strings().update(items))
     cost("frequent.merge_all", lambda n: n * [ds.FrequentItemsSketch(8, item=str)] + [sketch_of(n, str)], new_strings().merge_all)
     cost("count.merge_all", lambda n: [count_of(3) for _ in range(n)], ds.CountMinSketch(num_hashes=4, num_buckets=3).merge_all)
     cost("filter.union_all", lambda n: [filter_of(1) for _ in range(n)], ds.BloomFilter(num_bits=64, num_hashes=7).union_all)

@@ -21,6 +21,7 @@ static bool answers[MOST];
 static size_t positions[MOST];
 static ds_string strings[MOST];
 static uint8_t words[WORD * MOST], lines[WORD * MOST], spaces[WORD * MOST], one_word[WORD * MOST];
+static uint8_t bitmap[MOST / 8 + 1]; /* seven rows of eight are there */
 static uint8_t colliding[COLLIDING * COLLIDING_LENGTH], image[1 << 24];
 static ds_sketch others[MOST];
 static const ds_key key = {1, 2};
@@ -79,10 +80,14 @@ static void new_strings(ds_sketch *handle)
     check(!ds_frequent_items_new(handle, DS_FREQUENT_ITEMS_STRING, SLOTS, SAMPLE, NULL), "strings");
 }
 
-/* Returns n items of a kind. */
-static ds_items items_of(int32_t kind, size_t n)
+/* The forms of items: each kind, and then each kind of rows with a bitmap, of which the last are strings. */
+enum { NUMBERS_WITH_BITMAP = DS_ITEMS_LINES + 1, STRINGS_WITH_BITMAP = NUMBERS_WITH_BITMAP + DS_ITEMS_OFFSETS, FORMS = 12 };
+
+/* Returns n items of a form. */
+static ds_items items_of(int32_t form, size_t n)
 {
-    switch (kind) {
+    if (form >= NUMBERS_WITH_BITMAP) return ds_items_with_validity(items_of(form - NUMBERS_WITH_BITMAP, n), bitmap, 3);
+    switch (form) {
     case DS_ITEMS_U64: return ds_items_u64(numbers, n);
     case DS_ITEMS_I64: return ds_items_i64((const int64_t *)numbers, n);
     case DS_ITEMS_OFFSETS: return ds_items_offsets(words, WORD * n, offsets, n + 1);
@@ -93,8 +98,19 @@ static ds_items items_of(int32_t kind, size_t n)
     }
 }
 
-/* The kinds of items, as names of costs have them. */
-static const char *const KINDS[] = {"u64s", "i64s", "offsets", "offsets32", "strings", "words", "lines"};
+/* The forms of items, as names of costs have them. */
+static const char *const NAMES[FORMS] = {"u64s",
+                                         "i64s",
+                                         "offsets",
+                                         "offsets32",
+                                         "strings",
+                                         "words",
+                                         "lines",
+                                         "u64s with a bitmap",
+                                         "i64s with a bitmap",
+                                         "offsets with a bitmap",
+                                         "offsets32 with a bitmap",
+                                         "strings with a bitmap"};
 
 /* Returns the name of a call on items. */
 static const char *named(const char *call, const char *items)
@@ -104,8 +120,8 @@ static const char *named(const char *call, const char *items)
     return name;
 }
 
-/* The cost of a call on `items`: n of a kind. */
-#define COST_OF_KIND(name, prepare, call) COST(named(name, KINDS[kind]), const ds_items items = items_of(kind, n); prepare, call)
+/* The cost of a call on `items`: n of a form. */
+#define COST_OF_FORM(name, prepare, call) COST(named(name, NAMES[form]), const ds_items items = items_of(form, n); prepare, call)
 
 /* Writes the image of `other` n times, one after another, and returns the length of all. */
 static size_t images_of(size_t n)
@@ -128,11 +144,12 @@ static void filters(void)
 {
     size_t length = 0;
     new_filter(&sketch, 1 << 20);
-    for (int32_t kind = DS_ITEMS_U64; kind <= DS_ITEMS_LINES; kind++) {
-        COST_OF_KIND("bloom_insert_all", , ds_bloom_insert_all(&sketch, &items))
-        COST_OF_KIND("bloom_contains_all", , ds_bloom_contains_all(&sketch, &items, answers, n))
-        COST_OF_KIND("bloom_contains_and_insert_all", , ds_bloom_contains_and_insert_all(&sketch, &items, answers, n))
-        COST_OF_KIND("bloom_image_contains_all", check(!ds_serialize(&sketch, image, sizeof image, &length), "image"),
+    for (int32_t form = 0; form < FORMS; form++) {
+        COST_OF_FORM("num_items", , ds_num_items(&items, &length))
+        COST_OF_FORM("bloom_insert_all", , ds_bloom_insert_all(&sketch, &items))
+        COST_OF_FORM("bloom_contains_all", , ds_bloom_contains_all(&sketch, &items, answers, n))
+        COST_OF_FORM("bloom_contains_and_insert_all", , ds_bloom_contains_and_insert_all(&sketch, &items, answers, n))
+        COST_OF_FORM("bloom_image_contains_all", check(!ds_serialize(&sketch, image, sizeof image, &length), "image"),
                      ds_bloom_image_contains_all(image, length, &items, answers, n))
     }
     COST("bloom_insert_all of spaces", , ds_bloom_insert_all(&sketch, AS_ITEMS(words, spaces, WORD * n)))
@@ -160,10 +177,10 @@ static void counts(void)
 {
     size_t length = 0;
     new_count(&sketch, 1 << 12);
-    for (int32_t kind = DS_ITEMS_U64; kind <= DS_ITEMS_LINES; kind++) {
-        COST_OF_KIND("count_min_update_all", , ds_update_all(&sketch, &items))
-        COST_OF_KIND("count_min_update_all_weighted", , ds_update_all_weighted(&sketch, &items, weights, n))
-        COST_OF_KIND("count_min_estimate_all", , ds_count_min_u64_estimate_all(&sketch, &items, estimates, n))
+    for (int32_t form = 0; form < FORMS; form++) {
+        COST_OF_FORM("count_min_update_all", , ds_update_all(&sketch, &items))
+        COST_OF_FORM("count_min_update_all_weighted", , ds_update_all_weighted(&sketch, &items, weights, n))
+        COST_OF_FORM("count_min_estimate_all", , ds_count_min_u64_estimate_all(&sketch, &items, estimates, n))
     }
     COST("count_min_update_all of spaces", , ds_update_all(&sketch, AS_ITEMS(words, spaces, WORD * n)))
     COST("count_min_update_string", , ds_count_min_u64_update_string(&sketch, one_word, WORD * n, 1))
@@ -186,11 +203,11 @@ static void counts(void)
          for (size_t i = 0; i < n; i++) new_count(&others[i], 3), ds_merge_all(&sketch, others, n))
     COST("count_min_reset", new_count(&sketch, n); ds_count_min_u64_update_u64(&sketch, 1, 1), ds_reset(&sketch))
     new_signed(1 << 12);
-    for (int32_t kind = DS_ITEMS_U64; kind <= DS_ITEMS_LINES; kind++) {
-        COST_OF_KIND("count_min_i64_update_all", , ds_update_all(&sketch, &items))
-        COST_OF_KIND("count_min_i64_update_all_weighted", ,
+    for (int32_t form = 0; form < FORMS; form++) {
+        COST_OF_FORM("count_min_i64_update_all", , ds_update_all(&sketch, &items))
+        COST_OF_FORM("count_min_i64_update_all_weighted", ,
                      ds_count_min_i64_update_all_weighted(&sketch, &items, signed_weights, n))
-        COST_OF_KIND("count_min_i64_estimate_all", , ds_count_min_i64_estimate_all(&sketch, &items, signed_estimates, n))
+        COST_OF_FORM("count_min_i64_estimate_all", , ds_count_min_i64_estimate_all(&sketch, &items, signed_estimates, n))
     }
 }
 
@@ -234,11 +251,12 @@ static void frequent_items(void)
             ds_frequent_items_u64_update(&others[i], numbers[i], 1);
         },
                                                           ds_merge_all(&sketch, others, n))
-    for (int32_t kind = DS_ITEMS_OFFSETS; kind <= DS_ITEMS_LINES; kind++) {
-        COST_OF_KIND("frequent_items_update_all", new_strings(&sketch), ds_update_all(&sketch, &items))
-        COST_OF_KIND("frequent_items_update_all_weighted", new_strings(&sketch),
+    for (int32_t form = DS_ITEMS_OFFSETS; form < FORMS; form++) {
+        if (form >= NUMBERS_WITH_BITMAP && form < STRINGS_WITH_BITMAP) continue;
+        COST_OF_FORM("frequent_items_update_all", new_strings(&sketch), ds_update_all(&sketch, &items))
+        COST_OF_FORM("frequent_items_update_all_weighted", new_strings(&sketch),
                      ds_update_all_weighted(&sketch, &items, weights, n))
-        COST_OF_KIND("frequent_items_bounds_all", , ds_frequent_items_bounds_all(&sketch, &items, bounds, n))
+        COST_OF_FORM("frequent_items_bounds_all", , ds_frequent_items_bounds_all(&sketch, &items, bounds, n))
     }
     COST("frequent_items_update_string", new_strings(&sketch), ds_frequent_items_string_update(&sketch, one_word, WORD * n, 1))
     COST("frequent_items_update_all of spaces", new_strings(&sketch), ds_update_all(&sketch, AS_ITEMS(words, spaces, WORD * n)))
@@ -299,13 +317,10 @@ static void one_key(void)
 
 static void others_calls(void)
 {
-    size_t found;
     COST_OF("keyed_hash", , (int64_t)(ds_keyed_hash(one_word, WORD * n, 1, 2) & 0), 0)
     COST_OF("valid_utf8", , ds_valid_utf8(words, WORD * n), WORD * n)
     COST_OF("finished_words of one word", , ds_finished_words(one_word, WORD * n), 0)
     COST_OF("finished_lines of one line", , ds_finished_lines(words, WORD * n), 0)
-    COST("strings_from_utf8", , ds_strings_from_utf8(words, WORD * n, offsets_32, n, spaces, 0, strings, &found))
-    COST_OF("valid_u64", , ds_valid_u64(numbers, n, words, 0, estimates) & 0, 0)
     COST_OF("select", , ds_select(answers, n, positions) & 0, 0)
 }
 
@@ -323,6 +338,7 @@ int main(int argc, char **argv)
     check(fread(one_home, 8, MOST, file) == MOST && !fclose(file), "read");
     for (size_t i = 0; i < 2 * MOST; i++) numbers[i] = random_of(i);
     memset(spaces, ' ', sizeof spaces);
+    memset(bitmap, 0xdf, sizeof bitmap);
     memset(one_word, 'a', sizeof one_word);
     for (size_t i = 0; i < MOST; i++) {
         weights[i] = 1 + i % 3, signed_weights[i] = (int64_t)(i % 5) - 2;

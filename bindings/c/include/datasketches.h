@@ -13,14 +13,14 @@
  * A call returns the first error in this order:
  *
  *  1. DS_BAD_ARGUMENT, by the checks of `datasketches_checks.h` (see below), and if the `kind` of a `ds_items` is none of the
- *     seven kinds of items.
+ *     seven kinds of items, its bitmap has too few bits, or words or lines have a bitmap.
  *  2. Errors of arguments: DS_BAD_OFFSETS, DS_INVALID_UTF8, DS_NO_ROOM if items and their weights or results differ in number,
  *     DS_BAD_FRACTION.
  *  3. Errors of handles: DS_NO_SKETCH if the handle has no sketch, DS_WRONG_KIND if its sketch is of a kind without this call,
  *     or is shared and the call changes it; of several handles, the first one's that has such an error, in the order of arguments
  *     and of an array. All calls return these but `ds_free`, those whose names end in `_new`, `ds_deserialize` and
- *     `ds_deserialize_prefix`, those on images in place, and the calls for sizes at the end. Calls with a `kind` return
- *     DS_WRONG_KIND for one that they do not take.
+ *     `ds_deserialize_prefix`, those on images in place, `ds_num_items`, and the calls for sizes at the end. Calls with a `kind`
+ *     return DS_WRONG_KIND for one that they do not take.
  *  4. The errors in the call's comment, in their order there. DS_NO_MEMORY comes when an allocation fails, which may be earlier.
  *     DS_NO_ROOM of `serialize` and `rows` comes last.
  *
@@ -96,7 +96,8 @@ enum {
     DS_WRONG_KIND = -2,    /* no call for this kind, or no such kind; or the sketch is shared and the call changes it */
     DS_NO_ROOM = -3,       /* a buffer of the caller has not the length that the call needs */
     DS_BAD_FRACTION = -4,  /* a fraction is not above 0 and at most 1 */
-    DS_BAD_ARGUMENT = -5,  /* items of no kind; from checks: the same handle twice, or null where there are values or options */
+    DS_BAD_ARGUMENT = -5,  /* items of no kind or with a wrong bitmap; from checks: the same handle twice, or null where there are
+                            * values or options */
     DS_NO_RANDOM = -7      /* a key was to be drawn, and the system has no random bytes */
 };
 
@@ -311,7 +312,15 @@ enum {
     DS_ITEMS_LINES = 6      /* the lines of a string */
 };
 
-/* Many items of one kind, where they are. The members of other kinds are pointers to no values, and never null. */
+/* Many items of one kind, where they are. The members of other kinds are pointers to no values, and never null.
+ *
+ * Numbers and strings are rows, some of which may be missing, as nulls in a column of Arrow. Row i is there if bit `first_bit` + i
+ * of the bitmap is set. Bit k is the bit k % 8, lowest first, of byte k / 8. Without a bitmap each row is there.
+ *
+ * Missing rows are neither inserted nor counted, and their weights are not read. Their results are false, and their estimates and
+ * bounds 0. The number of items that a call needs includes missing rows. Their offsets and strings are checked like those of other
+ * rows. Calls return DS_BAD_ARGUMENT if the bitmap has fewer than n bits from `first_bit` on for n rows, or if words or lines have
+ * a bitmap. */
 typedef struct ds_items {
     int32_t kind;
     const uint64_t *u64s;
@@ -326,6 +335,9 @@ typedef struct ds_items {
     size_t num_offsets32;
     const ds_string *strings;
     size_t num_strings;
+    const uint8_t *validity; /* the bitmap of rows */
+    size_t num_validity;     /* its number of bytes: 0 if there is no bitmap */
+    size_t first_bit;        /* the bit of the first row */
 } ds_items;
 
 /* Returns a pointer to no values. */
@@ -340,7 +352,7 @@ static inline ds_items ds_no_items(int32_t kind)
 {
     void *none = ds_no_values();
     ds_items items = {kind, (uint64_t *)none, 0, (int64_t *)none, 0, (uint8_t *)none, 0, (uint64_t *)none, 0, (uint32_t *)none, 0,
-                      (ds_string *)none, 0};
+                      (ds_string *)none, 0, (uint8_t *)none, 0, 0};
     return items;
 }
 
@@ -381,9 +393,9 @@ static inline ds_items ds_items_in(int32_t kind, const uint8_t *bytes, size_t nu
 
 /* Return the strings of one buffer of bytes as items. String i is the bytes from offset i up to offset i + 1, so there is one
  * more offset than strings. The first offset may be above 0. Offsets of 64 bits are those of Arrow's `large_utf8`, and offsets of
- * 32 bits those of its `utf8`. Pass offsets in `int64_t` or `int32_t` by a cast of the pointer. Calls return DS_BAD_OFFSETS if
- * there is no offset, an offset is below the one before it, or the last offset exceeds the number of bytes. They return
- * DS_INVALID_UTF8 if a string is not UTF-8. */
+ * 32 bits those of its `utf8`. Pass offsets in `int64_t` or `int32_t` by a cast of the pointer: one below 0 is then at least 2^63
+ * or 2^31, and an error unless there are as many bytes. Calls return DS_BAD_OFFSETS if there is no offset, an offset is below the
+ * one before it, or the last offset exceeds the number of bytes. They return DS_INVALID_UTF8 if a string is not UTF-8. */
 static inline ds_items ds_items_offsets(const uint8_t *bytes, size_t num_bytes, const uint64_t *offsets, size_t num_offsets)
 {
     ds_items items = ds_items_in(DS_ITEMS_OFFSETS, bytes, num_bytes);
@@ -412,6 +424,40 @@ static inline ds_items ds_items_lines(const uint8_t *text, size_t length)
 {
     return ds_items_in(DS_ITEMS_LINES, text, length);
 }
+
+/* Returns the number of rows, or 0 for words and lines. It checks nothing: see `ds_num_items`. */
+static inline size_t ds_num_rows(const ds_items *items)
+{
+    switch (items->kind) {
+    case DS_ITEMS_U64: return items->num_u64s;
+    case DS_ITEMS_I64: return items->num_i64s;
+    case DS_ITEMS_OFFSETS: return items->num_offsets - (items->num_offsets > 0);
+    case DS_ITEMS_OFFSETS32: return items->num_offsets32 - (items->num_offsets32 > 0);
+    case DS_ITEMS_STRINGS: return items->num_strings;
+    default: return 0;
+    }
+}
+
+/* Returns numbers or strings with a bitmap of their rows, which has at least `first_bit` + n bits for n rows. Null is no bitmap.
+ * For a slice of a column of Arrow, pass a pointer to its first number or offset, and the slice's start as `first_bit`:
+ *
+ *     ds_items rows = ds_items_offsets32(bytes, num_bytes, (const uint32_t *)offsets + start, num_rows + 1);
+ *     rows = ds_items_with_validity(rows, validity, start);
+ *
+ * With words or lines, calls return DS_BAD_ARGUMENT. */
+static inline ds_items ds_items_with_validity(ds_items items, const uint8_t *validity, size_t first_bit)
+{
+    size_t rows = ds_num_rows(&items), num_bytes = first_bit / 8 + rows / 8 + (first_bit % 8 + rows % 8 + 7) / 8;
+    bool of_text = items.kind == DS_ITEMS_WORDS || items.kind == DS_ITEMS_LINES;
+    items.validity = validity ? validity : (const uint8_t *)ds_no_values();
+    items.num_validity = !validity ? 0 : of_text ? 1 : num_bytes;
+    items.first_bit = validity ? first_bit : 0;
+    return items;
+}
+
+/* Writes the number of items: of rows with the missing ones, of words, or of lines. Returns DS_BAD_ARGUMENT, DS_BAD_OFFSETS or
+ * DS_INVALID_UTF8 as each call with these items: then `count` stays as it was. Takes no handle and does not allocate. */
+int32_t ds_num_items(const ds_items *items, size_t *count);
 
 /* --- Bloom filters: sets of items. An item that was inserted is contained, unless a later intersection, difference or reset
  * removed some of its positions. An item that was not inserted may be contained too: a false positive. --- */
@@ -458,6 +504,18 @@ int32_t ds_bloom_image_contains_string(const uint8_t *image, size_t length, cons
 int32_t ds_bloom_image_contains_all(const uint8_t *image, size_t length, const ds_items *items, bool *results,
                                     size_t num_results);
 
+/* Writes the positions of the results that are true to the front of `positions`, in ascending order, and returns their number:
+ * a selection vector. `positions` has room for `count` positions. What is behind the written positions may be overwritten. */
+static inline size_t ds_select(const bool *results, size_t count, size_t *positions)
+{
+    size_t found = 0;
+    for (size_t i = 0; i < count; i++) {
+        positions[found] = i;
+        found += results[i];
+    }
+    return found;
+}
+
 /* --- Weights of many items, of Count-Min sketches and of frequent items. A Count-Min sketch takes items of each kind. A sketch
  * of frequent items takes numbers of its own type, or strings, words and lines, and returns DS_WRONG_KIND for other items. --- */
 
@@ -469,7 +527,8 @@ int32_t ds_update_all(ds_sketch *handle, const ds_items *items);
 /* Adds a weight to each item's, in order, in a Count-Min sketch with weights in uint64_t or in frequent items. Returns DS_NO_ROOM
  * unless `num_weights` is the number of items. Returns DS_WEIGHT_OVERFLOW if the total would exceed 2^64 - 1 with all weights:
  * then none is added. Frequent items return DS_NO_MEMORY for the first item without memory: then the items before it are added,
- * and no others. */
+ * and no others. With a bitmap, the call copies the weights of the rows that are there. It allocates 8 bytes for each row, and
+ * returns DS_NO_MEMORY if that fails, before errors of the handle. Then nothing changes. */
 int32_t ds_update_all_weighted(ds_sketch *handle, const ds_items *items, const uint64_t *weights, size_t num_weights);
 
 /* --- Count-Min sketches with weights in uint64_t. An estimate is at most the total, and at least the item's own weight: what
@@ -668,79 +727,6 @@ int32_t ds_frequent_items_i64_rows(ds_sketch *handle, bool no_false_negatives, u
 int32_t ds_frequent_items_string_rows(ds_sketch *handle, bool no_false_negatives, uint64_t threshold, uint8_t *bytes,
                                       size_t room_for_bytes, uint64_t *offsets, size_t num_offsets,
                                       ds_frequent_items_bounds *bounds, size_t num_bounds, size_t *count, size_t *num_bytes);
-
-/* --- Columns with nulls, as in Arrow. Columns of strings without nulls need none of these functions: `ds_items_offsets` and
- * `ds_items_offsets32` take their offsets. These functions of the header allocate nothing. A bitmap `validity` says which items
- * are there: item i is there if bit `validity_offset` + i is set, where bit k is the bit k % 8, lowest first, of byte k / 8. If
- * `validity` is null, all items are there. For a slice of a column, pass pointers to its first offset and number, and the slice's
- * start as `validity_offset`. --- */
-
-/* Returns whether item i is there. `validity` is not null. */
-static inline bool ds_is_valid(const uint8_t *validity, size_t validity_offset, size_t i)
-{
-    size_t k = validity_offset + i;
-    return validity[k / 8] >> k % 8 & 1;
-}
-
-/* Makes an array of the strings of Arrow's `utf8` and `large_utf8` that are there, in order, for `ds_items_strings`. String i is
- * the bytes from offset i up to offset i + 1, so `count` strings have `count` + 1 offsets. If `count` is 0, no offset is read.
- * `strings` has room for `count` strings. They point into `bytes`. `num_strings` is their number.
- *
- * Returns DS_BAD_ARGUMENT if `bytes`, `offsets` or `strings` is null with a count above 0. Returns DS_BAD_OFFSETS if the first
- * offset is below 0, an offset is below the one before it, or the last offset passes the end of the bytes. The offsets of
- * strings that are not there are checked too. Then nothing is written. */
-#define DS_STRINGS_FROM(function, offset) \
-    static inline int32_t function(const uint8_t *bytes, size_t num_bytes, const offset *offsets, size_t count, \
-                                   const uint8_t *validity, size_t validity_offset, ds_string *strings, size_t *num_strings) \
-    { \
-        bool bad = false; \
-        size_t found = 0; \
-        if ((!bytes && num_bytes) || ((!offsets || !strings) && count)) return DS_BAD_ARGUMENT; \
-        for (size_t i = 0; i < count; i++) bad |= offsets[i + 1] < offsets[i]; \
-        if (count) bad |= offsets[0] < 0 || (uint64_t)offsets[count] > num_bytes; \
-        if (bad) return DS_BAD_OFFSETS; \
-        if (!bytes) bytes = (const uint8_t *)""; \
-        for (size_t i = 0; i < count; i++) { \
-            if (validity && !ds_is_valid(validity, validity_offset, i)) continue; \
-            strings[found].bytes = bytes + offsets[i]; \
-            strings[found].length = (size_t)(offsets[i + 1] - offsets[i]); \
-            found++; \
-        } \
-        *num_strings = found; \
-        return DS_OK; \
-    }
-DS_STRINGS_FROM(ds_strings_from_utf8, int32_t)
-DS_STRINGS_FROM(ds_strings_from_large_utf8, int64_t)
-#undef DS_STRINGS_FROM
-
-/* Copies the numbers that are there to the front of `out`, in order, and returns their number. With the bitmap of a column of
- * strings it keeps the weights of the strings that are there. `out` has room for `count` numbers, and may be `items`. What is
- * behind the copied numbers may be overwritten. */
-#define DS_VALID(function, type) \
-    static inline size_t function(const type *items, size_t count, const uint8_t *validity, size_t validity_offset, type *out) \
-    { \
-        size_t found = 0; \
-        for (size_t i = 0; i < count; i++) { \
-            out[found] = items[i]; \
-            found += !validity || ds_is_valid(validity, validity_offset, i); \
-        } \
-        return found; \
-    }
-DS_VALID(ds_valid_u64, uint64_t)
-DS_VALID(ds_valid_i64, int64_t)
-#undef DS_VALID
-
-/* Writes the positions of the results that are true to the front of `positions`, in ascending order, and returns their number:
- * a selection vector. `positions` has room for `count` positions. What is behind the written positions may be overwritten. */
-static inline size_t ds_select(const bool *results, size_t count, size_t *positions)
-{
-    size_t found = 0;
-    for (size_t i = 0; i < count; i++) {
-        positions[found] = i;
-        found += results[i];
-    }
-    return found;
-}
 
 /* --- Chunks of a stream. These calls take no handle, and return a number of bytes, never an error. With the checks they return 0
  * at null, whatever the length. --- */

@@ -32,7 +32,7 @@ static inline bool ds_have_null(const ds_string *strings, size_t count)
 static inline bool ds_items_have_null(const ds_items *items)
 {
     return !items || !items->u64s || !items->i64s || !items->bytes || !items->offsets || !items->offsets32 || !items->strings ||
-           ds_have_null(items->strings, items->num_strings);
+           !items->validity || ds_have_null(items->strings, items->num_strings);
 }
 
 /* Returns whether there are handles at null, or the handle is one of them. */
@@ -171,6 +171,12 @@ DS_CHECK_BYTES_AND(i64_out, int64_t *)
 DS_CHECK_BYTES_AND(bounds_out, ds_frequent_items_bounds *)
 #undef DS_CHECK_BYTES_AND
 
+/* The number of items. */
+static inline int32_t ds_check_num_items(int32_t (*call)(const ds_items *, size_t *), const ds_items *items, size_t *count)
+{
+    return ds_items_have_null(items) ? DS_BAD_ARGUMENT : call(items, count);
+}
+
 /* Many items. */
 static inline int32_t ds_check_items(int32_t (*call)(ds_sketch *, const ds_items *), ds_sketch *handle, const ds_items *items)
 {
@@ -236,6 +242,7 @@ static inline int32_t ds_check_string_rows(int32_t (*call)(ds_sketch *, bool, ui
 #define ds_deserialize(...) ds_check_image(ds_deserialize, __VA_ARGS__)
 #define ds_deserialize_prefix(...) ds_check_prefix(ds_deserialize_prefix, __VA_ARGS__)
 #define ds_share(...) ds_check_two_handles(ds_share, __VA_ARGS__)
+#define ds_num_items(...) ds_check_num_items(ds_num_items, __VA_ARGS__)
 #define ds_bloom_insert_string(...) ds_check_bytes(ds_bloom_insert_string, __VA_ARGS__)
 #define ds_bloom_insert_all(...) ds_check_items(ds_bloom_insert_all, __VA_ARGS__)
 #define ds_bloom_contains_string(...) ds_check_bytes(ds_bloom_contains_string, __VA_ARGS__)

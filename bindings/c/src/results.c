@@ -7,7 +7,8 @@
     X(DS_WRONG_KIND, "WrongKind", "the sketch is of another kind") \
     X(DS_NO_ROOM, "NoRoom", "the buffer has not the length that is needed") \
     X(DS_BAD_FRACTION, "BadFraction", "the fraction is not above 0 and at most 1") \
-    X(DS_BAD_ARGUMENT, "BadArgument", "items of no kind, the same handle twice, or null where there are values or options") \
+    X(DS_BAD_ARGUMENT, "BadArgument", \
+      "items of no kind or with a wrong bitmap, the same handle twice, or null where there are values or options") \
     X(DS_NO_RANDOM, "NoRandom", "the system has no random bytes for a key")
 
 /* Returns the result's name or its message, or NULL if it has none. */

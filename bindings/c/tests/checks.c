@@ -10,12 +10,13 @@
 
 _Static_assert(sizeof(ds_sketch) == sizeof(void *), "a handle is one word");
 _Static_assert(sizeof(ds_string) == 16 && offsetof(ds_string, length) == 8, "ds_string");
-_Static_assert(sizeof(ds_items) == 104 && offsetof(ds_items, kind) == 0 && offsetof(ds_items, u64s) == 8 &&
+_Static_assert(sizeof(ds_items) == 128 && offsetof(ds_items, kind) == 0 && offsetof(ds_items, u64s) == 8 &&
                    offsetof(ds_items, num_u64s) == 16 && offsetof(ds_items, i64s) == 24 && offsetof(ds_items, num_i64s) == 32 &&
                    offsetof(ds_items, bytes) == 40 && offsetof(ds_items, num_bytes) == 48 && offsetof(ds_items, offsets) == 56 &&
                    offsetof(ds_items, num_offsets) == 64 && offsetof(ds_items, offsets32) == 72 &&
                    offsetof(ds_items, num_offsets32) == 80 && offsetof(ds_items, strings) == 88 &&
-                   offsetof(ds_items, num_strings) == 96,
+                   offsetof(ds_items, num_strings) == 96 && offsetof(ds_items, validity) == 104 &&
+                   offsetof(ds_items, num_validity) == 112 && offsetof(ds_items, first_bit) == 120,
                "ds_items");
 _Static_assert(DS_ITEMS_U64 == 0 && DS_ITEMS_I64 == 1 && DS_ITEMS_OFFSETS == 2 && DS_ITEMS_OFFSETS32 == 3 &&
                    DS_ITEMS_STRINGS == 4 && DS_ITEMS_WORDS == 5 && DS_ITEMS_LINES == 6,
@@ -159,6 +160,7 @@ static void holds_only(const ds_items *it, int32_t kind, size_t u64s, size_t i64
     CHECK(it->kind == kind && it->num_u64s == u64s && it->num_i64s == i64s && it->num_bytes == bytes);
     CHECK(it->num_offsets == offsets && it->num_offsets32 == offsets32 && it->num_strings == strings);
     CHECK(it->u64s && it->i64s && it->bytes && it->offsets && it->offsets32 && it->strings);
+    CHECK(it->validity && it->num_validity == 0 && it->first_bit == 0);
 }
 
 /* The functions that make items. */
@@ -210,7 +212,7 @@ static void names(void)
     CHECK(strcmp(ds_result_message(DS_NO_SKETCH), "the handle has no sketch") == 0);
     CHECK(strcmp(ds_result_message(DS_BAD_OFFSETS), "offsets missing, descending or out of range") == 0);
     CHECK(strcmp(ds_result_message(DS_BAD_ARGUMENT),
-                 "items of no kind, the same handle twice, or null where there are values or options") == 0);
+                 "items of no kind or with a wrong bitmap, the same handle twice, or null where there are values or options") == 0);
 #define IS_NAMED(number, constant, name, message) \
     CHECK(strcmp(ds_result_name(number), name) == 0 && strcmp(ds_result_message(constant), message) == 0);
     DS_SKETCH_ERRORS(IS_NAMED)
@@ -269,7 +271,7 @@ static void make_items(void)
         if (kind == DS_ITEMS_OFFSETS) no_items[kind] = ds_items_offsets(NULL, 0, ENDS, 1);
         if (kind == DS_ITEMS_OFFSETS32) no_items[kind] = ds_items_offsets32(NULL, 0, ENDS32, 1);
         /* the pointers of other kinds are checked too, also without values */
-        for (int pointer = 0; pointer < 6; pointer++) {
+        for (int pointer = 0; pointer < 7; pointer++) {
             ds_items *it = &null_items[num_null_items++];
             *it = one_item[kind];
             if (pointer == 0) it->u64s = NULL;
@@ -278,6 +280,7 @@ static void make_items(void)
             if (pointer == 3) it->offsets = NULL;
             if (pointer == 4) it->offsets32 = NULL;
             if (pointer == 5) it->strings = NULL;
+            if (pointer == 6) it->validity = NULL;
         }
     }
 }
@@ -408,8 +411,17 @@ COUNTS(u64, uint64_t) COUNTS(i64, int64_t)
 }
 
 /* Calls that take no handle. */
-static void text(void)
+static void without_handle(void)
 {
+    size_t count = 77;
+    REJECTS(ds_num_items(NULL, &count));
+    for (size_t i = 0; i < num_null_items; i++) REJECTS(ds_num_items(&null_items[i], &count));
+    CHECK(count == 77);
+    for (size_t i = 0; i < ITEM_KINDS; i++) {
+        CHECK(ds_num_items(&one_item[i], &count) == DS_OK && count == 1);
+        CHECK(ds_num_items(&no_items[i], &count) == DS_OK && count == 0);
+    }
+    CHECK(ds_num_items(AS_ITEMS(words, (const uint8_t[]){'a', ' ', 'b'}, 3), &count) == DS_OK && count == 2);
     CHECK(ds_finished_words(NULL, 9) == 0 && ds_finished_lines(NULL, 9) == 0 && ds_valid_utf8(NULL, 9) == 0);
     CHECK(ds_finished_lines((const uint8_t *)"a\nb", 3) == 2);
     CHECK(ds_keyed_hash(NULL, 9, K0, K1) == ds_keyed_hash(B, 0, K0, K1));
@@ -451,7 +463,7 @@ int main(void)
     frequent_u64();
     frequent_i64();
     frequent_strings();
-    text();
+    without_handle();
     once();
 #endif
     return report();

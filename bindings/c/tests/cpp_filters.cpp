@@ -426,9 +426,79 @@ static void filters()
     CHECK(take(all.status()).bits_used == 0);
 }
 
+/* Checks rows with a bitmap, which begins at each bit of three bytes, beside the rows that are there. */
+template <class Rows, class Item> void rows_are(const Rows &rows, const std::vector<Item> &items)
+{
+    const std::uint8_t bits[] = {0x35, 0xc9, 0x5e, 0x01};
+    for (std::size_t first_bit = 0; first_bit + items.size() <= 32; first_bit++) {
+        const auto some = ds::with_validity(rows, bits, first_bit);
+        std::vector<bool> there, wanted;
+        std::vector<Item> kept;
+        std::vector<std::uint64_t> weights, kept_weights;
+        for (std::size_t i = 0; i < items.size(); i++) {
+            there.push_back(bits[(first_bit + i) / 8] >> (first_bit + i) % 8 & 1);
+            wanted.push_back(there[i] && i % 2 == 0);
+            weights.push_back(there[i] ? i + 1 : UINT64_MAX);
+            if (there[i]) kept.push_back(items[i]), kept_weights.push_back(i + 1);
+        }
+        CHECK(all_inserted(some) == all_inserted(kept));
+        filter made = new_filter();
+        for (std::size_t i = 0; i < items.size(); i += 2) DONE(made.insert(items[i]));
+        CHECK(take(made.contains_all(some)) == wanted);
+        counts one = take(counts::create(4, 64)), two = take(counts::create(4, 64));
+        DONE(one.update_all(some, weights));
+        DONE(two.update_all(kept, kept_weights));
+        CHECK(take(one.equal(two)));
+        std::vector<std::uint64_t> estimates = take(one.estimate_all(some)), of_kept = take(two.estimate_all(kept));
+        CHECK(estimates.size() == items.size());
+        for (std::size_t i = 0, k = 0; i < items.size(); i++) CHECK(estimates[i] == (there[i] ? of_kept[k++] : 0));
+    }
+    CHECK(all_inserted(ds::with_validity(rows, nullptr)) == all_inserted(items));
+    CHECK(all_inserted(ds::with_validity(ds::with_validity(rows, bits), nullptr)) == all_inserted(items));
+}
+
+static void rows_with_bitmaps()
+{
+    const std::vector<std::uint64_t> items{7, UINT64_MAX, 3, 0, 5, 8, 13, 21, 34};
+    const std::vector<unsigned long long> same(items.begin(), items.end());
+    const std::vector<std::int64_t> with_sign{7, -1, 3, INT64_MIN, 0, -5, 8};
+    const std::vector<std::string_view> words{"a", "", "b", "\xc3\xa4", "cd"};
+    const auto *bytes = reinterpret_cast<const std::uint8_t *>("ab\xc3\xa4"
+                                                               "cd");
+    const std::vector<ds_string> pointed{{bytes, 1}, {bytes, 0}, {bytes + 1, 1}, {bytes + 2, 2}, {bytes + 4, 2}};
+    const std::int32_t offsets[] = {0, 1, 1, 2, 4, 6};
+    const std::uint64_t wide[] = {0, 1, 1, 2, 4, 6};
+    rows_are(items, items);
+    rows_are(same, items);
+    rows_are(ds::span(items.data(), items.size()), items);
+    rows_are(with_sign, with_sign);
+    rows_are(pointed, words);
+    rows_are(ds::offset_strings("ab\xc3\xa4"
+                                "cd",
+                                offsets, 6),
+             words);
+    rows_are(ds::offset_strings("ab\xc3\xa4"
+                                "cd",
+                                wide, 6),
+             words);
+
+    const std::uint8_t bits[] = {0x0d};
+    signed_numbers heavy = take(signed_numbers::create(64, 48, KEY));
+    DONE(heavy.update_all(ds::with_validity(with_sign, bits)));
+    auto bounds = take(heavy.bounds_all(ds::with_validity(with_sign, bits)));
+    CHECK(bounds.size() == 7 && bounds[0].estimate == 1 && bounds[1].upper_bound == 0 && bounds[3].lower_bound == 1);
+    CHECK(take(heavy.status()).total_weight == 3);
+    bool found[2] = {true, true};
+    FAILS(DS_BAD_ARGUMENT, new_filter().insert_all(ds::with_validity(ds::words("a b"), bits)));
+    FAILS(DS_BAD_ARGUMENT, new_filter().contains_all(ds::with_validity(ds::lines("a\nb"), bits), found));
+    FAILS(DS_NO_ROOM, new_filter().contains_all(ds::with_validity(items, bits), found));
+    CHECK(found[0] && found[1]);
+}
+
 int main()
 {
     single_items();
+    rows_with_bitmaps();
     ranges_of_strings();
     words_and_lines();
     ranges_of_numbers<std::uint64_t>();

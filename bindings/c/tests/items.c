@@ -1,5 +1,5 @@
-/* Makes each call on many items with items of each kind, beside a call for each item. Checks that each error comes in the header's
- * order and changes nothing. Prints the checks that failed. Exits with 1 if there is any. */
+/* Makes each call on many items with items of each kind, with bitmaps and without, beside a call for each item. Checks that each
+ * error comes in the header's order and changes nothing. Prints the checks that failed. Exits with 1 if there is any. */
 #include <datasketches.h>
 #include <string.h>
 
@@ -105,6 +105,8 @@ static bool are_same(ds_sketch *a, ds_sketch *b)
 struct sequence {
     ds_items items;
     size_t count, length;
+    bool missing[MOST];
+    uint8_t validity[MOST];
     uint64_t numbers[MOST], offsets[MOST + 1];
     int64_t with_sign[MOST];
     uint32_t offsets32[MOST + 1];
@@ -177,10 +179,24 @@ static void cut(struct sequence *it)
     }
 }
 
-/* Makes a sequence of a kind by chance. */
+/* Makes rows missing by a bitmap, which begins within a byte or at one. Bits that belong to no row are chosen by chance, too. */
+static void make_gaps(struct sequence *it)
+{
+    size_t first_bit = chance(16), one_of = 1 + chance(4);
+    for (size_t i = 0; i < MOST; i++) it->validity[i] = (uint8_t)chance(256);
+    for (size_t i = 0; i < it->count; i++) {
+        uint8_t *byte = &it->validity[(first_bit + i) / 8], bit = (uint8_t)(1u << (first_bit + i) % 8);
+        it->missing[i] = chance(one_of) == 0;
+        *byte = (uint8_t)(it->missing[i] ? *byte & ~bit : *byte | bit);
+    }
+    it->items = ds_items_with_validity(it->items, it->validity, first_bit);
+}
+
+/* Makes a sequence of a kind by chance, without missing rows. */
 static void make_sequence(struct sequence *it, int32_t kind)
 {
     it->count = 0;
+    memset(it->missing, 0, sizeof it->missing);
     make_text(it);
     switch (kind) {
     case DS_ITEMS_U64:
@@ -257,21 +273,33 @@ static int32_t make_one(int call, ds_sketch *handle, int32_t kind, const struct 
     return found < 0 ? found : DS_OK;
 }
 
+/* Writes what a call writes for a missing row `i`. */
+static void write_nothing(int call, struct values *values, size_t i)
+{
+    if (call == CONTAINS || call == CONTAINS_AND_INSERT || call == IMAGE_CONTAINS) values->found[i] = false;
+    if (call == ESTIMATE) values->estimates[i] = 0;
+    if (call == ESTIMATE_SIGNED) values->signed_estimates[i] = 0;
+    if (call == BOUNDS) values->bounds[i] = (ds_frequent_items_bounds){0, 0, 0};
+}
+
 /* Makes each call that takes these items and the sketches `many` and `single`, of one kind and of the same history. */
 static void compare(ds_sketch *many, ds_sketch *single, int32_t kind, const struct sequence *it)
 {
     for (int call = 0; call < CALLS; call++) {
         struct values all, each;
         if (!is_taken(call, kind, it->items.kind)) continue;
-        memset(&all, 0, sizeof all);
+        memset(&all, 1, sizeof all);
         for (size_t i = 0; i < it->count; i++) {
-            all.weights[i] = chance(5) ? chance(4) : (uint64_t)1 << 40;
-            all.with_sign[i] = (int64_t)chance(7) - 3;
+            all.weights[i] = it->missing[i] ? UINT64_MAX : chance(5) ? chance(4) : (uint64_t)1 << 40;
+            all.with_sign[i] = it->missing[i] ? INT64_MIN : (int64_t)chance(7) - 3;
         }
         each = all;
         if (kind == DS_BLOOM) CHECK(ds_serialize(many, image, sizeof image, &image_length) == DS_OK);
         CHECK(make(call, many, &it->items, &all, it->count) == DS_OK);
-        for (size_t i = 0; i < it->count; i++) CHECK(make_one(call, single, kind, it, i, &each) == DS_OK);
+        for (size_t i = 0; i < it->count; i++) {
+            if (it->missing[i]) write_nothing(call, &each, i);
+            else CHECK(make_one(call, single, kind, it, i, &each) == DS_OK);
+        }
         CHECK(are_same(many, single) && memcmp(&all, &each, sizeof all) == 0);
     }
 }
@@ -285,6 +313,9 @@ static void beside_single_calls(void)
             for (int32_t kind_of_items = 0; kind_of_items < ITEM_KINDS; kind_of_items++) {
                 static struct sequence items;
                 make_sequence(&items, kind_of_items);
+                compare(&many[kind], &single[kind], kind, &items);
+                if (kind_of_items >= DS_ITEMS_WORDS) continue;
+                make_gaps(&items);
                 compare(&many[kind], &single[kind], kind, &items);
             }
         }
@@ -362,6 +393,57 @@ static const ds_string BAD_STRING[] = {{BYTES + 9, 3}};
 static const uint64_t NUMBERS[] = {3, UINT64_MAX, 3};
 static const int64_t WITH_SIGN[] = {3, -1, INT64_MIN};
 
+/* Bitmaps: their number of bytes, their first bit, and whether they have too few bits for five rows. */
+static const uint8_t BITS[] = {0xa7, 0x5c, 0x01};
+static const struct {
+    size_t num_bytes, first_bit;
+    bool is_short;
+} BITMAPS[] = {{1, 0, false}, {1, 4, true}, {1, SIZE_MAX - 4, true}, {2, 4, false}, {3, 19, false}, {3, SIZE_MAX, true}};
+
+/* Writes five rows of each kind with each bitmap, and words and lines, which take none. The wrong offsets and strings belong to
+ * rows that the first bitmap lacks. Returns how many were written. */
+static size_t give_bitmaps(struct given *out)
+{
+    static const uint64_t numbers[5] = {3, 1, 4, 1, 5}, offsets[6] = {0, 5, 5, 8, 8, 12}, bad[6] = {0, 5, 5, 12, 8, 12};
+    static const uint64_t cut[6] = {0, 5, 5, 5, 7, 12};
+    static const uint32_t offsets32[6] = {0, 5, 5, 8, 8, 12}, bad32[6] = {0, 5, 5, 12, 8, 12}, cut32[6] = {0, 5, 5, 5, 7, 12};
+    static const int64_t with_sign[5] = {3, -1, 4, -1, 5};
+    static const ds_string cut_strings[5] = {{BYTES, 5}, {BYTES, 5}, {BYTES, 5}, {BYTES + 5, 2}, {BYTES, 5}};
+    const struct given rows[] = {
+        {ds_items_u64(numbers, 5), 5, DS_OK},
+        {ds_items_i64(with_sign, 5), 5, DS_OK},
+        {ds_items_offsets(BYTES, 12, offsets, 6), 5, DS_OK},
+        {ds_items_offsets32(BYTES, 12, offsets32, 6), 5, DS_OK},
+        {ds_items_strings(STRINGS, 5), 5, DS_OK},
+        {ds_items_offsets(BYTES, 12, bad, 6), 5, DS_BAD_OFFSETS},
+        {ds_items_offsets32(BYTES, 12, bad32, 6), 5, DS_BAD_OFFSETS},
+        {ds_items_offsets(BYTES, 12, cut, 6), 5, DS_INVALID_UTF8},
+        {ds_items_offsets32(BYTES, 12, cut32, 6), 5, DS_INVALID_UTF8},
+        {ds_items_strings(cut_strings, 5), 5, DS_INVALID_UTF8},
+        {ds_items_words(TEXT, sizeof TEXT - 1), 4, DS_BAD_ARGUMENT},
+        {ds_items_lines(BAD_TEXT, sizeof BAD_TEXT - 1), 2, DS_BAD_ARGUMENT},
+        {ds_items_words(NULL, 0), 0, DS_BAD_ARGUMENT},
+    };
+    size_t count = 0;
+    for (size_t i = 0; i < COUNT(rows); i++) {
+        for (size_t k = 0; k < COUNT(BITMAPS); k++) {
+            out[count] = rows[i];
+            out[count].items.validity = BITS;
+            out[count].items.num_validity = BITMAPS[k].num_bytes;
+            out[count].items.first_bit = BITMAPS[k].first_bit;
+            if (BITMAPS[k].is_short) out[count].error = DS_BAD_ARGUMENT;
+            count++;
+        }
+    }
+    /* without a bitmap, the first bit is not read; no rows need no bits, wherever the first one is */
+    out[count] = rows[0];
+    out[count++].items.first_bit = SIZE_MAX;
+    out[count++] = (struct given){ds_items_with_validity(ds_items_u64(NULL, 0), BITS, 8), 0, DS_OK};
+    out[count] = out[count - 1];
+    out[count++].items.first_bit = SIZE_MAX;
+    return count;
+}
+
 /* Writes all items that are given to the calls, and returns how many. */
 static size_t give_all(struct given *out)
 {
@@ -407,7 +489,7 @@ static size_t give_all(struct given *out)
         out[count++].items.kind = unknown[i];
         out[count++].items.kind = unknown[i];
     }
-    return count;
+    return count + give_bitmaps(out + count);
 }
 
 /* Returns the first error in the header's order of a call with `places` weights or results. A `kind` of 0 is no sketch, or an image
@@ -440,8 +522,12 @@ static void call_with(int call, ds_sketch *sketch, int32_t kind, const struct gi
  * more or fewer. */
 static void errors(void)
 {
-    static struct given given[100];
+    static struct given given[300];
     size_t count = give_all(given);
+    for (size_t i = 0; i < count; i++) {
+        size_t number = 77;
+        CHECK(ds_num_items(&given[i].items, &number) == given[i].error && number == (given[i].error ? 77 : given[i].count));
+    }
     for (int32_t kind = 0; kind <= KINDS; kind++) {
         ds_sketch sketch = DS_NONE;
         if (kind) {

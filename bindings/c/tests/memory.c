@@ -128,6 +128,44 @@ static int combine_many(void)
     return 0;
 }
 
+/* Adds weights to rows of which every second one is missing. If the copy of the weights fails, nothing is added. If an allocation
+ * fails for a string, those before it must have been added, and a second call adds the rest. */
+static int adds_rows(void)
+{
+    static const uint8_t every_second[8] = {0x55, 0x55, 0x55, 0x55, 0x55, 0x55, 0x55, 0x55};
+    static uint64_t weights[64];
+    static int64_t with_sign[64];
+    ds_sketch count = DS_NONE, signs = DS_NONE, frequent = DS_NONE;
+    DONE(&count, ds_count_min_new(&count, DS_COUNT_MIN_U64, 4, 128, 9001));
+    DONE(&signs, ds_count_min_new(&signs, DS_COUNT_MIN_I64, 4, 128, 9001));
+    DONE(&frequent, ds_frequent_items_new(&frequent, DS_FREQUENT_ITEMS_STRING, 128, 96, &(ds_key){7, 8}));
+    for (size_t i = 0; i < 64; i++) {
+        weights[i] = i % 2 ? UINT64_MAX : 3;
+        with_sign[i] = i % 2 ? INT64_MIN : -3;
+    }
+    for (int32_t kind = DS_ITEMS_OFFSETS; kind <= DS_ITEMS_STRINGS; kind++) {
+        const ds_items rows = ds_items_with_validity(strings_of(&forms, kind, 0, 64), every_second, 0);
+        DONE(&count, ds_update_all_weighted(&count, &rows, weights, 64));
+        DONE(&signs, ds_count_min_i64_update_all_weighted(&signs, &rows, with_sign, 64));
+        if (weight_of(&count) != 96 * (uint64_t)(kind - 1) || weight_of(&signs) != 96 * (uint64_t)(kind - 1)) return 1;
+        uint64_t start = weight_of(&frequent);
+        int32_t answer = ds_update_all_weighted(&frequent, &rows, weights, 64);
+        if (answer == DS_NO_MEMORY) {
+            size_t from = 2 * (size_t)((weight_of(&frequent) - start) / 3);
+            const ds_items rest = ds_items_with_validity(strings_of(&forms, kind, from, 64 - from), every_second, from);
+            answer = ds_update_all_weighted(&frequent, &rest, weights + from, 64 - from);
+        }
+        if (answer != DS_OK || weight_of(&frequent) != start + 96) return 1;
+        if (ds_frequent_items_bounds_all(&frequent, &rows, bounds, 64) != DS_OK) return 1;
+        for (size_t i = 0; i < 64; i++)
+            if (bounds[i].estimate != (i % 2 ? 0 : 3 * (uint64_t)(kind - 1))) return 1;
+    }
+    ds_free(&count);
+    ds_free(&signs);
+    ds_free(&frequent);
+    return 0;
+}
+
 /* Freezes a sketch and shares it. If an allocation fails, the sketch is as before, shared or not, and each handle keeps its own. */
 static int share_one(ds_sketch *one)
 {
@@ -218,7 +256,7 @@ int main(void)
         DONE(&copy, ds_deserialize_prefix(&copy, DS_FREQUENT_ITEMS_STRING, image, length, WITHIN_KEY(1 << 14, 7, 8), &used));
         if (used != length) return 1;
     }
-    if (combine_many()) return 1;
+    if (combine_many() || adds_rows()) return 1;
     DONE(&filter, ds_bloom_insert_all(&filter, AS_ITEMS(u64, items, 64)));
     keep(&filter);
     if (share_one(&filter) || share_one(&count) || share_one(&frequent) || share_one(&many)) return 1;

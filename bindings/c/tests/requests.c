@@ -507,6 +507,45 @@ static void many(void)
     ds_free(&frequent);
 }
 
+/* Rows of which the second is missing. Only the weights of the others are copied. */
+static void bitmaps(void)
+{
+    static const uint8_t validity[1] = {5};
+    ds_sketch filter = DS_NONE, count = DS_NONE, with_sign = DS_NONE, frequent = DS_NONE, none = DS_NONE;
+    ds_frequent_items_bounds bounds[3];
+    uint64_t estimates[3];
+    int64_t signed_estimates[3];
+    bool answers[3];
+    size_t number;
+    DO(ds_bloom_new(&filter, 256, 3, 9001));
+    DO(ds_count_min_new(&count, DS_COUNT_MIN_U64, 3, 64, 9001));
+    DO(ds_count_min_new(&with_sign, DS_COUNT_MIN_I64, 3, 64, 9001));
+    for (int32_t kind = 0; kind <= DS_ITEMS_STRINGS; kind++) {
+        const ds_items all = ds_items_with_validity(items[kind], validity, 0);
+        int32_t of_frequent = DS_FREQUENT_ITEMS_U64 + (kind < DS_ITEMS_OFFSETS ? kind : 2);
+        FREE(DS_OK, ds_num_items(&all, &number));
+        FREE(DS_OK, ds_bloom_insert_all(&filter, &all));
+        FREE(DS_OK, ds_bloom_contains_all(&filter, &all, answers, 3));
+        FREE(DS_OK, ds_bloom_contains_and_insert_all(&filter, &all, answers, 3));
+        FREE(DS_OK, ds_update_all(&count, &all));
+        ROW(1, 1, DS_OK, ds_update_all_weighted(&count, &all, WEIGHTS, 3));
+        FREE(DS_NO_ROOM, ds_update_all_weighted(&count, &all, WEIGHTS, 2));
+        ROW(1, 1, DS_NO_SKETCH, ds_update_all_weighted(&none, &all, WEIGHTS, 3));
+        FREE(DS_OK, ds_count_min_u64_estimate_all(&count, &all, estimates, 3));
+        ROW(1, 1, DS_OK, ds_count_min_i64_update_all_weighted(&with_sign, &all, DIFFERENCES, 3));
+        ROW(1, 1, DS_WRONG_KIND, ds_count_min_i64_update_all_weighted(&count, &all, DIFFERENCES, 3));
+        FREE(DS_OK, ds_count_min_i64_estimate_all(&with_sign, &all, signed_estimates, 3));
+        DO(ds_frequent_items_new(&frequent, of_frequent, 64, 48, NULL));
+        DO(ds_update_all(&frequent, &all));
+        ROW(1, 1, DS_OK, ds_update_all_weighted(&frequent, &all, WEIGHTS, 3));
+        FREE(DS_OK, ds_frequent_items_bounds_all(&frequent, &all, bounds, 3));
+    }
+    ds_free(&filter);
+    ds_free(&count);
+    ds_free(&with_sign);
+    ds_free(&frequent);
+}
+
 int main(void)
 {
     make_items();
@@ -518,6 +557,7 @@ int main(void)
     full();
     frequent_strings();
     many();
+    bitmaps();
     printf("%d of %d rows hold\n", rows - failures, rows);
     return failures != 0;
 }

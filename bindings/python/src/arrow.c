@@ -136,19 +136,19 @@ static bool find_rows(const ArrowArray *array, Run *run)
     run->start = (const char *)array->buffers[1] + array->offset * run->stride;
     run->validity = array->null_count != 0 ? array->buffers[0] : NULL;
     run->bit = (size_t)array->offset;
-    if (run->layout == STRINGS_32 || run->layout == STRINGS_64) run->bytes = array->buffers[2];
+    if (has_offsets(run)) run->bytes = array->buffers[2];
     return run->layout != VIEWS || find_view_buffers(array, run);
 }
 
 /* Reads a value of a dictionary. */
 static bool read_entry(const Run *run, size_t at, Item *entry)
 {
-    bool present = true;
+    uint8_t present = 1;
     ds_string string;
     *entry = (Item){0};
-    run_present(run, at, 1, &present);
-    entry->missing = !present;
-    if (!present) return true;
+    run_present(run, at, 1, &present, 0);
+    entry->missing = present == 0;
+    if (entry->missing) return true;
     if (run->layout == NUMBERS) {
         run_numbers(run, at, 1, &entry->value);
         entry->negative = run->with_sign && entry->value > INT64_MAX;

@@ -1,4 +1,4 @@
-/* Chunks: some items at a time, without the missing ones, as the library takes them. */
+/* Chunks: some items at a time, as the library takes them. */
 #include "items.h"
 
 #include <string.h>
@@ -11,12 +11,14 @@
 #define LONG_CHUNK ((size_t)1 << 19)
 #define LONG_WORK ((size_t)1 << 23)
 
-/* Returns whether all numbers are below 2^63, and so have the same value as signed numbers. */
-static bool below_top(const uint64_t *numbers, size_t count)
+/* Returns whether the numbers of all rows that are not missing are below 2^63, and so have the same value as signed numbers. */
+static bool below_top(const Chunk *chunk, const uint64_t *numbers)
 {
     uint64_t all = 0;
-    for (size_t i = 0; i < count; i++) all |= numbers[i];
-    return all <= INT64_MAX;
+    for (size_t i = 0; i < chunk->rows; i++) all |= numbers[i];
+    for (size_t i = 0; all > INT64_MAX && i < chunk->rows; i++)
+        if (numbers[i] > INT64_MAX && is_present(chunk->present, i)) return false;
+    return true;
 }
 
 /* Returns the run of a row. Sets the row's index in it, and limits `count` to the number of rows from there on. */
@@ -34,33 +36,35 @@ static const Run *run_of(const Items *items, size_t row, size_t *at, size_t *cou
     return run;
 }
 
-/* Sets to false what belongs to missing items. */
-static void drop_missing(const Items *items, size_t first, size_t count, bool *present)
+/* Sets to 0 the bits of missing items. */
+static void drop_missing(const Items *items, size_t first, size_t count, uint8_t *present)
 {
     if (!items->has_gaps) return;
-    for (size_t i = 0; items->missing != NULL && i < count; i++) present[i] &= !items->missing[first + i];
+    for (size_t i = 0; items->missing != NULL && i < count; i++) drop(present, i, items->missing[first + i]);
     for (size_t i = 0, at, some; items->items == NULL && i < count; i += some) {
         some = count - i;
         const Run *run = run_of(items, first + i, &at, &some);
-        run_present(run, at, some, present + i);
+        run_present(run, at, some, present, i);
     }
 }
 
-void rows_present(const Items *items, const Items *others, size_t first, size_t count, bool *present)
+size_t rows_present(const Items *items, const Items *others, size_t first, size_t count, uint8_t *present)
 {
-    memset(present, true, count);
+    size_t found = 0;
+    memset(present, 0xff, (count + 7) / 8);
+    if (!items->has_gaps && (others == NULL || !others->has_gaps)) return count;
     drop_missing(items, first, count, present);
     if (others != NULL) drop_missing(others, first, count, present);
+    if (count % 8 > 0) present[count / 8] &= (uint8_t)((1u << count % 8) - 1);
+    for (size_t i = 0; i < (count + 7) / 8; i++) found += (size_t)__builtin_popcount(present[i]);
+    return found;
 }
 
 size_t items_gaps(const Items *items)
 {
+    uint8_t present;
     size_t gaps = 0;
-    for (size_t i = 0; items->has_gaps && i < items->count; i++) {
-        bool present;
-        rows_present(items, NULL, i, 1, &present);
-        gaps += !present;
-    }
+    for (size_t i = 0; items->has_gaps && i < items->count; i++) gaps += 1 - rows_present(items, NULL, i, 1, &present);
     return gaps;
 }
 
@@ -77,15 +81,13 @@ static void read_numbers(const Items *items, size_t first, size_t count, uint64_
 bool find_above_top(const Items *numbers, const Items *others, uint64_t *number)
 {
     uint64_t some[CHUNK];
-    bool present[CHUNK];
+    uint8_t present;
     for (size_t i = 0, count; i < numbers->count; i += count) {
         count = numbers->count - i < CHUNK ? numbers->count - i : CHUNK;
         read_numbers(numbers, i, count, some);
-        if (below_top(some, count)) continue;
-        rows_present(numbers, others, i, count, present);
         for (size_t j = 0; j < count; j++) {
             *number = some[j];
-            if (present[j] && *number > INT64_MAX) return true;
+            if (*number > INT64_MAX && rows_present(numbers, others, i + j, 1, &present) > 0) return true;
         }
     }
     return false;
@@ -97,36 +99,27 @@ void weights_chunk(const Weights *weights, size_t first, size_t count, uint64_t 
     for (size_t i = 0; !weights->each && i < count; i++) chunk[i] = weights->same;
 }
 
-/* Takes row `at` of the chunk as its next item. */
-static void keep_row(Chunk *chunk, size_t at)
-{
-    if (chunk->weights != NULL) chunk->weights[chunk->count] = chunk->weights[at];
-    chunk->count++;
-}
-
-static void keep_numbers(Chunk *chunk)
-{
-    for (size_t i = 0; i < chunk->rows; i++) {
-        chunk->numbers[chunk->count] = chunk->numbers[i];
-        if (chunk->present[i]) keep_row(chunk, i);
-    }
-}
+static const ds_string no_string = {(const uint8_t *)"", 0};
 
 /* Reads the items of a list, or of a run with a dictionary, up to the first of the other type. `run` is NULL for a list. */
 static bool read_entries(Chunk *chunk, const Run *run, size_t at, bool *with_texts)
 {
+    const Items *items = chunk->batch->items;
     size_t i = 0;
     *with_texts = false;
+    chunk->count = 0;
     if (run != NULL) run_numbers(run, at, chunk->rows, chunk->numbers);
     for (; i < chunk->rows; i++) {
-        const Item *item = run != NULL ? run_entry_by_index(run, at + i, chunk->numbers[i]) : &chunk->batch->items->items[at + i];
+        const Item *item = run != NULL ? run_entry_by_index(run, at + i, chunk->numbers[i]) : &items->items[at + i];
         if (item == NULL) return false;
-        if (item->missing || !chunk->present[i]) continue;
+        chunk->numbers[i] = item->value;
+        if (items->with_texts)
+            chunk->strings[i] = item->text != NULL ? (ds_string){(const uint8_t *)item->text, item->value} : no_string;
+        drop(chunk->present, i, item->missing);
+        if (!is_present(chunk->present, i)) continue;
         if (chunk->count > 0 && *with_texts != (item->text != NULL)) break;
         *with_texts = item->text != NULL;
-        if (*with_texts) chunk->strings[chunk->count] = (ds_string){(const uint8_t *)item->text, item->value};
-        else chunk->numbers[chunk->count] = item->value;
-        keep_row(chunk, i);
+        chunk->count++;
     }
     chunk->rows = i;
     return true;
@@ -135,26 +128,20 @@ static bool read_entries(Chunk *chunk, const Run *run, size_t at, bool *with_tex
 static bool read_strings(Chunk *chunk, const Run *run, size_t at)
 {
     for (size_t i = 0; i < chunk->rows; i++) {
-        uint8_t *room = chunk->room != NULL ? chunk->room + chunk->count * (size_t)run->size : NULL;
-        if (!chunk->present[i]) continue;
-        if (!run_string(run, at + i, room, &chunk->strings[chunk->count])) return false;
-        keep_row(chunk, i);
+        uint8_t *room = chunk->room != NULL ? chunk->room + i * (size_t)run->size : NULL;
+        chunk->strings[i] = no_string;
+        if (is_present(chunk->present, i) && !run_string(run, at + i, room, &chunk->strings[i])) return false;
     }
     return true;
 }
 
-/* Passes the strings of a run by a copy of their offsets, which nothing changes after the library has checked them. Returns false
- * for strings without offsets. */
-static bool pass_offsets(Chunk *chunk, const Run *run, size_t at)
+/* Passes the strings of a run by a copy of their offsets, which nothing changes after the library has checked them. */
+static ds_items copy_offsets(Chunk *chunk, const Run *run, size_t at)
 {
     size_t count = chunk->rows + 1;
-    if (run->layout != STRINGS_32 && run->layout != STRINGS_64) return false;
     memcpy(chunk->numbers, run->start + (Py_ssize_t)at * run->stride, count * (size_t)run->size);
-    chunk->count = chunk->rows;
-    chunk->items = run->layout == STRINGS_32
-                       ? ds_items_offsets32(run->bytes, run->num_bytes, (const uint32_t *)chunk->numbers, count)
-                       : ds_items_offsets(run->bytes, run->num_bytes, chunk->numbers, count);
-    return true;
+    return run->layout == STRINGS_32 ? ds_items_offsets32(run->bytes, run->num_bytes, (const uint32_t *)chunk->numbers, count)
+                                     : ds_items_offsets(run->bytes, run->num_bytes, chunk->numbers, count);
 }
 
 /* Sets the number of rows that are read, of the `left` ones, and makes room for their strings. */
@@ -178,23 +165,20 @@ static bool read_rows(Chunk *chunk, size_t first, const Run *run, size_t at)
 {
     const Items *items = chunk->batch->items, *others = chunk->weights != NULL ? &chunk->weights_from->items : NULL;
     const Sketch *sketch = chunk->batch->self;
-    bool of_entries = run == NULL || run->entries != NULL, with_texts = items->with_texts, read = true;
-    bool has_gaps = items->has_gaps || (others != NULL && others->has_gaps);
+    bool with_texts = items->with_texts, of_entries = run == NULL || run->entries != NULL, read = true;
+    bool by_offsets = !of_entries && with_texts && sketch != NULL && has_offsets(run) && !run->has_bad_gaps;
     if (chunk->weights != NULL) weights_chunk(chunk->weights_from, first, chunk->rows, chunk->weights);
-    if (has_gaps || with_texts || of_entries) rows_present(items, others, first, chunk->rows, chunk->present);
+    chunk->count = rows_present(items, others, first, chunk->rows, chunk->present);
     if (of_entries) read = read_entries(chunk, run, at, &with_texts);
-    else if (with_texts && sketch != NULL && !has_gaps && pass_offsets(chunk, run, at)) return true;
-    else if (with_texts) read = read_strings(chunk, run, at);
-    else {
-        read_numbers(items, first, chunk->rows, chunk->numbers);
-        if (has_gaps) keep_numbers(chunk);
-        else chunk->count = chunk->rows;
-    }
-    if (with_texts) chunk->items = ds_items_strings(chunk->strings, chunk->count);
+    else if (!with_texts) read_numbers(items, first, chunk->rows, chunk->numbers);
+    else if (!by_offsets) read = read_strings(chunk, run, at);
+    if (by_offsets) chunk->items = copy_offsets(chunk, run, at);
+    else if (with_texts) chunk->items = ds_items_strings(chunk->strings, chunk->rows);
     else if (sketch != NULL && sketch->kind == DS_FREQUENT_ITEMS_I64)
-        chunk->items = ds_items_i64((const int64_t *)chunk->numbers, chunk->count);
-    else chunk->items = ds_items_u64(chunk->numbers, chunk->count);
-    return read && (!items->below_top || below_top(chunk->numbers, chunk->count));
+        chunk->items = ds_items_i64((const int64_t *)chunk->numbers, chunk->rows);
+    else chunk->items = ds_items_u64(chunk->numbers, chunk->rows);
+    if (chunk->count < chunk->rows) chunk->items = ds_items_with_validity(chunk->items, chunk->present, 0);
+    return read && (!items->below_top || below_top(chunk, chunk->numbers));
 }
 
 int32_t chunk_read(Chunk *chunk, size_t first)
@@ -206,7 +190,7 @@ int32_t chunk_read(Chunk *chunk, size_t first)
     if (!prepare(chunk, run, items->with_texts || items->of_entries ? in_run : left)) return DS_NO_MEMORY;
     bool read = read_rows(chunk, first, run, at);
     chunk->ahead = 2 * chunk->rows;
-    bool holds = chunk->weights == NULL || !chunk->weights_from->items.below_top || below_top(chunk->weights, chunk->count);
+    bool holds = chunk->weights == NULL || !chunk->weights_from->items.below_top || below_top(chunk, chunk->weights);
     return read && holds ? DS_OK : CHANGED;
 }
 
@@ -226,9 +210,9 @@ void chunk_open(Chunk *chunk, const Batch *batch, const Weights *weights)
     chunk->batch = batch;
     chunk->weights_from = weights;
     chunk->weights = weights != NULL ? chunk->few_weights : NULL;
-    chunk->numbers = most > CHUNK ? PyMem_RawMalloc(most * (sizeof *chunk->numbers + sizeof *chunk->present)) : NULL;
+    chunk->numbers = most > CHUNK ? PyMem_RawMalloc(most * sizeof *chunk->numbers + (most + 7) / 8) : NULL;
     chunk->most = chunk->numbers != NULL ? most : CHUNK;
-    chunk->present = chunk->numbers != NULL ? (bool *)(chunk->numbers + most) : chunk->few_present;
+    chunk->present = chunk->numbers != NULL ? (uint8_t *)(chunk->numbers + most) : chunk->few_present;
     if (chunk->numbers == NULL) chunk->numbers = chunk->few_numbers;
     chunk->ahead = SIZE_MAX;
     chunk->room = NULL;

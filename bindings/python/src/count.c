@@ -46,8 +46,8 @@ static int32_t upper_bound_one(Sketch *self, const Item *item, uint64_t *number)
 
 static int32_t estimate_all(Batch *batch, const Chunk *chunk, void *results)
 {
-    return has_sign(batch->self) ? (ds_count_min_i64_estimate_all)(batch->handle, &chunk->items, results, chunk->count)
-                                 : (ds_count_min_u64_estimate_all)(batch->handle, &chunk->items, results, chunk->count);
+    return has_sign(batch->self) ? (ds_count_min_i64_estimate_all)(batch->handle, &chunk->items, results, chunk->rows)
+                                 : (ds_count_min_u64_estimate_all)(batch->handle, &chunk->items, results, chunk->rows);
 }
 
 PyDoc_STRVAR(update_doc,

@@ -33,12 +33,12 @@ static int32_t insert_all(Batch *batch, const Chunk *chunk, void *Py_UNUSED(resu
 
 static int32_t contains_all(Batch *batch, const Chunk *chunk, void *results)
 {
-    return (ds_bloom_contains_all)(batch->handle, &chunk->items, results, chunk->count);
+    return (ds_bloom_contains_all)(batch->handle, &chunk->items, results, chunk->rows);
 }
 
 static int32_t contains_and_insert_all(Batch *batch, const Chunk *chunk, void *results)
 {
-    return (ds_bloom_contains_and_insert_all)(batch->handle, &chunk->items, results, chunk->count);
+    return (ds_bloom_contains_and_insert_all)(batch->handle, &chunk->items, results, chunk->rows);
 }
 
 PyDoc_STRVAR(insert_doc,

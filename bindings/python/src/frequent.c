@@ -132,14 +132,14 @@ static bool bounds_of(PyObject *object, PyObject *given, ds_frequent_items_bound
 
 static int32_t bounds_all(Batch *batch, const Chunk *chunk, void *results)
 {
-    return (ds_frequent_items_bounds_all)(batch->handle, &chunk->items, results, chunk->count);
+    return (ds_frequent_items_bounds_all)(batch->handle, &chunk->items, results, chunk->rows);
 }
 
 static int32_t estimate_all(Batch *batch, const Chunk *chunk, void *results)
 {
     ds_frequent_items_bounds bounds[CHUNK];
     int32_t answer = bounds_all(batch, chunk, bounds);
-    for (size_t i = 0; answer >= 0 && i < chunk->count; i++) ((uint64_t *)results)[i] = bounds[i].estimate;
+    for (size_t i = 0; answer >= 0 && i < chunk->rows; i++) ((uint64_t *)results)[i] = bounds[i].estimate;
     return answer;
 }
 

@@ -154,9 +154,27 @@ typedef struct {
     size_t num_entries;
     bool gaps_by_code; /* whether the index -1 is a missing row */
     bool has_gaps;     /* whether `run_check` found that a row may be missing */
+    bool has_bad_gaps; /* whether it found that a missing row has a string that is not UTF-8 */
     Item *own_entries;
     ArrowArray array; /* to be released, unless its `release` is NULL */
 } Run;
+
+/* Returns whether the rows are strings with offsets. */
+static inline bool has_offsets(const Run *run)
+{
+    return run->layout == STRINGS_32 || run->layout == STRINGS_64;
+}
+
+/* Bitmaps of rows, as the library takes them: the bit of a row is 1 if it is not missing. */
+static inline bool is_present(const uint8_t *bits, size_t at)
+{
+    return bits[at / 8] >> at % 8 & 1;
+}
+
+static inline void drop(uint8_t *bits, size_t at, bool missing)
+{
+    bits[at / 8] &= (uint8_t) ~((unsigned)missing << at % 8);
+}
 
 /* Copies `count` numbers from row `at` on: of a dictionary the indices. Of a missing row it copies any number. */
 void run_numbers(const Run *run, size_t at, size_t count, uint64_t *numbers);
@@ -167,8 +185,8 @@ const Item *run_entry(const Run *run, size_t at);
 /* Does the same for a row whose index was read. */
 const Item *run_entry_by_index(const Run *run, size_t at, uint64_t index);
 
-/* Sets to false what belongs to missing rows. */
-void run_present(const Run *run, size_t at, size_t count, bool *present);
+/* Sets to 0 the bits of missing rows, from bit `bit` on. */
+void run_present(const Run *run, size_t at, size_t count, uint8_t *present, size_t bit);
 
 /* Finds the string of a row that is not missing. `room` has `size` bytes for a string of a fixed size. Returns false if the row is
  * malformed: then a buffer changed after `run_check`. */
@@ -275,12 +293,13 @@ typedef struct {
 /* Adds a note to the error that is set: the number of items that the call has counted or inserted. */
 void note_taken(size_t done);
 
-/* Some items as the library takes them, without the missing ones: all strings, or all numbers. */
+/* Some items as the library takes them: all strings, or all numbers. */
 typedef struct {
     ds_items items;
-    size_t count;
-    size_t rows;       /* the number of rows that were read for them */
+    size_t rows;       /* the number of items */
+    size_t count;      /* the number of those that are not missing */
     uint64_t *weights; /* NULL if each item weighs 1 */
+    uint8_t *present;  /* the bitmap of the rows: `few_present`, or room for more */
 
     /* Where items and weights come from, and room for them. */
     const Batch *batch;
@@ -288,9 +307,8 @@ typedef struct {
     size_t most;                     /* the maximum number of rows with numbers; of strings it is CHUNK at most */
     size_t ahead;                    /* the maximum number of rows that are read next, at most twice those of the chunk before */
     uint64_t *numbers;               /* `few_numbers`, or room for more */
-    bool *present;                   /* `few_present`, or room for more */
     uint64_t few_numbers[CHUNK + 1]; /* also the offsets of CHUNK strings */
-    bool few_present[CHUNK];
+    uint8_t few_present[CHUNK / 8];
     uint64_t few_weights[CHUNK];
     ds_string strings[CHUNK];
     uint8_t *room; /* for strings of a fixed size */
@@ -323,8 +341,9 @@ PyObject *bounds_tuple(const ds_frequent_items_bounds *bounds);
 
 /* --- chunks.c --- */
 
-/* Writes which rows are not missing, neither among the items nor among the others, which may be NULL. */
-void rows_present(const Items *items, const Items *others, size_t first, size_t count, bool *present);
+/* Writes the bitmap of rows that are not missing, neither among the items nor among the others, which may be NULL. Returns the
+ * number of these rows. */
+size_t rows_present(const Items *items, const Items *others, size_t first, size_t count, uint8_t *present);
 
 /* Returns the number of missing items. */
 size_t items_gaps(const Items *items);

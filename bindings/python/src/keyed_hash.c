@@ -76,7 +76,7 @@ static bool are_strings(const Sketch *Py_UNUSED(self), Items *items)
 static int32_t hash_all(Batch *batch, const Chunk *chunk, void *results)
 {
     const ds_key *key = batch->call->context;
-    for (size_t i = 0; i < chunk->count; i++)
+    for (size_t i = 0; i < chunk->rows; i++)
         ((uint64_t *)results)[i] = ds_keyed_hash(chunk->strings[i].bytes, chunk->strings[i].length, key->k0, key->k1);
     return DS_OK;
 }

@@ -61,8 +61,7 @@ static void copy_numbers(const Run *run, size_t at, size_t count, uint64_t *numb
 
 static bool is_valid(const Run *run, size_t at)
 {
-    size_t bit = run->bit + at;
-    return run->layout != NOTHING && (run->validity == NULL || (run->validity[bit / 8] >> bit % 8 & 1) != 0);
+    return run->layout != NOTHING && (run->validity == NULL || is_present(run->validity, run->bit + at));
 }
 
 void run_numbers(const Run *run, size_t at, size_t count, uint64_t *numbers)
@@ -85,15 +84,17 @@ const Item *run_entry(const Run *run, size_t at)
     return run_entry_by_index(run, at, index);
 }
 
-void run_present(const Run *run, size_t at, size_t count, bool *present)
+void run_present(const Run *run, size_t at, size_t count, uint8_t *present, size_t bit)
 {
+    size_t i = 0, start = run->bit + at, shift = start % 8;
+    const uint8_t *bits = run->validity;
+    bool by_bytes = bits != NULL && run->entries == NULL && bit % 8 == 0;
     if (!run->has_gaps) return;
-    for (size_t i = 0; i < count; i++) {
-        if (run->entries == NULL) present[i] &= is_valid(run, at + i);
-        else if (present[i]) {
-            const Item *entry = run_entry(run, at + i);
-            present[i] = entry == NULL || !entry->missing;
-        }
+    for (size_t byte = start / 8; by_bytes && i + 8 <= count; i += 8, byte++)
+        present[(bit + i) / 8] &= (uint8_t)(bits[byte] >> shift | (shift > 0 ? bits[byte + 1] << (8 - shift) : 0));
+    for (; i < count; i++) {
+        const Item *entry = run->entries != NULL ? run_entry(run, at + i) : NULL;
+        drop(present, bit + i, run->entries != NULL ? entry != NULL && entry->missing : !is_valid(run, at + i));
     }
 }
 
@@ -101,8 +102,7 @@ void run_present(const Run *run, size_t at, size_t count, bool *present)
 static bool string_by_offsets(const Run *run, size_t at, ds_string *string)
 {
     uint64_t ends[2];
-    bool wide = run->layout == STRINGS_64;
-    copy_native(row_start(run, at), run->stride, wide ? 8 : 4, true, 2, ends);
+    copy_native(row_start(run, at), run->stride, run->size, true, 2, ends);
     if (ends[0] > ends[1] || ends[1] > run->num_bytes) return false;
     *string = (ds_string){run->bytes + ends[0], ends[1] - ends[0]};
     return true;
@@ -221,10 +221,9 @@ static bool malformed(const char *what, size_t row)
 static bool check_offsets(Run *run)
 {
     uint64_t ends[CHUNK + 1], before = 0;
-    Py_ssize_t size = run->layout == STRINGS_64 ? 8 : 4;
     for (size_t at = 0, count; at < run->count; at += count) {
         count = run->count - at < CHUNK ? run->count - at : CHUNK;
-        copy_native(row_start(run, at), run->stride, size, true, count + 1, ends);
+        copy_native(row_start(run, at), run->stride, run->size, true, count + 1, ends);
         for (size_t i = 0; i <= count; i++, before = ends[i - 1])
             if (ends[i] > INT64_MAX || ends[i] < before) return malformed("offsets descend or are below 0", run->first + at + i);
     }
@@ -238,8 +237,8 @@ static bool check_offsets(Run *run)
 static bool all_ascii(const Run *run)
 {
     uint64_t begin = 0;
-    if ((run->layout != STRINGS_32 && run->layout != STRINGS_64) || run->entries != NULL) return false;
-    copy_native(row_start(run, 0), run->stride, run->layout == STRINGS_64 ? 8 : 4, true, 1, &begin);
+    if (!has_offsets(run)) return false;
+    copy_native(row_start(run, 0), run->stride, run->size, true, 1, &begin);
     return begin <= run->num_bytes && is_ascii(run->bytes + begin, run->num_bytes - begin);
 }
 
@@ -265,14 +264,17 @@ bool run_check(Run *run, const bool *missing, PyObject *array)
     bool fixed = run->layout == FIXED_BYTES || run->layout == FIXED_WIDE, good = true;
     run->has_gaps = run->layout == NOTHING || run->validity != NULL;
     if (run->count == 0 || run->layout == NOTHING || (run->layout == NUMBERS && run->entries == NULL)) return true;
-    if ((run->layout == STRINGS_32 || run->layout == STRINGS_64) && !check_offsets(run)) return false;
+    if (has_offsets(run) && !check_offsets(run)) return false;
     if (all_ascii(run)) return true;
     uint8_t *room = PyMem_Malloc(fixed ? (size_t)run->size : 1);
     if (room == NULL) PyErr_NoMemory();
-    for (size_t at = 0; room != NULL && good && at < run->count; at++)
-        good = ((missing != NULL && missing[at]) || !is_valid(run, at) ||
-                (run->entries != NULL ? check_index(run, at) : check_row(run, at, room, array))) &&
-               (at % SIGNALS != SIGNALS - 1 || PyErr_CheckSignals() == 0);
+    for (size_t at = 0; room != NULL && good && at < run->count; at++) {
+        ds_string string;
+        if ((missing != NULL && missing[at]) || !is_valid(run, at))
+            run->has_bad_gaps |= has_offsets(run) && string_by_offsets(run, at, &string) && !is_utf8(&string);
+        else good = run->entries != NULL ? check_index(run, at) : check_row(run, at, room, array);
+        good = good && (at % SIGNALS != SIGNALS - 1 || PyErr_CheckSignals() == 0);
+    }
     PyMem_Free(room);
     return room != NULL && good;
 }

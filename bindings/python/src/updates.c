@@ -46,12 +46,14 @@ static int32_t update_chunk(Batch *batch, const Chunk *chunk, void *Py_UNUSED(re
     int32_t answer;
     if (weights == NULL) answer = (ds_update_all)(batch->handle, &chunk->items);
     else if (batch->self->kind != DS_COUNT_MIN_I64)
-        answer = (ds_update_all_weighted)(batch->handle, &chunk->items, weights, chunk->count);
-    else answer = (ds_count_min_i64_update_all_weighted)(batch->handle, &chunk->items, (const int64_t *)weights, chunk->count);
+        answer = (ds_update_all_weighted)(batch->handle, &chunk->items, weights, chunk->rows);
+    else answer = (ds_count_min_i64_update_all_weighted)(batch->handle, &chunk->items, (const int64_t *)weights, chunk->rows);
     uint64_t added = answer < 0 ? sketch_total(batch->self) - before : 0;
-    for (size_t i = 0; answer < 0 && i < chunk->count && (weights == NULL ? 1 : weights[i]) <= added; i++) {
-        added -= weights == NULL ? 1 : weights[i];
-        batch->done++;
+    for (size_t i = 0; answer < 0 && i < chunk->rows; i++) {
+        uint64_t weight = !is_present(chunk->present, i) ? 0 : weights == NULL ? 1 : weights[i];
+        if (weight > added) break;
+        added -= weight;
+        batch->done += is_present(chunk->present, i);
     }
     return answer;
 }

@@ -132,15 +132,15 @@ static uint64_t distance(uint64_t weight, bool with_sign)
 int32_t weights_fit(const Items *items, const Weights *weights, uint64_t room)
 {
     uint64_t chunk[CHUNK], same = distance(weights->same, weights->with_sign);
-    bool present[CHUNK];
+    uint8_t present[CHUNK / 8];
     if (!weights->each && (same == 0 || items->count <= room / same)) return DS_OK;
     for (size_t i = 0, count; i < items->count; i += count) {
         count = items->count - i < CHUNK ? items->count - i : CHUNK;
         weights_chunk(weights, i, count, chunk);
         rows_present(items, &weights->items, i, count, present);
         for (size_t j = 0; j < count; j++) {
-            uint64_t weight = present[j] ? distance(chunk[j], weights->with_sign) : 0;
-            if (present[j] && weights->items.below_top && chunk[j] > INT64_MAX) return CHANGED;
+            uint64_t weight = is_present(present, j) ? distance(chunk[j], weights->with_sign) : 0;
+            if (weights->items.below_top && chunk[j] > INT64_MAX && is_present(present, j)) return CHANGED;
             if (weight > room) return DS_WEIGHT_OVERFLOW;
             room -= weight;
         }

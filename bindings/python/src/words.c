@@ -20,7 +20,7 @@ typedef struct {
     bool may_change; /* then each piece is copied before the library reads it */
     uint8_t *copy;
     Py_buffer view;
-    uint64_t done; /* the number of words or lines that were counted */
+    size_t done; /* the number of words or lines that were counted */
 } Text;
 
 static bool text_open(PyObject *given, const Method *method, Text *text)
@@ -68,16 +68,6 @@ static size_t piece_end(const Text *text, bool of_lines, size_t from)
     return end;
 }
 
-/* Returns the number of words or lines at the front of the text. Only a filter, which has no total weight, has to count them. */
-static uint64_t count_front(const Text *text, bool of_lines, size_t length)
-{
-    uint64_t count = 0;
-    for (size_t i = 0; i < length; i++)
-        if (of_lines) count += text->bytes[i] == '\n';
-        else count += !is_space(text->bytes[i]) && (i == 0 || is_space(text->bytes[i - 1]));
-    return count;
-}
-
 /* Takes the words or lines of a piece. Runs without the interpreter's lock. */
 static int32_t take_piece(Sketch *self, Text *text, bool of_lines, size_t from, size_t end)
 {
@@ -90,7 +80,7 @@ static int32_t take_piece(Sketch *self, Text *text, bool of_lines, size_t from, 
         memcpy(copy, piece, end - from);
         piece = copy;
     }
-    ds_items items = of_lines ? ds_items_lines(piece, end - from) : ds_items_words(piece, end - from);
+    ds_items items = ds_items_in(of_lines ? DS_ITEMS_LINES : DS_ITEMS_WORDS, piece, end - from);
     int32_t answer = self->kind == DS_BLOOM ? ds_bloom_insert_all(&self->handle, &items) : ds_update_all(&self->handle, &items);
     text->done += sketch_total(self) - before;
     return answer;
@@ -107,13 +97,13 @@ static void refuse_utf8(const Text *text, size_t from, size_t end)
 static void refuse_piece(Sketch *self, Text *text, const Method *method, int32_t answer, size_t from, size_t end)
 {
     if (answer == DS_NO_MEMORY) {
-        PyErr_Format(PyExc_MemoryError, "memory ended when %llu %s were counted", (unsigned long long)text->done,
-                     method->of_lines ? "lines" : "words");
+        PyErr_Format(PyExc_MemoryError, "memory ended when %zu %s were counted", text->done, method->of_lines ? "lines" : "words");
         return;
     }
     if (answer == DS_INVALID_UTF8) refuse_utf8(text, from, end);
     else if (answer < 0) refuse(answer);
-    if (self->kind == DS_BLOOM) text->done = count_front(text, method->of_lines, answer < 0 ? from : end);
+    ds_items front = ds_items_in(method->of_lines ? DS_ITEMS_LINES : DS_ITEMS_WORDS, text->bytes, answer < 0 ? from : end);
+    if (self->kind == DS_BLOOM) ds_num_items(&front, &text->done); /* a filter has no total weight */
     if (text->done > 0) note_taken(text->done);
 }
 

@@ -121,6 +121,9 @@ class Arrow(Released):
                     offset = chance.randrange(count + 1)
                     self.same(lambda: Column(kind, values), values, str)
                     self.same(lambda: Column(kind, values, offset), values[offset:], str)
+        values = words_of(chance, 60, 0.3)
+        for offset in range(17):
+            self.same(lambda: Column("u", values, offset), values[offset:], str)
 
     def test_buffers_that_are_not_aligned(self):
         chance = random.Random(4)
@@ -281,6 +284,16 @@ class Arrow(Released):
         views = struct.pack("<iiii", 30, 0, 9, 9) + struct.pack("<i12s", 1, b"a")
         self.same(lambda: Column("vu", [None, "a"], buffers=[b"\x02", views, b""], n_buffers=3), [None, "a"])
         self.same(lambda: Column("u", [None, "a"], buffers=[b"\x02", struct.pack("<3i", 0, 1, 2), b"\xffa"]), [None, "a"])
+        for text in ("ba", "\u00fca"):
+            size = len(text.encode())
+            for kind, offsets in (("u", struct.pack("<3i", 0, size - 1, size)), ("U", struct.pack("<3q", 0, size - 1, size))):
+                self.same(lambda: Column(kind, [None, "a"], buffers=[b"\x02", offsets, text.encode()]), [None, "a"])
+        long = words_of(random.Random(5), 3000, 0.3)
+        hidden = described("u", ["under a null" if word is None else word for word in long])["buffers"]
+        hidden[0] = arrow.bitmap([word is not None for word in long])
+        self.same(lambda: Column("u", long, buffers=hidden), long)
+        hidden[2] = hidden[2].replace(b"under a null", b"under a \xff\xff\xff\xff")
+        self.same(lambda: Column("u", long, buffers=hidden), long)
         codes = struct.pack("<bb", 99, 0)
         self.same(lambda: Column("c", [None, 0], dictionary=described("u", ["a"]), buffers=[b"\x02", codes]), [None, "a"])
 

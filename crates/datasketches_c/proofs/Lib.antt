@@ -10,11 +10,14 @@ pub mod KindLemmas
 pub mod ManyHandleLemmas
 pub mod ManyItemsLemmas
 pub mod ManyJoinLemmas
+pub mod Places
 pub mod Reading
 pub mod ReadingCounts
 pub mod Refusals
 pub mod Reports
+pub mod RowCounts
 pub mod ShortItems
+pub mod Spreading
 pub mod StringReports
 pub mod StringRows
 pub mod Words

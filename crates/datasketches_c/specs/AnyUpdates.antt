@@ -1,14 +1,15 @@
 -- Results and effects of calls for many items on the sketch of a handle, of any kind that takes them: add weights, and read bounds.
 use Rattle.std.specs.Ordering.{int_eq}
-use Rattle.std.specs.Prelude.{◌≡◌, ℕ, ℤ, pos, List, map, nat_eq, Option, Some, None}
+use Rattle.std.specs.Prelude.{◌≡◌, ℕ, ℤ, pos, List, nat_eq, Option, Some, None}
 use Rattle.datasketches_c.specs.CountCalls.{AddsEach, AddsWeights}
-use Rattle.datasketches_c.specs.FrequentBatches.{AreBoundsOfAll, AreBoundsOfStrings}
+use Rattle.datasketches_c.specs.FrequentBatches.{AreBoundsOfAll}
 use Rattle.datasketches_c.specs.FrequentCalls.{StopsOnlyToGrow, UpdatesMany, WeighsMany}
-use Rattle.datasketches_c.specs.FrequentStrings.{AddsStrings, WeighsStrings}
+use Rattle.datasketches_c.specs.FrequentStrings.{strings_eq}
 use Rattle.datasketches_c.specs.Kinds.{HoldsKind, count_i64_of, count_u64_of, frequent_i64_of, frequent_strings_of, frequent_u64_of}
 use Rattle.datasketches_c.specs.ManyItems.{ManyItems, OnI64s, OnStrings, OnU64s, fed_items}
 use Rattle.datasketches_c.specs.Numbers.{max_i64, max_u64, no_sketch, ok, wrong_kind}
 use Rattle.datasketches_c.specs.Sharing.{unshared}
+use Rattle.datasketches_c.specs.ValidRows.{OnRows}
 use Rattle.datasketches_c.specs.declared.any_sketch.AnySketch.{AnySketch}
 use Rattle.datasketches_c.specs.declared.any_sketch.AnySketch.TheVariants.{CountI64, CountU64, FrequentI64, FrequentStrings, FrequentU64}
 use Rattle.datasketches_c.specs.declared.any_sketch.Held.TheVariants.{Own}
@@ -22,12 +23,12 @@ UpdatesWith (CountU64 (Own s)) new items result =
     HoldsKind count_u64_of (Some new) (λ t. AddsEach max_u64 s (fed_items items) t result)
 UpdatesWith (FrequentI64 (Own s)) new items result =
     HoldsKind frequent_i64_of (Some new) (λ t.
-    OnI64s items result (t ≡ s) (λ numbers. UpdatesMany int_eq s (map int_eq numbers) t result))
+    OnI64s items result (t ≡ s) (λ names. UpdatesMany int_eq s names t result))
 UpdatesWith (FrequentU64 (Own s)) new items result =
     HoldsKind frequent_u64_of (Some new) (λ t.
-    OnU64s items result (t ≡ s) (λ numbers. UpdatesMany nat_eq s (map nat_eq numbers) t result))
+    OnU64s items result (t ≡ s) (λ names. UpdatesMany nat_eq s names t result))
 UpdatesWith (FrequentStrings (Own s)) new items result =
-    HoldsKind frequent_strings_of (Some new) (λ t. OnStrings items result (t ≡ s) (λ strings. AddsStrings s strings t result))
+    HoldsKind frequent_strings_of (Some new) (λ t. OnStrings items result (t ≡ s) (λ names. UpdatesMany strings_eq s names t result))
 UpdatesWith old new items result = (result ≡ wrong_kind) × (new ≡ old)
 
 -- the same of the sketch of a handle
@@ -41,14 +42,14 @@ abbrev pub WeighsWith : (old new : AnySketch) → ManyItems → List ℕ → ℤ
 WeighsWith (CountU64 (Own s)) new items weights result =
     HoldsKind count_u64_of (Some new) (λ t. AddsWeights max_u64 pos s (fed_items items) weights t result)
 WeighsWith (FrequentI64 (Own s)) new items weights result =
-    HoldsKind frequent_i64_of (Some new) (λ t. OnI64s items result (t ≡ s) (λ numbers.
-    WeighsMany int_eq s (map int_eq numbers) weights t result × StopsOnlyToGrow s weights t result))
+    HoldsKind frequent_i64_of (Some new) (λ t. OnI64s items result (t ≡ s) (λ names.
+    WeighsMany int_eq s names weights t result × StopsOnlyToGrow s weights t result))
 WeighsWith (FrequentU64 (Own s)) new items weights result =
-    HoldsKind frequent_u64_of (Some new) (λ t. OnU64s items result (t ≡ s) (λ numbers.
-    WeighsMany nat_eq s (map nat_eq numbers) weights t result × StopsOnlyToGrow s weights t result))
+    HoldsKind frequent_u64_of (Some new) (λ t. OnU64s items result (t ≡ s) (λ names.
+    WeighsMany nat_eq s names weights t result × StopsOnlyToGrow s weights t result))
 WeighsWith (FrequentStrings (Own s)) new items weights result =
     HoldsKind frequent_strings_of (Some new) (λ t.
-    OnStrings items result (t ≡ s) (λ strings. WeighsStrings s strings weights t result))
+    OnStrings items result (t ≡ s) (λ names. WeighsMany strings_eq s names weights t result))
 WeighsWith old new items weights result = (result ≡ wrong_kind) × (new ≡ old)
 
 -- the same of the sketch of a handle
@@ -57,14 +58,21 @@ WeighsAny (Some old) (Some new) items weights result = WeighsWith old new items 
 WeighsAny None new items weights result = (result ≡ no_sketch) × (new ≡ None)
 WeighsAny (Some old) None items weights result = ⊥
 
--- the bounds of each item in a sketch of frequent items, which is not shared, were written
+-- the bounds of a row that is null
+abbrev pub no_bounds : ItemBounds
+no_bounds = record { lower_bound = 0; estimate = 0; upper_bound = 0 }
+
+-- the bounds of each item in a sketch of frequent items, which is not shared, were written at its row
 abbrev pub BoundsWith : AnySketch → ManyItems → (bounds_old bounds_new : List ItemBounds) → ℤ → Type 0
 BoundsWith (FrequentI64 (Own s)) items bounds_old bounds_new result =
-    OnI64s items result (bounds_new ≡ bounds_old) (λ numbers. (result ≡ ok) × AreBoundsOfAll int_eq s (map int_eq numbers) bounds_new)
+    OnI64s items result (bounds_new ≡ bounds_old) (λ names.
+    (result ≡ ok) × OnRows items.validity no_bounds bounds_new (AreBoundsOfAll int_eq s names))
 BoundsWith (FrequentU64 (Own s)) items bounds_old bounds_new result =
-    OnU64s items result (bounds_new ≡ bounds_old) (λ numbers. (result ≡ ok) × AreBoundsOfAll nat_eq s (map nat_eq numbers) bounds_new)
+    OnU64s items result (bounds_new ≡ bounds_old) (λ names.
+    (result ≡ ok) × OnRows items.validity no_bounds bounds_new (AreBoundsOfAll nat_eq s names))
 BoundsWith (FrequentStrings (Own s)) items bounds_old bounds_new result =
-    OnStrings items result (bounds_new ≡ bounds_old) (λ strings. (result ≡ ok) × AreBoundsOfStrings s strings bounds_new)
+    OnStrings items result (bounds_new ≡ bounds_old) (λ names.
+    (result ≡ ok) × OnRows items.validity no_bounds bounds_new (AreBoundsOfAll strings_eq s names))
 BoundsWith sketch items bounds_old bounds_new result = (result ≡ wrong_kind) × (bounds_new ≡ bounds_old)
 
 -- the same of the sketch of a handle, which may be shared

@@ -1,12 +1,13 @@
 -- Results and effects of calls on Count-Min sketches of any weight type. `part` returns the sketch of that type that a handle
 -- holds, if any. `greatest` is the maximum of the type. Items are the bytes that their hash feeds.
-use Rattle.std.specs.Prelude.{◌≡◌, ℕ, ℤ, ◌+◌, ◌-◌, ◌<◌, ◌≤◌, List, Option, length, sum_by, take, unsigned_abs}
+use Rattle.std.specs.Prelude.{◌≡◌, ℕ, ℤ, ◌+◌, ◌-◌, ◌<◌, ◌≤◌, Bool, List, Option, length, map, sum_by, take, unsigned_abs}
 use Rattle.sketch_base.specs.declared.fault.Fault.TheVariants.{WeightOverflow}
 use Rattle.sketch_countmin.specs.State.{CountState, IsMinCell, upper_bound_of}
 use Rattle.datasketches_c.specs.CountSteps.{Weighs, WeighsAll, WeighsEach}
 use Rattle.datasketches_c.specs.Estimates.{IsEstimate, AreEstimates}
 use Rattle.datasketches_c.specs.Kinds.{OnKind, HoldsKind}
 use Rattle.datasketches_c.specs.Numbers.{OnRefused, ok, refusal_number}
+use Rattle.datasketches_c.specs.ValidRows.{OnRows}
 use Rattle.datasketches_c.specs.declared.any_sketch.AnySketch.{AnySketch}
 
 -- the call wrote the sketch's estimate of the item's weight
@@ -14,12 +15,13 @@ abbrev pub Estimates :
     (part : AnySketch → Option CountState) → (old new : Option AnySketch) → ℤ → (bytes : List ℕ) → (estimate : ℤ) → Type 0
 Estimates part old new result bytes estimate = OnKind part old new result (λ s. (result ≡ ok) × IsEstimate s bytes estimate)
 
--- the call wrote each item's estimate at the item's index
+-- the call wrote each item's estimate at the item's row
 abbrev pub EstimatesAll :
-    (part : AnySketch → Option CountState) → (old new : Option AnySketch) → ℤ → (items : List (List ℕ)) → (estimates : List ℤ) →
-    Type 0
-EstimatesAll part old new result items estimates =
-    OnKind part old new result (λ s. (result ≡ ok) × AreEstimates s items estimates)
+    {W : Type 0} → (number : W → ℤ) → (zero : W) → (part : AnySketch → Option CountState) → (old new : Option AnySketch) → ℤ →
+    Option (List Bool) → (items : List (List ℕ)) → (by_row : List W) → Type 0
+EstimatesAll number zero part old new result validity items by_row =
+    OnKind part old new result (λ s.
+    (result ≡ ok) × OnRows validity zero by_row (λ estimates. AreEstimates s items (map number estimates)))
 
 -- the bound is the estimate plus the margin, or the maximum of the type if this exceeds it
 abbrev pub IsBound : (greatest : ℕ) → (bytes : List ℕ) → (bound : ℤ) → CountState → Type 0

@@ -1,11 +1,12 @@
 -- Results and effects of calls on filters.
-use Rattle.std.specs.Prelude.{◌≡◌, ℤ, Bool, List, ℕ, Option, Some, if◌then◌else◌}
+use Rattle.std.specs.Prelude.{◌≡◌, ℤ, Bool, false, List, ℕ, Option, Some, if◌then◌else◌}
 use Rattle.sketch_bloom.specs.History.{all_inserted_after}
 use Rattle.sketch_bloom.specs.History.BloomHistory.{Insert}
 use Rattle.sketch_bloom.specs.Stands.{Extends}
 use Rattle.sketch_bloom.specs.State.{all_inserted, answers_in_turn, contains_item, inserted}
 use Rattle.datasketches_c.specs.Kinds.{OnFilter}
 use Rattle.datasketches_c.specs.Numbers.{no, ok, yes}
+use Rattle.datasketches_c.specs.ValidRows.{OnRows}
 use Rattle.datasketches_c.specs.declared.any_sketch.AnySketch.{AnySketch}
 use Rattle.datasketches_c.specs.declared.any_sketch.Held.TheVariants.{Own}
 use Rattle.datasketches_c.specs.declared.any_sketch.AnySketch.TheVariants.{Filter}
@@ -23,9 +24,9 @@ TellsAndInserts old new result bytes =
     (result ≡ (if contains_item s bytes then yes else no)) × (new ≡ Some (Filter (Own (inserted s bytes))))
     × Extends s (inserted s bytes) (λ h. Insert h bytes))
 
--- the items were inserted into the handle's filter in turn, and the answers tell for each whether it was there in its turn
-abbrev pub TellsAndInsertsAll : (old new : Option AnySketch) → ℤ → List (List ℕ) → List Bool → Type 0
-TellsAndInsertsAll old new result items answers =
+-- the items were inserted into the handle's filter in turn, and the answers of their rows tell for each whether it was there in its turn
+abbrev pub TellsAndInsertsAll : (old new : Option AnySketch) → ℤ → Option (List Bool) → List (List ℕ) → (by_row : List Bool) → Type 0
+TellsAndInsertsAll old new result validity items by_row =
     OnFilter old new result (λ s.
-    (result ≡ ok) × (answers ≡ answers_in_turn s items) × (new ≡ Some (Filter (Own (all_inserted s items))))
+    (result ≡ ok) × OnRows validity false by_row (λ answers. answers ≡ answers_in_turn s items) × (new ≡ Some (Filter (Own (all_inserted s items))))
     × Extends s (all_inserted s items) (λ h. all_inserted_after h items))

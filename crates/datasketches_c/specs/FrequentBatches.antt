@@ -1,5 +1,5 @@
 -- Bounds of strings, and of many items, in a frequent items sketch.
-use Rattle.std.specs.Prelude.{◌≡◌, ℕ, ◌+◌, Bool, List, IsTrue, map}
+use Rattle.std.specs.Prelude.{◌≡◌, ℕ, ◌+◌, Bool, List, IsTrue}
 use Rattle.std.specs.Global.{Global}
 use Rattle.std.specs.List.{AllZip}
 use Rattle.std.specs.String.{string_bytes}
@@ -31,7 +31,3 @@ pub record AreBoundsOfString (s : FrequentState (String Global)) (string : List 
   pub estimate : bounds.estimate ≡ estimate_by_key (names_string string) s
   pub upper : bounds.upper_bound ≡ count_by_key (names_string string) s.counters + s.error
   pub holds : (item : String Global) → string_bytes item ≡ string → AreBounds strings_eq s item bounds
-
--- the bounds are the sketch's numbers for the strings, in the same order
-abbrev pub AreBoundsOfStrings : FrequentState (String Global) → (strings : List (List ℕ)) (bounds : List ItemBounds) → Type 0
-AreBoundsOfStrings s strings bounds = AreBoundsOfAll strings_eq s (map names_string strings) bounds

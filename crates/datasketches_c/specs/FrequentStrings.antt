@@ -1,5 +1,5 @@
 -- Updates of frequent items sketches of strings. An update allocates only for a string that is not tracked.
-use Rattle.std.specs.Prelude.{◌≡◌, ◌⊎◌, ℕ, ℤ, ◌<◌, Bool, false, List, map}
+use Rattle.std.specs.Prelude.{◌≡◌, ◌⊎◌, ℕ, ℤ, ◌<◌, Bool, false, List}
 use Rattle.std.specs.Global.{Global}
 use Rattle.std.specs.String.{string_bytes, string_eq}
 use Rattle.std.specs.declared.string.String.{String}
@@ -7,7 +7,7 @@ use Rattle.sketch_base.specs.declared.fault.Fault.TheVariants.{NoMemory}
 use Rattle.counter_table.specs.StringKeys.{names_string}
 use Rattle.counter_table.specs.Tables.{is_tracked_by_key}
 use Rattle.sketch_frequencies.specs.State.{FrequentState, TotalHasRoom}
-use Rattle.datasketches_c.specs.FrequentCalls.{Updates, UpdatesMany, WeighsMany}
+use Rattle.datasketches_c.specs.FrequentCalls.{Updates}
 use Rattle.datasketches_c.specs.Numbers.{refusal_number}
 
 -- strings are compared by their bytes
@@ -29,14 +29,3 @@ unfoldable pub UpdatesString : (old : FrequentState (String Global)) → List �
 UpdatesString old string weight new result =
     ((item : String Global) × (string_bytes item ≡ string) × Updates strings_eq old item weight new result)
     ⊎ RunsOutOfMemory old string weight new result
-
--- the result and effect of adding 1 for each of these strings, in order
-abbrev pub AddsStrings :
-    (old : FrequentState (String Global)) (strings : List (List ℕ)) (new : FrequentState (String Global)) (result : ℤ) → Type 0
-AddsStrings old strings new result = UpdatesMany strings_eq old (map names_string strings) new result
-
--- the result and effect of adding each of these weights to its string's, in order
-abbrev pub WeighsStrings :
-    (old : FrequentState (String Global)) (strings : List (List ℕ)) (weights : List ℕ) (new : FrequentState (String Global)) (result : ℤ) →
-    Type 0
-WeighsStrings old strings weights new result = WeighsMany strings_eq old (map names_string strings) weights new result

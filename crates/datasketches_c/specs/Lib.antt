@@ -32,3 +32,4 @@ pub mod Sharing
 pub mod SketchKinds
 pub mod Status
 pub mod Strings
+pub mod ValidRows

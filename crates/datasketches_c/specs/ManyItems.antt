@@ -1,36 +1,59 @@
 -- Many items as an argument of calls: their kinds and numbers in C, what they are, and the first error of an argument.
 use Rattle.std.specs.Hash as fed
+use Rattle.std.specs.Global.{Global}
 use Rattle.std.specs.Ordering.{int_eq}
-use Rattle.std.specs.Prelude.{◌≡◌, ◌≢◌, ℕ, ℤ, pos, List, length, map, All, Option, Some, None, Result, MatchResult, if◌then◌else◌}
+use Rattle.std.specs.Prelude.{◌≡◌, ◌≢◌, ◌⊎◌, ℕ, ℤ, ◌-◌, ◌≤◌, pos, Bool, List, length, map, nat_eq, All, Option, Some, None, Result, MatchResult, if◌then◌else◌}
 use Rattle.std.specs.Str.{IsUtf8}
 use Rattle.std.specs.Str.Lines.{lines}
+use Rattle.std.specs.declared.string.String.{String}
+use Rattle.counter_table.specs.StringKeys.{names_string}
 use Rattle.sketch_base.specs.Hashes.{fed_bytes}
 use Rattle.sketch_base.specs.Split.{words_of}
 use Rattle.sketch_base.specs.Strings.{AreOffsets, strings_at, strings_of}
 use Rattle.sketch_base.specs.declared.fault.Fault.TheVariants.{InvalidUtf8}
 use Rattle.datasketches_c.specs.Numbers.{bad_argument, bad_offsets, no_room, refusal_number, wrong_kind}
+use Rattle.datasketches_c.specs.ValidRows.{bits_from, of_valid}
 use Rattle.datasketches_c.specs.declared.items_argument.GivenItems.{GivenItems}
-use Rattle.datasketches_c.specs.declared.items_argument.GivenItems.TheVariants as given
+use Rattle.datasketches_c.specs.declared.items_argument.GivenRows.{GivenRows}
+use Rattle.datasketches_c.specs.declared.items_argument.GivenRows.TheVariants as given
 use Rattle.datasketches_c.specs.declared.items_argument.ItemsArgument.{ItemsArgument}
 use Rattle.datasketches_c.specs.declared.items_argument.ItemsKind.{ItemsKind}
 use Rattle.datasketches_c.specs.declared.items_argument.ItemsKind.TheVariants.{U64, I64, Offsets, Offsets32, Strings, Words, Lines}
 
--- many items: numbers, or the bytes of strings
-pub data ManyItems : Type 0 where
-  u64s : List ℕ → ManyItems
-  i64s : List ℤ → ManyItems
-  strings : List (List ℕ) → ManyItems
+-- the rows of a column: numbers, or the bytes of strings
+pub data Rows : Type 0 where
+  u64s : List ℕ → Rows
+  i64s : List ℤ → Rows
+  strings : List (List ℕ) → Rows
 
-abbrev pub num_items : ManyItems → ℕ
-num_items (u64s items) = length items
-num_items (i64s items) = length items
-num_items (strings items) = length items
+-- many items: rows, with a bit for each that says whether it is valid if some may be null. The items are the valid rows
+pub record ManyItems : Type 0 where
+  pub rows : Rows
+  pub validity : Option (List Bool)
+
+abbrev pub num_rows : Rows → ℕ
+num_rows (u64s rows) = length rows
+num_rows (i64s rows) = length rows
+num_rows (strings rows) = length rows
+
+-- the bytes that the hash of each row feeds
+abbrev pub fed_rows : Rows → List (List ℕ)
+fed_rows (u64s rows) = map (fed_bytes fed.u64) rows
+fed_rows (i64s rows) = map (fed_bytes fed.i64) rows
+fed_rows (strings rows) = map (fed_bytes fed.str) rows
 
 -- the bytes that the hash of each item feeds
 abbrev pub fed_items : ManyItems → List (List ℕ)
-fed_items (u64s items) = map (fed_bytes fed.u64) items
-fed_items (i64s items) = map (fed_bytes fed.i64) items
-fed_items (strings items) = map (fed_bytes fed.str) items
+fed_items items = of_valid items.validity (fed_rows items.rows)
+
+-- the number of items
+abbrev pub num_valid : Rows → Option (List Bool) → ℕ
+num_valid (u64s rows) validity = length (of_valid validity rows)
+num_valid (i64s rows) validity = length (of_valid validity rows)
+num_valid (strings rows) validity = length (of_valid validity rows)
+
+abbrev pub num_items : ManyItems → ℕ
+num_items items = num_valid items.rows items.validity
 
 -- the kind of a number of C's `DS_ITEMS_U64` .., if it is one
 abbrev pub items_kind_numbered : ℤ → Option ItemsKind
@@ -40,15 +63,38 @@ items_kind_numbered number =
     else if int_eq number (pos 4) then Some Strings else if int_eq number (pos 5) then Some Words
     else if int_eq number (pos 6) then Some Lines else None
 
+-- the rows of an argument of this kind
+abbrev pub rows_of : ItemsKind → ItemsArgument → Rows
+rows_of U64 a = u64s a.u64s.now
+rows_of I64 a = i64s a.i64s.now
+rows_of Offsets a = strings (strings_of a.bytes.now a.offsets.now)
+rows_of Offsets32 a = strings (strings_of a.bytes.now a.offsets32.now)
+rows_of Strings a = strings (strings_at a.strings.now)
+rows_of Words a = strings (words_of a.bytes.now)
+rows_of Lines a = strings (lines a.bytes.now)
+
 -- the items of an argument of this kind
 abbrev pub items_of : ItemsKind → ItemsArgument → ManyItems
-items_of U64 a = u64s a.u64s.now
-items_of I64 a = i64s a.i64s.now
-items_of Offsets a = strings (strings_of a.bytes.now a.offsets.now)
-items_of Offsets32 a = strings (strings_of a.bytes.now a.offsets32.now)
-items_of Strings a = strings (strings_at a.strings.now)
-items_of Words a = strings (words_of a.bytes.now)
-items_of Lines a = strings (lines a.bytes.now)
+items_of kind a = record { rows = rows_of kind a; validity = bits_from a.validity.now a.first_bit }
+
+-- the number of rows that a bitmap of the kind has bits for, if the kind may have a bitmap
+abbrev pub rows_with_bits : ItemsKind → ItemsArgument → Option ℕ
+rows_with_bits U64 a = Some (length a.u64s.now)
+rows_with_bits I64 a = Some (length a.i64s.now)
+rows_with_bits Offsets a = Some (length a.offsets.now - 1)
+rows_with_bits Offsets32 a = Some (length a.offsets32.now - 1)
+rows_with_bits Strings a = Some (length a.strings.now)
+rows_with_bits kind a = None
+
+-- there are bits for this number of rows, or there is no bitmap
+abbrev pub HasBits : Option ℕ → Option (List Bool) → Type 0
+HasBits rows None = Unit {0}
+HasBits None (Some bits) = ⊥
+HasBits (Some count) (Some bits) = count ≤ length bits
+
+-- the kind may have a bitmap, and it has a bit for each row, or there is none
+abbrev pub HasValidity : ItemsKind → ItemsArgument → Type 0
+HasValidity kind a = HasBits (rows_with_bits kind a) (bits_from a.validity.now a.first_bit)
 
 -- the offsets of the kind are valid, if it has offsets
 abbrev pub HasOffsets : ItemsKind → ItemsArgument → Type 0
@@ -65,7 +111,7 @@ HasUtf8 Words a = IsUtf8 a.bytes.now
 HasUtf8 Lines a = IsUtf8 a.bytes.now
 HasUtf8 kind a = Unit {0}
 
--- the first error of an argument is `refusal`
+-- the first error of the rows of an argument is `refusal`
 pub record IsFirstError (kind : ItemsKind) (a : ItemsArgument) (refusal : ℤ) : Type 0 where
   pub not_valid : HasOffsets kind a → ¬ HasUtf8 kind a
   pub not_offsets : ¬ HasOffsets kind a → refusal ≡ bad_offsets
@@ -74,9 +120,11 @@ pub record IsFirstError (kind : ItemsKind) (a : ItemsArgument) (refusal : ℤ) :
 module _ (a : ItemsArgument) (result : ℤ) (unchanged : Type 0) (said : ManyItems → Type 0) where
   -- the statement holds of the items. If the argument has an error, the result is the first one, and all is unchanged
   pub record OnItemsOf (kind : ItemsKind) : Type 0 where
-    pub bad_offsets : ¬ HasOffsets kind a → (result ≡ bad_offsets) × unchanged
-    pub invalid_utf8 : HasOffsets kind a → ¬ HasUtf8 kind a → (result ≡ refusal_number InvalidUtf8) × unchanged
-    pub items : HasOffsets kind a → HasUtf8 kind a → said (items_of kind a)
+    pub bad_bitmap : ¬ HasValidity kind a → (result ≡ bad_argument) × unchanged
+    pub bad_offsets : HasValidity kind a → ¬ HasOffsets kind a → (result ≡ bad_offsets) × unchanged
+    pub invalid_utf8 :
+        HasValidity kind a → HasOffsets kind a → ¬ HasUtf8 kind a → (result ≡ refusal_number InvalidUtf8) × unchanged
+    pub items : HasValidity kind a → HasOffsets kind a → HasUtf8 kind a → said (items_of kind a)
 
   abbrev pub OnItemsOfAny : Option ItemsKind → Type 0
   OnItemsOfAny None = (result ≡ bad_argument) × unchanged
@@ -86,38 +134,59 @@ module _ (a : ItemsArgument) (result : ℤ) (unchanged : Type 0) (said : ManyIte
   abbrev pub OnItems : Type 0
   OnItems = OnItemsOfAny (items_kind_numbered a.kind)
 
--- the statement holds if there is a place for each item. Otherwise the result is `no_room`, and all is unchanged
+-- the statement holds if there is a place for each row. Otherwise the result is `no_room`, and all is unchanged
 pub record OnPlaces (places : ℕ) (items : ManyItems) (result : ℤ) (unchanged said : Type 0) : Type 0 where
-  pub no_room : places ≢ num_items items → (result ≡ no_room) × unchanged
-  pub placed : places ≡ num_items items → said
+  pub no_room : places ≢ num_rows items.rows → (result ≡ no_room) × unchanged
+  pub placed : places ≡ num_rows items.rows → said
 
--- the statement holds of the numbers without a sign, if the items are such. Otherwise the result is `wrong_kind`, and all is unchanged
-abbrev pub OnU64s : ManyItems → ℤ → (unchanged : Type 0) → (List ℕ → Type 0) → Type 0
-OnU64s (u64s items) result unchanged said = said items
-OnU64s items result unchanged said = (result ≡ wrong_kind) × unchanged
+-- the statement holds of which numbers the items without a sign name, if they are such. Otherwise the result is `wrong_kind`, and all
+-- is unchanged
+abbrev pub OnU64Rows : Rows → Option (List Bool) → ℤ → (unchanged : Type 0) → (List (ℕ → Bool) → Type 0) → Type 0
+OnU64Rows (u64s rows) validity result unchanged said = said (of_valid validity (map nat_eq rows))
+OnU64Rows rows validity result unchanged said = (result ≡ wrong_kind) × unchanged
+
+abbrev pub OnU64s : ManyItems → ℤ → (unchanged : Type 0) → (List (ℕ → Bool) → Type 0) → Type 0
+OnU64s items = OnU64Rows items.rows items.validity
 
 -- the same of numbers with a sign
-abbrev pub OnI64s : ManyItems → ℤ → (unchanged : Type 0) → (List ℤ → Type 0) → Type 0
-OnI64s (i64s items) result unchanged said = said items
-OnI64s items result unchanged said = (result ≡ wrong_kind) × unchanged
+abbrev pub OnI64Rows : Rows → Option (List Bool) → ℤ → (unchanged : Type 0) → (List (ℤ → Bool) → Type 0) → Type 0
+OnI64Rows (i64s rows) validity result unchanged said = said (of_valid validity (map int_eq rows))
+OnI64Rows rows validity result unchanged said = (result ≡ wrong_kind) × unchanged
+
+abbrev pub OnI64s : ManyItems → ℤ → (unchanged : Type 0) → (List (ℤ → Bool) → Type 0) → Type 0
+OnI64s items = OnI64Rows items.rows items.validity
 
 -- the same of strings
-abbrev pub OnStrings : ManyItems → ℤ → (unchanged : Type 0) → (List (List ℕ) → Type 0) → Type 0
-OnStrings (strings items) result unchanged said = said items
-OnStrings items result unchanged said = (result ≡ wrong_kind) × unchanged
+abbrev pub OnStringRows : Rows → Option (List Bool) → ℤ → (unchanged : Type 0) → (List (String Global → Bool) → Type 0) → Type 0
+OnStringRows (strings rows) validity result unchanged said = said (of_valid validity (map names_string rows))
+OnStringRows rows validity result unchanged said = (result ≡ wrong_kind) × unchanged
+
+abbrev pub OnStrings : ManyItems → ℤ → (unchanged : Type 0) → (List (String Global → Bool) → Type 0) → Type 0
+OnStrings items = OnStringRows items.rows items.validity
+
+-- the rows of a valid argument
+abbrev pub given_rows : GivenRows → Rows
+given_rows (given.U64 rows) = u64s rows.now
+given_rows (given.I64 rows) = i64s rows.now
+given_rows (given.Offsets rows) = strings rows
+given_rows (given.Offsets32 rows) = strings rows
+given_rows (given.Strings rows) = strings rows
+given_rows (given.Words text) = strings (words_of text.now)
+given_rows (given.Lines text) = strings (lines text.now)
 
 -- the items of a valid argument
 abbrev pub many : GivenItems → ManyItems
-many (given.U64 items) = u64s items.now
-many (given.I64 items) = i64s items.now
-many (given.Offsets items) = strings items
-many (given.Offsets32 items) = strings items
-many (given.Strings items) = strings items
-many (given.Words text) = strings (words_of text.now)
-many (given.Lines text) = strings (lines text.now)
+many items = record { rows = given_rows items.rows; validity = items.validity }
+
+-- these are the rows of a valid argument of the kind, or this is the argument's first error
+abbrev pub GivesRows : ItemsKind → ItemsArgument → Result GivenRows ℤ → Type 0
+GivesRows kind a found =
+    MatchResult found (λ rows. HasOffsets kind a × HasUtf8 kind a × (given_rows rows ≡ rows_of kind a)) (IsFirstError kind a)
 
 -- these are the items of a valid argument of the kind, or this is the argument's first error
 abbrev pub GivesItems : Option ItemsKind → ItemsArgument → Result GivenItems ℤ → Type 0
 GivesItems None a found = MatchResult found (λ items. ⊥) (λ refusal. refusal ≡ bad_argument)
 GivesItems (Some kind) a found =
-    MatchResult found (λ items. HasOffsets kind a × HasUtf8 kind a × (many items ≡ items_of kind a)) (IsFirstError kind a)
+    MatchResult found
+    (λ items. HasValidity kind a × HasOffsets kind a × HasUtf8 kind a × (many items ≡ items_of kind a))
+    (λ refusal. (¬ HasValidity kind a × (refusal ≡ bad_argument)) ⊎ (HasValidity kind a × IsFirstError kind a refusal))

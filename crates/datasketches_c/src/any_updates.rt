@@ -1,9 +1,10 @@
 //! Calls for many items on sketches of any kind that takes them: add weights, and read bounds of frequent items.
 ghost use Rattle.std.specs.Prelude.{◌≡◌, ◌≢◌, length};
 ghost use Rattle.datasketches_c.specs.AnyUpdates.{BoundsAny, BoundsWith, UpdatesAny, UpdatesWith, WeighsAny, WeighsWith};
-ghost use Rattle.datasketches_c.specs.ManyItems.{OnItems, OnPlaces, many, num_items};
+ghost use Rattle.datasketches_c.specs.ManyItems.{OnItems, OnPlaces, many, num_items, num_rows};
 ghost use Rattle.datasketches_c.specs.Numbers.{OnRefused, no_room};
 ghost use Rattle.datasketches_c.specs.Sharing.{unshared};
+ghost use Rattle.datasketches_c.specs.ValidRows.{OnWeights};
 
 use crate::any_sketch::{AnySketch, Held};
 use crate::count_items::{add_given, add_given_weighted};
@@ -12,8 +13,9 @@ use crate::frequent_batches::{
     bounds_of_i64s, bounds_of_strings, bounds_of_u64s,
 };
 use crate::handle::SketchHandle;
-use crate::items_argument::{GivenItems, ItemsArgument, has_count, on_given};
+use crate::items_argument::{GivenItems, ItemsArgument, num_rows, on_given};
 use crate::status_code::{NO_ROOM, NO_SKETCH, WRONG_KIND};
+use crate::valid_rows::on_weights;
 use sketch_frequencies::ItemBounds;
 use std::alloc::Global;
 
@@ -48,7 +50,7 @@ fn update_given(alloc: Global, handle: &mut SketchHandle, items: GivenItems<'_>)
 ///
 /// Returns the first of these errors, and then changes nothing:
 ///
-/// - `BAD_ARGUMENT` if the kind of the items is not known.
+/// - `BAD_ARGUMENT` if the kind of the items is not known, or the bitmap has fewer bits than there are rows, or words or lines have one.
 /// - `BadOffsets` if there is no offset, an offset is below the one before it, or an offset exceeds the number of bytes.
 /// - `InvalidUtf8` if a string is not UTF-8.
 /// - `NO_SKETCH` if the handle has no sketch, and `WRONG_KIND` if its sketch is a filter, shared, or one of frequent items of another
@@ -92,14 +94,9 @@ fn update_weighted_given(
     items: GivenItems<'_>,
     weights: &[u64],
 ) -> i32
-    ensures no_room { length weights.now ≢ num_items (many items.entry)
-        → (result ≡ no_room) × (handle.new.value ≡ handle.old.value) }
-    ensures call { length weights.now ≡ num_items (many items.entry)
-        → WeighsAny handle.old.value handle.new.value (many items.entry) weights.now result }
+    requires { length weights.now ≡ num_items (many items) }
+    ensures { WeighsAny handle.old.value handle.new.value (many items.entry) weights.now result }
 {
-    if !has_count(&items, weights.len()) {
-        return NO_ROOM;
-    }
     let Some(mut sketch) = handle.take(alloc) else {
         return NO_SKETCH;
     };
@@ -108,12 +105,31 @@ fn update_weighted_given(
     answer
 }
 
+/// Adds a weight to each given item's, in order. There is a weight for each row.
+fn update_weighted_rows(
+    alloc: Global,
+    handle: &mut SketchHandle,
+    items: GivenItems<'_>,
+    weights: &[u64],
+) -> i32
+    ensures no_room { length weights.now ≢ num_rows (many items.entry).rows
+        → (result ≡ no_room) × (handle.new.value ≡ handle.old.value) }
+    ensures call { length weights.now ≡ num_rows (many items.entry).rows
+        → OnWeights (many items.entry).validity weights.now result (handle.new.value ≡ handle.old.value) (λ kept.
+        WeighsAny handle.old.value handle.new.value (many items.entry) kept result) }
+{
+    if num_rows(&items.rows) != weights.len() {
+        return NO_ROOM;
+    }
+    on_weights!(alloc, items, weights, kept => update_weighted_given(alloc, handle, items, kept))
+}
+
 /// Adds a weight to each item's, in order. The sketch is a Count-Min sketch with weights in `u64` or one of frequent items, which
 /// takes items of its own type alone. A weight of 0 changes nothing in a sketch of frequent items.
 ///
 /// Returns the first of these errors, and then changes nothing:
 ///
-/// - `BAD_ARGUMENT` if the kind of the items is not known.
+/// - `BAD_ARGUMENT` if the kind of the items is not known, or the bitmap has fewer bits than there are rows, or words or lines have one.
 /// - `BadOffsets` if there is no offset, an offset is below the one before it, or an offset exceeds the number of bytes.
 /// - `InvalidUtf8` if a string is not UTF-8.
 /// - `NO_ROOM` if the number of items is not the length of `weights`.
@@ -132,14 +148,15 @@ pub extern "C" fn ds_update_all_weighted(
 ) -> i32
     ensures { OnItems items.now result (handle.new.value ≡ handle.old.value) (λ given.
         OnPlaces (length weights.now) given result (handle.new.value ≡ handle.old.value)
-        (WeighsAny handle.old.value handle.new.value given weights.now result)) }
+        (OnWeights given.validity weights.now result (handle.new.value ≡ handle.old.value) (λ kept.
+        WeighsAny handle.old.value handle.new.value given kept result))) }
 {
-    on_given!(items, given => update_weighted_given(alloc, handle, given, weights))
+    on_given!(items, given => update_weighted_rows(alloc, handle, given, weights))
 }
 
 /// Writes a sketch's bounds and estimate of each given item's weight. Returns the result's number.
 fn bounds_with(sketch: &AnySketch, items: GivenItems<'_>, bounds: &mut [ItemBounds]) -> i32
-    requires { length bounds.old ≡ num_items (many items) }
+    requires { length bounds.old ≡ num_rows (many items).rows }
     ensures bounds { BoundsWith (unshared sketch.now) (many items.entry) bounds.old bounds.new result }
     ensures untouched { OnRefused result (bounds.new ≡ bounds.old) }
 {
@@ -159,12 +176,12 @@ fn bounds_given(
     bounds: &mut [ItemBounds],
 ) -> i32
     ensures kept { handle.new.value ≡ handle.old.value }
-    ensures no_room { length bounds.old ≢ num_items (many items.entry) → (result ≡ no_room) × (bounds.new ≡ bounds.old) }
-    ensures bounds { length bounds.old ≡ num_items (many items.entry)
+    ensures no_room { length bounds.old ≢ num_rows (many items.entry).rows → (result ≡ no_room) × (bounds.new ≡ bounds.old) }
+    ensures bounds { length bounds.old ≡ num_rows (many items.entry).rows
         → BoundsAny handle.old.value (many items.entry) bounds.old bounds.new result }
     ensures untouched { OnRefused result (bounds.new ≡ bounds.old) }
 {
-    if !has_count(&items, bounds.len()) {
+    if num_rows(&items.rows) != bounds.len() {
         return NO_ROOM;
     }
     let Some(sketch) = handle.take(alloc) else {
@@ -180,7 +197,7 @@ fn bounds_given(
 ///
 /// Returns the first of these errors, and then changes nothing:
 ///
-/// - `BAD_ARGUMENT` if the kind of the items is not known.
+/// - `BAD_ARGUMENT` if the kind of the items is not known, or the bitmap has fewer bits than there are rows, or words or lines have one.
 /// - `BadOffsets` if there is no offset, an offset is below the one before it, or an offset exceeds the number of bytes.
 /// - `InvalidUtf8` if a string is not UTF-8.
 /// - `NO_ROOM` if the number of items is not the length of `bounds`.

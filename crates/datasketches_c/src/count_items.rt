@@ -3,15 +3,17 @@ ghost use Rattle.std.specs.Prelude.{◌≡◌, ◌≢◌, length, map, pos};
 ghost use Rattle.datasketches_c.specs.CountCalls.{AddsEach, AddsWeights, EstimatesAll};
 ghost use Rattle.datasketches_c.specs.Estimates.{AreEstimates};
 ghost use Rattle.datasketches_c.specs.Kinds.{HoldsKind, OnKind, count_i64_of, count_u64_of};
-ghost use Rattle.datasketches_c.specs.ManyItems.{OnItems, OnPlaces, fed_items, many, num_items};
+ghost use Rattle.datasketches_c.specs.ManyItems.{OnItems, OnPlaces, fed_items, many, num_items, num_rows};
 ghost use Rattle.datasketches_c.specs.Numbers.{OnRefused, max_i64, no_room};
 ghost use Rattle.datasketches_c.specs.Sharing.{reads};
+ghost use Rattle.datasketches_c.specs.ValidRows.{OnRows, OnWeights};
 
 use crate::count::{add_all, add_all_weighted, estimate_items};
 use crate::handle::SketchHandle;
-use crate::items_argument::{GivenItems, ItemsArgument, has_count, on_given, on_items};
+use crate::items_argument::{GivenItems, ItemsArgument, num_rows, on_given, on_items};
 use crate::kind::{Kind, on_kind, reading_kind};
 use crate::status_code::{NO_ROOM, OK};
+use crate::valid_rows::{by_row, on_weights};
 use sketch_countmin::{CountMinSketch, CountMinValue};
 use std::alloc::Global;
 
@@ -26,6 +28,7 @@ pub(crate) fn add_given<V: CountMinValue>(
 }
 
 /// Adds a weight to each given item's in a sketch, in order. Returns the result's number.
+#[tactic(auto, using(crate::proofs::RowCounts::length_valid_map))]
 pub(crate) fn add_given_weighted<V: CountMinValue>(
     sketch: &mut CountMinSketch<V>,
     items: GivenItems<'_>,
@@ -46,25 +49,44 @@ fn update_weighted<V: CountMinValue>(
 ) -> i32
 where
     CountMinSketch<V>: Kind,
-    ensures no_room { length weights.now ≢ num_items (many items.entry)
-        → (result ≡ no_room) × (handle.new.value ≡ handle.old.value) }
-    ensures call { length weights.now ≡ num_items (many items.entry)
-        → OnKind (⟦<CountMinSketch<V> as Kind>⟧.part) handle.old.value handle.new.value result (λ s.
+    requires { length weights.now ≡ num_items (many items) }
+    ensures call { OnKind (⟦<CountMinSketch<V> as Kind>⟧.part) handle.old.value handle.new.value result (λ s.
         HoldsKind (⟦<CountMinSketch<V> as Kind>⟧.part) handle.new.value (λ t.
         AddsWeights V.greatest V.number s (fed_items (many items.entry)) weights.now t result)) }
     ensures refused { OnRefused result (handle.new.value ≡ handle.old.value) }
 {
-    if !has_count(&items, weights.len()) {
+    on_kind!(alloc, handle, CountMinSketch<V>, sketch => add_given_weighted(sketch, items, weights))
+}
+
+/// Adds a weight to each given item's, in order. There is a weight for each row.
+fn update_weighted_rows<V: CountMinValue>(
+    alloc: Global,
+    handle: &mut SketchHandle,
+    items: GivenItems<'_>,
+    weights: &[V],
+) -> i32
+where
+    CountMinSketch<V>: Kind,
+    ensures no_room { length weights.now ≢ num_rows (many items.entry).rows
+        → (result ≡ no_room) × (handle.new.value ≡ handle.old.value) }
+    ensures call { length weights.now ≡ num_rows (many items.entry).rows
+        → OnWeights (many items.entry).validity weights.now result (handle.new.value ≡ handle.old.value) (λ kept.
+        OnKind (⟦<CountMinSketch<V> as Kind>⟧.part) handle.old.value handle.new.value result (λ s.
+        HoldsKind (⟦<CountMinSketch<V> as Kind>⟧.part) handle.new.value (λ t.
+        AddsWeights V.greatest V.number s (fed_items (many items.entry)) kept t result))) }
+    ensures refused { OnRefused result (handle.new.value ≡ handle.old.value) }
+{
+    if num_rows(&items.rows) != weights.len() {
         return NO_ROOM;
     }
-    on_kind!(alloc, handle, CountMinSketch<V>, sketch => add_given_weighted(sketch, items, weights))
+    on_weights!(alloc, items, weights, kept => update_weighted(alloc, handle, items, kept))
 }
 
 /// Adds a weight to each item's, in order. The total grows by each weight's distance from 0.
 ///
 /// Returns the first of these errors, and then changes nothing:
 ///
-/// - `BAD_ARGUMENT` if the kind of the items is not known.
+/// - `BAD_ARGUMENT` if the kind of the items is not known, or the bitmap has fewer bits than there are rows, or words or lines have one.
 /// - `BadOffsets` if there is no offset, an offset is below the one before it, or an offset exceeds the number of bytes.
 /// - `InvalidUtf8` if a string is not UTF-8.
 /// - `NO_ROOM` if the number of items is not the length of `weights`.
@@ -79,14 +101,16 @@ pub extern "C" fn ds_count_min_i64_update_all_weighted(
 ) -> i32
     ensures call { OnItems items.now result (handle.new.value ≡ handle.old.value) (λ given.
         OnPlaces (length weights.now) given result (handle.new.value ≡ handle.old.value)
-        (OnKind count_i64_of handle.old.value handle.new.value result (λ s. HoldsKind count_i64_of handle.new.value (λ t.
-        AddsWeights max_i64 (λ weight. weight) s (fed_items given) weights.now t result)))) }
+        (OnWeights given.validity weights.now result (handle.new.value ≡ handle.old.value) (λ kept.
+        OnKind count_i64_of handle.old.value handle.new.value result (λ s. HoldsKind count_i64_of handle.new.value (λ t.
+        AddsWeights max_i64 (λ weight. weight) s (fed_items given) kept t result))))) }
     ensures refused { OnRefused result (handle.new.value ≡ handle.old.value) }
 {
-    on_given!(items, given => update_weighted::<i64>(alloc, handle, given, weights))
+    on_given!(items, given => update_weighted_rows::<i64>(alloc, handle, given, weights))
 }
 
 /// Writes a sketch's estimate of each given item's weight.
+#[tactic(auto, using(crate::proofs::RowCounts::length_valid_map))]
 fn estimate_given<V: CountMinValue>(
     sketch: &CountMinSketch<V>,
     items: GivenItems<'_>,
@@ -97,6 +121,20 @@ fn estimate_given<V: CountMinValue>(
     ensures each { AreEstimates sketch.now (fed_items (many items.entry)) (map V.number estimates.new) }
 {
     on_items!(items, sequence => estimate_items(sketch, sequence, estimates))
+}
+
+/// Writes for each row a sketch's estimate of its item's weight. The estimate of a null is 0.
+fn estimate_by_row<V: CountMinValue>(
+    sketch: &CountMinSketch<V>,
+    items: GivenItems<'_>,
+    estimates: &mut [V],
+)
+    requires { length estimates.old ≡ num_rows (many items).rows }
+    ensures length { length estimates.new ≡ length estimates.old }
+    ensures each { OnRows (many items.entry).validity V.ZERO estimates.new (λ answers.
+        AreEstimates sketch.now (fed_items (many items.entry)) (map V.number answers)) }
+{
+    by_row!(items, estimates, V::ZERO, places => estimate_given(sketch, items, places));
 }
 
 /// Writes the estimate of each given item's weight.
@@ -110,16 +148,16 @@ where
     CountMinSketch<V>: Kind,
     ensures kept { handle.new.value ≡ handle.old.value }
     ensures length { length estimates.new ≡ length estimates.old }
-    ensures no_room { length estimates.old ≢ num_items (many items.entry) → (result ≡ no_room) × (estimates.new ≡ estimates.old) }
-    ensures estimates { length estimates.old ≡ num_items (many items.entry)
-        → EstimatesAll (reads (⟦<CountMinSketch<V> as Kind>⟧.part)) handle.old.value handle.new.value result (fed_items (many items.entry)) (map V.number estimates.new) }
+    ensures no_room { length estimates.old ≢ num_rows (many items.entry).rows → (result ≡ no_room) × (estimates.new ≡ estimates.old) }
+    ensures estimates { length estimates.old ≡ num_rows (many items.entry).rows
+        → EstimatesAll V.number V.ZERO (reads (⟦<CountMinSketch<V> as Kind>⟧.part)) handle.old.value handle.new.value result (many items.entry).validity (fed_items (many items.entry)) estimates.new }
     ensures untouched { OnRefused result (estimates.new ≡ estimates.old) }
 {
-    if !has_count(&items, estimates.len()) {
+    if num_rows(&items.rows) != estimates.len() {
         return NO_ROOM;
     }
     reading_kind!(alloc, handle, CountMinSketch<V>, sketch => {
-        estimate_given(sketch, items, estimates);
+        estimate_by_row(sketch, items, estimates);
         OK
     })
 }
@@ -128,7 +166,7 @@ where
 ///
 /// Returns the first of these errors, and then changes nothing:
 ///
-/// - `BAD_ARGUMENT` if the kind of the items is not known.
+/// - `BAD_ARGUMENT` if the kind of the items is not known, or the bitmap has fewer bits than there are rows, or words or lines have one.
 /// - `BadOffsets` if there is no offset, an offset is below the one before it, or an offset exceeds the number of bytes.
 /// - `InvalidUtf8` if a string is not UTF-8.
 /// - `NO_ROOM` if the number of items is not the length of `estimates`.
@@ -144,7 +182,7 @@ pub extern "C" fn ds_count_min_u64_estimate_all(
     ensures length { length estimates.new ≡ length estimates.old }
     ensures estimates { OnItems items.now result (estimates.new ≡ estimates.old) (λ given.
         OnPlaces (length estimates.old) given result (estimates.new ≡ estimates.old)
-        (EstimatesAll (reads count_u64_of) handle.old.value handle.new.value result (fed_items given) (map pos estimates.new))) }
+        (EstimatesAll pos 0 (reads count_u64_of) handle.old.value handle.new.value result given.validity (fed_items given) estimates.new)) }
     ensures untouched { OnRefused result (estimates.new ≡ estimates.old) }
 {
     on_given!(items, given => estimate_all::<u64>(alloc, handle, given, estimates))
@@ -154,7 +192,7 @@ pub extern "C" fn ds_count_min_u64_estimate_all(
 ///
 /// Returns the first of these errors, and then changes nothing:
 ///
-/// - `BAD_ARGUMENT` if the kind of the items is not known.
+/// - `BAD_ARGUMENT` if the kind of the items is not known, or the bitmap has fewer bits than there are rows, or words or lines have one.
 /// - `BadOffsets` if there is no offset, an offset is below the one before it, or an offset exceeds the number of bytes.
 /// - `InvalidUtf8` if a string is not UTF-8.
 /// - `NO_ROOM` if the number of items is not the length of `estimates`.
@@ -170,7 +208,7 @@ pub extern "C" fn ds_count_min_i64_estimate_all(
     ensures length { length estimates.new ≡ length estimates.old }
     ensures estimates { OnItems items.now result (estimates.new ≡ estimates.old) (λ given.
         OnPlaces (length estimates.old) given result (estimates.new ≡ estimates.old)
-        (EstimatesAll (reads count_i64_of) handle.old.value handle.new.value result (fed_items given) estimates.new)) }
+        (EstimatesAll (λ estimate. estimate) (pos 0) (reads count_i64_of) handle.old.value handle.new.value result given.validity (fed_items given) estimates.new)) }
     ensures untouched { OnRefused result (estimates.new ≡ estimates.old) }
 {
     on_given!(items, given => estimate_all::<i64>(alloc, handle, given, estimates))

@@ -1,18 +1,20 @@
 //! Calls of filters for many items: insert and look up.
-ghost use Rattle.std.specs.Prelude.{◌≡◌, ◌≢◌, length, map};
+ghost use Rattle.std.specs.Prelude.{◌≡◌, ◌≢◌, false, length, map};
 ghost use Rattle.sketch_bloom.specs.History.{all_inserted_after};
 ghost use Rattle.sketch_bloom.specs.Stands.{Extends};
 ghost use Rattle.sketch_bloom.specs.State.{all_inserted, answers_in_turn, contains_item};
 ghost use Rattle.datasketches_c.specs.FilterCalls.{InsertsAll, TellsAndInsertsAll};
 ghost use Rattle.datasketches_c.specs.ImageViews.{AsksFilter};
 ghost use Rattle.datasketches_c.specs.Kinds.{ReadsFilter};
-ghost use Rattle.datasketches_c.specs.ManyItems.{OnItems, OnPlaces, fed_items, many, num_items};
+ghost use Rattle.datasketches_c.specs.ManyItems.{OnItems, OnPlaces, fed_items, many, num_items, num_rows};
 ghost use Rattle.datasketches_c.specs.Numbers.{OnRefused, no_room, ok};
+ghost use Rattle.datasketches_c.specs.ValidRows.{OnRows};
 
 use crate::handle::SketchHandle;
-use crate::items_argument::{GivenItems, ItemsArgument, has_count, on_given, on_items};
+use crate::items_argument::{GivenItems, ItemsArgument, num_rows, on_given, on_items};
 use crate::kind::{on_kind, reading_kind};
 use crate::status_code::{NO_ROOM, OK, on_done};
+use crate::valid_rows::by_row;
 use sketch_bloom::{BloomFilter, BloomFilterView};
 use std::alloc::Global;
 
@@ -39,7 +41,7 @@ fn insert_given(alloc: Global, handle: &mut SketchHandle, items: GivenItems<'_>)
 ///
 /// Returns the first of these errors, and then changes nothing:
 ///
-/// - `BAD_ARGUMENT` if the kind of the items is not known.
+/// - `BAD_ARGUMENT` if the kind of the items is not known, or the bitmap has fewer bits than there are rows, or words or lines have one.
 /// - `BadOffsets` if there is no offset, an offset is below the one before it, or an offset exceeds the number of bytes.
 /// - `InvalidUtf8` if a string is not UTF-8.
 /// - `NO_SKETCH` if the handle has no sketch, and `WRONG_KIND` if its sketch is of another kind or shared.
@@ -57,11 +59,21 @@ pub extern "C" fn ds_bloom_insert_all(
 }
 
 /// Writes for each given item whether a filter contains it.
+#[tactic(auto, using(crate::proofs::RowCounts::length_valid_map))]
 fn contains_each(filter: &BloomFilter, items: GivenItems<'_>, results: &mut [bool])
     requires { length results.old ≡ num_items (many items) }
     ensures { results.new ≡ map (contains_item filter.now) (fed_items (many items.entry)) }
 {
     on_items!(items, sequence => filter.contains_all(sequence, results))
+}
+
+/// Writes for each row whether a filter contains its item. The answer for a null is no.
+fn contains_by_row(filter: &BloomFilter, items: GivenItems<'_>, results: &mut [bool])
+    requires { length results.old ≡ num_rows (many items).rows }
+    ensures { OnRows (many items.entry).validity false results.new (λ answers.
+        answers ≡ map (contains_item filter.now) (fed_items (many items.entry))) }
+{
+    by_row!(items, results, false, places => contains_each(filter, items, places));
 }
 
 /// Writes for each given item whether the filter contains it.
@@ -72,17 +84,18 @@ fn contains_given(
     results: &mut [bool],
 ) -> i32
     ensures kept { handle.new.value ≡ handle.old.value }
-    ensures no_room { length results.old ≢ num_items (many items.entry) → (result ≡ no_room) × (results.new ≡ results.old) }
-    ensures results { length results.old ≡ num_items (many items.entry)
+    ensures no_room { length results.old ≢ num_rows (many items.entry).rows → (result ≡ no_room) × (results.new ≡ results.old) }
+    ensures results { length results.old ≡ num_rows (many items.entry).rows
         → ReadsFilter handle.old.value handle.new.value result (λ s. (result ≡ ok)
-        × (results.new ≡ map (contains_item s) (fed_items (many items.entry)))) }
+        × OnRows (many items.entry).validity false results.new (λ answers.
+        answers ≡ map (contains_item s) (fed_items (many items.entry)))) }
     ensures untouched { OnRefused result (results.new ≡ results.old) }
 {
-    if !has_count(&items, results.len()) {
+    if num_rows(&items.rows) != results.len() {
         return NO_ROOM;
     }
     reading_kind!(alloc, handle, BloomFilter, filter => {
-        contains_each(filter, items, results);
+        contains_by_row(filter, items, results);
         OK
     })
 }
@@ -91,7 +104,7 @@ fn contains_given(
 ///
 /// Returns the first of these errors, and then changes nothing:
 ///
-/// - `BAD_ARGUMENT` if the kind of the items is not known.
+/// - `BAD_ARGUMENT` if the kind of the items is not known, or the bitmap has fewer bits than there are rows, or words or lines have one.
 /// - `BadOffsets` if there is no offset, an offset is below the one before it, or an offset exceeds the number of bytes.
 /// - `InvalidUtf8` if a string is not UTF-8.
 /// - `NO_ROOM` if the number of items is not the length of `results`.
@@ -107,13 +120,14 @@ pub extern "C" fn ds_bloom_contains_all(
     ensures results { OnItems items.now result (results.new ≡ results.old) (λ given.
         OnPlaces (length results.old) given result (results.new ≡ results.old)
         (ReadsFilter handle.old.value handle.new.value result (λ s. (result ≡ ok)
-        × (results.new ≡ map (contains_item s) (fed_items given))))) }
+        × OnRows given.validity false results.new (λ answers. answers ≡ map (contains_item s) (fed_items given))))) }
     ensures untouched { OnRefused result (results.new ≡ results.old) }
 {
     on_given!(items, given => contains_given(alloc, handle, given, results))
 }
 
 /// Inserts given items into a filter in order, and writes for each whether the filter contained it before.
+#[tactic(auto, using(crate::proofs::RowCounts::length_valid_map))]
 fn contains_and_insert_each(filter: &mut BloomFilter, items: GivenItems<'_>, results: &mut [bool])
     requires { length results.old ≡ num_items (many items) }
     ensures results { results.new ≡ answers_in_turn filter.old (fed_items (many items.entry)) }
@@ -123,6 +137,18 @@ fn contains_and_insert_each(filter: &mut BloomFilter, items: GivenItems<'_>, res
     on_items!(items, sequence => filter.contains_and_insert_all(sequence, results))
 }
 
+/// Inserts given items into a filter in order, and writes for each row whether the filter contained its item before. The answer for a
+/// null is no.
+fn contains_and_insert_by_row(filter: &mut BloomFilter, items: GivenItems<'_>, results: &mut [bool])
+    requires { length results.old ≡ num_rows (many items).rows }
+    ensures results { OnRows (many items.entry).validity false results.new (λ answers.
+        answers ≡ answers_in_turn filter.old (fed_items (many items.entry))) }
+    ensures insertions { filter.new ≡ all_inserted filter.old (fed_items (many items.entry)) }
+    ensures stands { Extends filter.old filter.new (λ h. all_inserted_after h (fed_items (many items.entry))) }
+{
+    by_row!(items, results, false, places => contains_and_insert_each(filter, items, places));
+}
+
 /// Inserts given items in order, and writes for each whether the filter contained it before.
 fn contains_and_insert_given(
     alloc: Global,
@@ -130,17 +156,17 @@ fn contains_and_insert_given(
     items: GivenItems<'_>,
     results: &mut [bool],
 ) -> i32
-    ensures no_room { length results.old ≢ num_items (many items.entry)
+    ensures no_room { length results.old ≢ num_rows (many items.entry).rows
         → (result ≡ no_room) × (handle.new.value ≡ handle.old.value) × (results.new ≡ results.old) }
-    ensures call { length results.old ≡ num_items (many items.entry)
-        → TellsAndInsertsAll handle.old.value handle.new.value result (fed_items (many items.entry)) results.new }
+    ensures call { length results.old ≡ num_rows (many items.entry).rows
+        → TellsAndInsertsAll handle.old.value handle.new.value result (many items.entry).validity (fed_items (many items.entry)) results.new }
     ensures refused { OnRefused result ((handle.new.value ≡ handle.old.value) × (results.new ≡ results.old)) }
 {
-    if !has_count(&items, results.len()) {
+    if num_rows(&items.rows) != results.len() {
         return NO_ROOM;
     }
     on_kind!(alloc, handle, BloomFilter, filter => {
-        contains_and_insert_each(filter, items, results);
+        contains_and_insert_by_row(filter, items, results);
         OK
     })
 }
@@ -149,7 +175,7 @@ fn contains_and_insert_given(
 ///
 /// Returns the first of these errors, and then changes nothing:
 ///
-/// - `BAD_ARGUMENT` if the kind of the items is not known.
+/// - `BAD_ARGUMENT` if the kind of the items is not known, or the bitmap has fewer bits than there are rows, or words or lines have one.
 /// - `BadOffsets` if there is no offset, an offset is below the one before it, or an offset exceeds the number of bytes.
 /// - `InvalidUtf8` if a string is not UTF-8.
 /// - `NO_ROOM` if the number of items is not the length of `results`.
@@ -163,13 +189,14 @@ pub extern "C" fn ds_bloom_contains_and_insert_all(
 ) -> i32
     ensures call { OnItems items.now result ((handle.new.value ≡ handle.old.value) × (results.new ≡ results.old)) (λ given.
         OnPlaces (length results.old) given result ((handle.new.value ≡ handle.old.value) × (results.new ≡ results.old))
-        (TellsAndInsertsAll handle.old.value handle.new.value result (fed_items given) results.new)) }
+        (TellsAndInsertsAll handle.old.value handle.new.value result given.validity (fed_items given) results.new)) }
     ensures refused { OnRefused result ((handle.new.value ≡ handle.old.value) × (results.new ≡ results.old)) }
 {
     on_given!(items, given => contains_and_insert_given(alloc, handle, given, results))
 }
 
 /// Writes for each given item whether a filter in an image contains it.
+#[tactic(auto, using(crate::proofs::RowCounts::length_valid_map))]
 fn view_contains_each(filter: &BloomFilterView<'_>, items: GivenItems<'_>, results: &mut [bool])
     requires { length results.old ≡ num_items (many items) }
     ensures { results.new ≡ map (contains_item filter.now) (fed_items (many items.entry)) }
@@ -177,18 +204,28 @@ fn view_contains_each(filter: &BloomFilterView<'_>, items: GivenItems<'_>, resul
     on_items!(items, sequence => filter.contains_all(sequence, results))
 }
 
+/// Writes for each row whether a filter in an image contains its item. The answer for a null is no.
+fn view_contains_by_row(filter: &BloomFilterView<'_>, items: GivenItems<'_>, results: &mut [bool])
+    requires { length results.old ≡ num_rows (many items).rows }
+    ensures { OnRows (many items.entry).validity false results.new (λ answers.
+        answers ≡ map (contains_item filter.now) (fed_items (many items.entry))) }
+{
+    by_row!(items, results, false, places => view_contains_each(filter, items, places));
+}
+
 /// Writes for each given item whether the filter in an image contains it.
 fn image_contains_given(image: &[u8], items: GivenItems<'_>, results: &mut [bool]) -> i32
-    ensures no_room { length results.old ≢ num_items (many items.entry) → (result ≡ no_room) × (results.new ≡ results.old) }
-    ensures results { length results.old ≡ num_items (many items.entry) → AsksFilter image.now (λ s. (result ≡ ok)
-        × (results.new ≡ map (contains_item s) (fed_items (many items.entry)))) result }
+    ensures no_room { length results.old ≢ num_rows (many items.entry).rows → (result ≡ no_room) × (results.new ≡ results.old) }
+    ensures results { length results.old ≡ num_rows (many items.entry).rows → AsksFilter image.now (λ s. (result ≡ ok)
+        × OnRows (many items.entry).validity false results.new (λ answers.
+        answers ≡ map (contains_item s) (fed_items (many items.entry)))) result }
     ensures untouched { OnRefused result (results.new ≡ results.old) }
 {
-    if !has_count(&items, results.len()) {
+    if num_rows(&items.rows) != results.len() {
         return NO_ROOM;
     }
     on_done!(BloomFilterView::new(image), filter => {
-        view_contains_each(&filter, items, results);
+        view_contains_by_row(&filter, items, results);
         OK
     })
 }
@@ -197,7 +234,7 @@ fn image_contains_given(image: &[u8], items: GivenItems<'_>, results: &mut [bool
 ///
 /// Returns the first of these errors, and then changes nothing:
 ///
-/// - `BAD_ARGUMENT` if the kind of the items is not known.
+/// - `BAD_ARGUMENT` if the kind of the items is not known, or the bitmap has fewer bits than there are rows, or words or lines have one.
 /// - `BadOffsets` if there is no offset, an offset is below the one before it, or an offset exceeds the number of bytes.
 /// - `InvalidUtf8` if a string is not UTF-8.
 /// - `NO_ROOM` if the number of items is not the length of `results`.
@@ -211,7 +248,7 @@ pub extern "C" fn ds_bloom_image_contains_all(
     ensures results { OnItems items.now result (results.new ≡ results.old) (λ given.
         OnPlaces (length results.old) given result (results.new ≡ results.old)
         (AsksFilter image.now (λ s. (result ≡ ok)
-        × (results.new ≡ map (contains_item s) (fed_items given))) result)) }
+        × OnRows given.validity false results.new (λ answers. answers ≡ map (contains_item s) (fed_items given))) result)) }
     ensures untouched { OnRefused result (results.new ≡ results.old) }
 {
     on_given!(items, given => image_contains_given(image, given, results))

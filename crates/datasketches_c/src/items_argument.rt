@@ -1,9 +1,11 @@
 //! Many items as an argument of calls: numbers, or strings in one of several forms.
-ghost use Rattle.std.specs.Prelude.{◌≡◌, ◌↔◌, IsTrue, length};
-ghost use Rattle.datasketches_c.specs.ManyItems.{GivesItems, items_kind_numbered, many, num_items};
+ghost use Rattle.std.specs.Prelude.{◌≡◌, ◌↔◌, ◌<◌, ◌^◌, IsTrue, length};
+ghost use Rattle.datasketches_c.specs.ManyItems.{GivesItems, GivesRows, HasBits, OnItems, given_rows, items_kind_numbered, num_rows, rows_with_bits};
+ghost use Rattle.datasketches_c.specs.Numbers.{ok};
+ghost use Rattle.datasketches_c.specs.ValidRows.{bits_from};
 
-use crate::status_code::{BAD_ARGUMENT, refusal_number};
-use sketch_base::{ByteStrings, Fault, Lines, OffsetStrings, Strings, Words, from_utf8};
+use crate::status_code::{BAD_ARGUMENT, OK, refusal_number};
+use sketch_base::{ByteStrings, Fault, Lines, OffsetStrings, Strings, Validity, Words, from_utf8};
 
 /// A kind of many items.
 #[derive(Clone, Copy)]
@@ -44,11 +46,15 @@ pub struct ItemsArgument<'a> {
     pub offsets: &'a [u64],
     pub offsets32: &'a [u32],
     pub strings: &'a [&'a [u8]],
+    /// A bit for each row, lowest first in each byte: a row is valid if its bit is set. All are valid if the bitmap is empty.
+    pub validity: &'a [u8],
+    /// The bit of the first row.
+    pub first_bit: usize,
 }
 
-/// The items of a valid argument. Words and lines are those of a string.
+/// The rows of a valid argument. Words and lines are those of a string.
 #[derive(Drop)]
-pub enum GivenItems<'a> {
+pub enum GivenRows<'a> {
     U64(&'a [u64]),
     I64(&'a [i64]),
     Offsets(OffsetStrings<'a, &'a [u64]>),
@@ -58,6 +64,51 @@ pub enum GivenItems<'a> {
     Lines(&'a str),
 }
 
+/// The items of a valid argument: its valid rows.
+#[derive(Drop)]
+pub struct GivenItems<'a> {
+    pub rows: GivenRows<'a>,
+    /// A bit for each row, if some may be null.
+    pub validity: Option<Validity<'a>>,
+}
+
+/// Returns the number of rows that a bitmap has bits for, or `None` if the kind may have no bitmap.
+fn rows_with_bits(kind: ItemsKind, items: &ItemsArgument<'_>) -> Option<usize>
+    ensures { result ≡ rows_with_bits kind items.now }
+{
+    match kind {
+        ItemsKind::U64 => Some(items.u64s.len()),
+        ItemsKind::I64 => Some(items.i64s.len()),
+        ItemsKind::Offsets => Some(items.offsets.len().saturating_sub(1)),
+        ItemsKind::Offsets32 => Some(items.offsets32.len().saturating_sub(1)),
+        ItemsKind::Strings => Some(items.strings.len()),
+        _ => None,
+    }
+}
+
+/// Returns the bits of the rows, or `None` if there is no bitmap.
+fn bits_from<'a>(bitmap: &'a [u8], first_bit: usize) -> Option<Validity<'a>>
+    ensures { result ≡ bits_from bitmap.now first_bit }
+{
+    if bitmap.is_empty() {
+        return None;
+    }
+    Some(Validity::new(bitmap, first_bit))
+}
+
+/// Returns whether there are bits for `rows` rows, or no bitmap.
+fn has_bits(validity: &Option<Validity<'_>>, rows: Option<usize>) -> bool
+    ensures { IsTrue result ↔ HasBits rows validity.now }
+{
+    match validity {
+        None => true,
+        Some(bits) => match rows {
+            None => false,
+            Some(count) => bits.has_bits(count),
+        },
+    }
+}
+
 /// Returns the items of an argument, or the number of its first error: `BAD_ARGUMENT`, `BadOffsets` or `InvalidUtf8`.
 pub(crate) fn given_items<'a>(items: &ItemsArgument<'a>) -> Result<GivenItems<'a>, i32>
     ensures { GivesItems (items_kind_numbered items.now.kind) items.now result }
@@ -65,57 +116,71 @@ pub(crate) fn given_items<'a>(items: &ItemsArgument<'a>) -> Result<GivenItems<'a
     let Some(kind) = items_kind_numbered(items.kind) else {
         return Err(BAD_ARGUMENT);
     };
+    let validity = bits_from(items.validity, items.first_bit);
+    if !has_bits(&validity, rows_with_bits(kind, items)) {
+        return Err(BAD_ARGUMENT);
+    }
+    match given_rows(kind, items) {
+        Ok(rows) => Ok(GivenItems { rows, validity }),
+        Err(refusal) => Err(refusal),
+    }
+}
+
+/// Returns the rows of an argument, or the number of their first error: `BadOffsets` or `InvalidUtf8`.
+fn given_rows<'a>(kind: ItemsKind, items: &ItemsArgument<'a>) -> Result<GivenRows<'a>, i32>
+    ensures { GivesRows kind items.now result }
+{
     match kind {
-        ItemsKind::U64 => Ok(GivenItems::U64(items.u64s)),
-        ItemsKind::I64 => Ok(GivenItems::I64(items.i64s)),
+        ItemsKind::U64 => Ok(GivenRows::U64(items.u64s)),
+        ItemsKind::I64 => Ok(GivenRows::I64(items.i64s)),
         ItemsKind::Offsets => match OffsetStrings::new(items.bytes, items.offsets) {
-            Ok(strings) => Ok(GivenItems::Offsets(strings)),
+            Ok(strings) => Ok(GivenRows::Offsets(strings)),
             Err(error) => Err(refusal_number(error.fault())),
         },
         ItemsKind::Offsets32 => match OffsetStrings::new(items.bytes, items.offsets32) {
-            Ok(strings) => Ok(GivenItems::Offsets32(strings)),
+            Ok(strings) => Ok(GivenRows::Offsets32(strings)),
             Err(error) => Err(refusal_number(error.fault())),
         },
         ItemsKind::Strings => match ByteStrings::new(items.strings) {
-            Ok(strings) => Ok(GivenItems::Strings(strings)),
+            Ok(strings) => Ok(GivenRows::Strings(strings)),
             Err(error) => Err(refusal_number(error.fault())),
         },
         ItemsKind::Words => match from_utf8(items.bytes) {
-            Ok(text) => Ok(GivenItems::Words(text)),
+            Ok(text) => Ok(GivenRows::Words(text)),
             Err(_) => Err(refusal_number(Fault::InvalidUtf8)),
         },
         ItemsKind::Lines => match from_utf8(items.bytes) {
-            Ok(text) => Ok(GivenItems::Lines(text)),
+            Ok(text) => Ok(GivenRows::Lines(text)),
             Err(_) => Err(refusal_number(Fault::InvalidUtf8)),
         },
     }
 }
 
-/// Returns whether there are `count` strings.
-fn are_count<'a, S: Strings<'a>>(strings: S, count: usize) -> bool
-    ensures { IsTrue result ↔ (length (S.strings strings) ≡ count) }
+/// Returns the number of strings.
+fn count_strings<'a, S: Strings<'a>>(strings: S) -> usize
+    requires { length (S.strings strings) < 2 ^ 64 }
+    ensures { result ≡ length (S.strings strings) }
 {
     let mut strings = strings;
-    'each: for _ in 0..count {
-        let Some(_) = strings.next_str() else {
-            return false;
-        };
+    let mut count = 0;
+    'each: while let Some(_) = strings.next_str() {
+        count += 1;
     }
-    strings.next_str().is_none()
+    count
 }
 
-/// Returns whether there are `count` items. Words and lines are counted.
-pub(crate) fn has_count(items: &GivenItems<'_>, count: usize) -> bool
-    ensures { IsTrue result ↔ (num_items (many items.now) ≡ count) }
+/// Returns the number of rows. Words and lines are counted.
+pub(crate) fn num_rows(rows: &GivenRows<'_>) -> usize
+    ensures { result ≡ num_rows (given_rows rows.now) }
 {
-    match items {
-        GivenItems::U64(numbers) => numbers.len() == count,
-        GivenItems::I64(numbers) => numbers.len() == count,
-        GivenItems::Offsets(strings) => strings.len() == count,
-        GivenItems::Offsets32(strings) => strings.len() == count,
-        GivenItems::Strings(strings) => strings.len() == count,
-        GivenItems::Words(text) => are_count(Words::new(text), count),
-        GivenItems::Lines(text) => are_count(Lines::new(text), count),
+    match rows {
+        GivenRows::U64(numbers) => numbers.len(),
+        GivenRows::I64(numbers) => numbers.len(),
+        GivenRows::Offsets(strings) => strings.len(),
+        GivenRows::Offsets32(strings) => strings.len(),
+        GivenRows::Strings(strings) => strings.len(),
+        GivenRows::Words(text) => count_strings(Words::new(text)),
+        GivenRows::Lines(text) => count_strings(Lines::new(text)),
     }
 }
 
@@ -131,47 +196,104 @@ macro_rules! on_given {
 
 pub(crate) use on_given;
 
-/// Does `$work` on the sequence of given strings, and gives the result of `$work`. Gives `$other` if the items are numbers.
-macro_rules! on_strings {
-    ($items:expr, $strings:ident => $work:expr, $other:expr) => {
-        match $items {
-            $crate::items_argument::GivenItems::Offsets($strings) => $work,
-            $crate::items_argument::GivenItems::Offsets32($strings) => $work,
-            $crate::items_argument::GivenItems::Strings($strings) => $work,
-            $crate::items_argument::GivenItems::Words(text) => {
-                let $strings = sketch_base::Words::new(text);
+/// Does `$work` on the valid items of a sequence of rows, and gives the result of `$work`.
+macro_rules! on_valid {
+    ($rows:expr, $validity:expr, $sequence:ident => $work:expr) => {
+        match $validity {
+            None => {
+                let $sequence = $rows;
                 $work
             }
-            $crate::items_argument::GivenItems::Lines(text) => {
-                let $strings = sketch_base::Lines::new(text);
+            Some(validity) => {
+                let $sequence = sketch_base::ValidItems {
+                    items: $rows,
+                    validity,
+                };
                 $work
+            }
+        }
+    };
+}
+
+pub(crate) use on_valid;
+
+/// Does `$work` on the sequence of given strings, and gives the result of `$work`. Gives `$other` if the items are numbers.
+macro_rules! on_strings {
+    ($items:expr, $strings:ident => $work:expr, $other:expr) => {{
+        let $crate::items_argument::GivenItems { rows, validity } = $items;
+        match rows {
+            $crate::items_argument::GivenRows::Offsets(rows) => {
+                $crate::items_argument::on_valid!(rows, validity, $strings => $work)
+            }
+            $crate::items_argument::GivenRows::Offsets32(rows) => {
+                $crate::items_argument::on_valid!(rows, validity, $strings => $work)
+            }
+            $crate::items_argument::GivenRows::Strings(rows) => {
+                $crate::items_argument::on_valid!(rows, validity, $strings => $work)
+            }
+            $crate::items_argument::GivenRows::Words(text) => {
+                let rows = sketch_base::Words::new(text);
+                $crate::items_argument::on_valid!(rows, validity, $strings => $work)
+            }
+            $crate::items_argument::GivenRows::Lines(text) => {
+                let rows = sketch_base::Lines::new(text);
+                $crate::items_argument::on_valid!(rows, validity, $strings => $work)
             }
             _ => $other,
         }
-    };
+    }};
 }
 
 pub(crate) use on_strings;
 
 /// Does `$work` on the sequence of given items, and gives the result of `$work`.
 macro_rules! on_items {
-    ($items:expr, $sequence:ident => $work:expr) => {
-        match $items {
-            $crate::items_argument::GivenItems::U64($sequence) => $work,
-            $crate::items_argument::GivenItems::I64($sequence) => $work,
-            $crate::items_argument::GivenItems::Offsets($sequence) => $work,
-            $crate::items_argument::GivenItems::Offsets32($sequence) => $work,
-            $crate::items_argument::GivenItems::Strings($sequence) => $work,
-            $crate::items_argument::GivenItems::Words(text) => {
-                let $sequence = sketch_base::Words::new(text);
-                $work
+    ($items:expr, $sequence:ident => $work:expr) => {{
+        let $crate::items_argument::GivenItems { rows, validity } = $items;
+        match rows {
+            $crate::items_argument::GivenRows::U64(rows) => {
+                $crate::items_argument::on_valid!(rows, validity, $sequence => $work)
             }
-            $crate::items_argument::GivenItems::Lines(text) => {
-                let $sequence = sketch_base::Lines::new(text);
-                $work
+            $crate::items_argument::GivenRows::I64(rows) => {
+                $crate::items_argument::on_valid!(rows, validity, $sequence => $work)
+            }
+            $crate::items_argument::GivenRows::Offsets(rows) => {
+                $crate::items_argument::on_valid!(rows, validity, $sequence => $work)
+            }
+            $crate::items_argument::GivenRows::Offsets32(rows) => {
+                $crate::items_argument::on_valid!(rows, validity, $sequence => $work)
+            }
+            $crate::items_argument::GivenRows::Strings(rows) => {
+                $crate::items_argument::on_valid!(rows, validity, $sequence => $work)
+            }
+            $crate::items_argument::GivenRows::Words(text) => {
+                let rows = sketch_base::Words::new(text);
+                $crate::items_argument::on_valid!(rows, validity, $sequence => $work)
+            }
+            $crate::items_argument::GivenRows::Lines(text) => {
+                let rows = sketch_base::Lines::new(text);
+                $crate::items_argument::on_valid!(rows, validity, $sequence => $work)
             }
         }
-    };
+    }};
 }
 
 pub(crate) use on_items;
+
+/// Writes the number of items to `count`, those of null rows included. Words and lines are counted.
+///
+/// Returns the first of these errors, and then changes nothing:
+///
+/// - `BAD_ARGUMENT` if the kind of the items is not known, or the bitmap has fewer bits than there are rows, or words or lines have one.
+/// - `BadOffsets` if there is no offset, an offset is below the one before it, or an offset exceeds the number of bytes.
+/// - `InvalidUtf8` if a string is not UTF-8.
+#[unsafe(no_mangle)]
+pub extern "C" fn ds_num_items(items: &ItemsArgument<'_>, count: &mut usize) -> i32
+    ensures { OnItems items.now result (count.new ≡ count.old) (λ given.
+        (result ≡ ok) × (count.new ≡ num_rows given.rows)) }
+{
+    on_given!(items, given => {
+        *count = num_rows(&given.rows);
+        OK
+    })
+}

@@ -43,3 +43,4 @@ pub mod sketch_kind;
 mod status;
 pub mod status_code;
 mod strings;
+mod valid_rows;

@@ -30,11 +30,13 @@ private:
     std::size_t size_;
 };
 
-/* Strings that C calls take where they are: those of `offset_strings`, `words` or `lines`. It points to the caller's bytes and
- * offsets, and copies neither. */
-struct string_items {
+/* Items of a type that C calls take where they are: those of `offset_strings`, `words`, `lines` or `with_validity`. It points to
+ * the caller's values, and copies none. */
+template <class Item> struct items_in_place {
+    using item_type = Item;
     ds_items items;
 };
+using string_items = items_in_place<ds_string>;
 
 namespace detail {
 
@@ -177,11 +179,14 @@ inline ds_items to_items(span<const ds_string> strings) { return ds_items_string
 /* What `whole` returns for items that are passed in blocks. */
 struct no_whole {};
 
+template <class Items> inline constexpr bool is_in_place = false;
+template <class Item> inline constexpr bool is_in_place<items_in_place<Item>> = true;
+
 /* Returns items that are passed whole and where they are. */
 template <class As, class Items> auto whole(Items &items)
 {
-    if constexpr (std::is_same_v<bare<Items>, string_items>) {
-        static_assert(!std::is_arithmetic_v<As>, "the items are numbers, and no strings");
+    if constexpr (is_in_place<bare<Items>>) {
+        static_assert(sizeof(to_item<As>(std::declval<const typename bare<Items>::item_type &>())) > 0);
         return items.items;
     } else {
         static_assert(is_range<Items>, "items are a range of strings or integers, or offset_strings, words or lines");
@@ -198,25 +203,11 @@ template <class As, class Items> auto whole(Items &items)
 template <class As, class Items>
 inline constexpr bool is_whole = std::is_same_v<decltype(whole<As>(std::declval<Items &>())), ds_items>;
 
-/* Returns the number of items, or 0 for bytes at null, which calls reject. */
+/* Returns the number of items, or 0 for words and lines that calls reject. */
 inline std::size_t count_of(const ds_items &items)
 {
-    switch (items.kind) {
-    case DS_ITEMS_U64: return items.num_u64s;
-    case DS_ITEMS_I64: return items.num_i64s;
-    case DS_ITEMS_OFFSETS: return items.num_offsets - (items.num_offsets > 0);
-    case DS_ITEMS_OFFSETS32: return items.num_offsets32 - (items.num_offsets32 > 0);
-    case DS_ITEMS_STRINGS: return items.num_strings;
-    }
-    /* A line begins at each byte at the start or after a separator, and a word at one that is no separator. */
-    bool of_words = items.kind == DS_ITEMS_WORDS, may_begin = true;
-    std::size_t count = 0;
-    for (std::size_t i = 0; items.bytes && i < items.num_bytes; i++) {
-        std::uint8_t byte = items.bytes[i];
-        bool separates = byte == '\n' || (of_words && (byte == ' ' || byte == '\t' || byte == '\f' || byte == '\r'));
-        count += may_begin && !(of_words && separates);
-        may_begin = separates;
-    }
+    std::size_t count = ds_num_rows(&items);
+    if (items.kind == DS_ITEMS_WORDS || items.kind == DS_ITEMS_LINES) (void)ds_check_num_items(ds_num_items, &items, &count);
     return count;
 }
 template <class As, class Items> std::size_t count_of(Items &items)
@@ -316,6 +307,16 @@ inline string_items words(std::string_view text) noexcept
 inline string_items lines(std::string_view text) noexcept
 {
     return {ds_items_lines(detail::bytes_of(text).bytes, text.size())};
+}
+
+/* Returns rows some of which may be missing, by a bitmap: `ds_items_with_validity`. The rows are `offset_strings`, or a contiguous
+ * range of integers of 64 bits or of `ds_string`. Neither they nor the bitmap are copied. */
+template <class Rows> auto with_validity(const Rows &rows, const std::uint8_t *validity, std::size_t first_bit = 0) noexcept
+{
+    static_assert(detail::is_whole<detail::any_item, const Rows>, "rows are offset_strings, or integers of 64 bits or ds_string");
+    const ds_items items = ds_items_with_validity(detail::whole<detail::any_item>(rows), validity, first_bit);
+    if constexpr (detail::is_in_place<Rows>) return Rows{items};
+    else return items_in_place<detail::bare<detail::reference_of<const Rows>>>{items};
 }
 
 } /* inline namespace */

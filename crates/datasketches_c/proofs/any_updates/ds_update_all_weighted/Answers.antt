@@ -1,18 +1,19 @@
 use Rattle.std.proofs.Common.{◌≡◌, ℤ, refl, rules, length}
 use Rattle.datasketches_c.specs.AnyUpdates.{WeighsAny}
 use Rattle.datasketches_c.specs.ManyItems.{ManyItems, OnPlaces, items_kind_numbered}
+use Rattle.datasketches_c.specs.ValidRows.{OnWeights}
 use Rattle.datasketches_c.proofs.ManyItemsLemmas.{on_given, on_refused}
 use Rattle.datasketches_c.proofs.any_updates.ds_update_all_weighted.Goals as goal
 
 -- what holds of the given items
 pub returns-in-Ok : goal.returns-in-Ok
 returns-in-Ok c =
-    let call = c.update_weighted_given in
-    let Said : ℤ → ManyItems → Type 0 = λ z given. OnPlaces (length c.args.weights.now) given z (call.new.handle.value ≡ c.args.handle.now.value) (WeighsAny c.args.handle.now.value call.new.handle.value given c.args.weights.now z) in
+    let call = c.update_weighted_rows in
+    let Said : ℤ → ManyItems → Type 0 = λ z given. OnPlaces (length c.args.weights.now) given z (call.new.handle.value ≡ c.args.handle.now.value) (OnWeights given.validity c.args.weights.now z (call.new.handle.value ≡ c.args.handle.now.value) (λ kept. WeighsAny c.args.handle.now.value call.new.handle.value given kept z)) in
     on_given (items_kind_numbered c.args.items.now.kind) c.args.items.now (call.new.handle.value ≡ c.args.handle.now.value) c.in-Ok.given call.result call.type_inv Said c.in-Ok.ensures (record { no_room = call.ensures.no_room; placed = call.ensures.call })
 
 -- the argument has an error
 pub returns-in-Err : goal.returns-in-Err
 returns-in-Err c =
-    let Said : ℤ → ManyItems → Type 0 = λ z given. OnPlaces (length c.args.weights.now) given z (c.args.handle.now.value ≡ c.args.handle.now.value) (WeighsAny c.args.handle.now.value c.args.handle.now.value given c.args.weights.now z) in
+    let Said : ℤ → ManyItems → Type 0 = λ z given. OnPlaces (length c.args.weights.now) given z (c.args.handle.now.value ≡ c.args.handle.now.value) (OnWeights given.validity c.args.weights.now z (c.args.handle.now.value ≡ c.args.handle.now.value) (λ kept. WeighsAny c.args.handle.now.value c.args.handle.now.value given kept z)) in
     on_refused (items_kind_numbered c.args.items.now.kind) c.args.items.now (c.args.handle.now.value ≡ c.args.handle.now.value) c.in-Err.refusal (search rules) Said c.in-Err.ensures refl

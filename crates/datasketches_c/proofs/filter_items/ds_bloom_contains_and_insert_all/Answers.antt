@@ -9,12 +9,12 @@ pub returns-in-Ok-clause-call : goal.returns-in-Ok-clause-call
 returns-in-Ok-clause-call c =
     let call = c.contains_and_insert_given in
     let Said : ℤ → ManyItems → Type 0 = λ z given. OnPlaces (length c.args.results.now) given z ((call.new.handle.value ≡ c.args.handle.now.value) × (call.new.results ≡ c.args.results.now))
-    (TellsAndInsertsAll c.args.handle.now.value call.new.handle.value z (fed_items given) call.new.results) in
+    (TellsAndInsertsAll c.args.handle.now.value call.new.handle.value z given.validity (fed_items given) call.new.results) in
     on_given (items_kind_numbered c.args.items.now.kind) c.args.items.now ((call.new.handle.value ≡ c.args.handle.now.value) × (call.new.results ≡ c.args.results.now)) c.in-Ok.given call.result call.type_inv Said c.in-Ok.ensures (record { no_room = λ other. let said = call.ensures.no_room other in (said.0, (said.1, said.2)); placed = call.ensures.call })
 
 -- the argument has an error
 pub returns-in-Err-clause-call : goal.returns-in-Err-clause-call
 returns-in-Err-clause-call c =
     let Said : ℤ → ManyItems → Type 0 = λ z given. OnPlaces (length c.args.results.now) given z ((c.args.handle.now.value ≡ c.args.handle.now.value) × (c.args.results.now ≡ c.args.results.now))
-    (TellsAndInsertsAll c.args.handle.now.value c.args.handle.now.value z (fed_items given) c.args.results.now) in
+    (TellsAndInsertsAll c.args.handle.now.value c.args.handle.now.value z given.validity (fed_items given) c.args.results.now) in
     on_refused (items_kind_numbered c.args.items.now.kind) c.args.items.now ((c.args.handle.now.value ≡ c.args.handle.now.value) × (c.args.results.now ≡ c.args.results.now)) c.in-Err.refusal (search rules) Said c.in-Err.ensures (refl, refl)

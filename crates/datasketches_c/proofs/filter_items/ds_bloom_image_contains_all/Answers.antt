@@ -1,8 +1,9 @@
-use Rattle.std.proofs.Common.{◌≡◌, ℤ, refl, rules, length, map}
+use Rattle.std.proofs.Common.{◌≡◌, ℤ, refl, rules, false, length, map}
 use Rattle.sketch_bloom.specs.State.{contains_item}
 use Rattle.datasketches_c.specs.ImageViews.{AsksFilter}
 use Rattle.datasketches_c.specs.ManyItems.{ManyItems, OnPlaces, fed_items, items_kind_numbered}
 use Rattle.datasketches_c.specs.Numbers.{ok}
+use Rattle.datasketches_c.specs.ValidRows.{OnRows}
 use Rattle.datasketches_c.proofs.ManyItemsLemmas.{on_given, on_refused}
 use Rattle.datasketches_c.proofs.filter_items.ds_bloom_image_contains_all.Goals as goal
 
@@ -11,12 +12,12 @@ pub returns-in-Ok-clause-results : goal.returns-in-Ok-clause-results
 returns-in-Ok-clause-results c =
     let call = c.image_contains_given in
     let Said : ℤ → ManyItems → Type 0 = λ z given. OnPlaces (length c.args.results.now) given z (call.new.results ≡ c.args.results.now)
-    (AsksFilter c.args.image.now (λ s. (z ≡ ok) × (call.new.results ≡ map (contains_item s) (fed_items given))) z) in
+    (AsksFilter c.args.image.now (λ s. (z ≡ ok) × OnRows given.validity false call.new.results (λ answers. answers ≡ map (contains_item s) (fed_items given))) z) in
     on_given (items_kind_numbered c.args.items.now.kind) c.args.items.now (call.new.results ≡ c.args.results.now) c.in-Ok.given call.result call.type_inv Said c.in-Ok.ensures (record { no_room = call.ensures.no_room; placed = call.ensures.results })
 
 -- the argument has an error
 pub returns-in-Err-clause-results : goal.returns-in-Err-clause-results
 returns-in-Err-clause-results c =
     let Said : ℤ → ManyItems → Type 0 = λ z given. OnPlaces (length c.args.results.now) given z (c.args.results.now ≡ c.args.results.now)
-    (AsksFilter c.args.image.now (λ s. (z ≡ ok) × (c.args.results.now ≡ map (contains_item s) (fed_items given))) z) in
+    (AsksFilter c.args.image.now (λ s. (z ≡ ok) × OnRows given.validity false c.args.results.now (λ answers. answers ≡ map (contains_item s) (fed_items given))) z) in
     on_refused (items_kind_numbered c.args.items.now.kind) c.args.items.now (c.args.results.now ≡ c.args.results.now) c.in-Err.refusal (search rules) Said c.in-Err.ensures refl

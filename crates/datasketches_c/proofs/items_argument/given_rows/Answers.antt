@@ -5,7 +5,7 @@ use mir.Val.{of_z, to_z}
 use Rattle.datasketches_c.specs.ManyItems.{IsFirstError}
 use Rattle.datasketches_c.specs.declared.items_argument.ItemsKind.TheVariants.{Offsets, Offsets32, Strings}
 use Rattle.datasketches_c.proofs.Refusals.{refused_for}
-use Rattle.datasketches_c.proofs.items_argument.given_items.Goals as goal
+use Rattle.datasketches_c.proofs.items_argument.given_rows.Goals as goal
 
 -- the strings are not valid, with offsets of 64 and of 32 bits, and as slices
 pub returns-in-Err : goal.returns-in-Err
