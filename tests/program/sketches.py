@@ -1,4 +1,4 @@
-"""Runs `sketches top` over generated files, and compares its reports with exact counts.
+"""Runs `sketches top` and `sketches uniq` over generated files, and compares their outputs with exact counts and sets.
 
     python3 tests/program/sketches.py [--after 'N passed, M failed'] crates/sketches/out/sketches
 
@@ -53,6 +53,30 @@ def lines_of(data):
 def counts_of(inputs, items_of):
     """Returns how often each item occurs in the inputs, of which each ends its last line."""
     return collections.Counter(item for data in inputs for line in lines_of(data) for item in items_of(line))
+
+
+def raw_lines_of(data):
+    """Returns the lines of an input, each with its end and without it. The last may have no end."""
+    parts = data.split(b"\n")
+    last = parts.pop()
+    lines = [(part + b"\n", part[:-1] if part.endswith(b"\r") else part) for part in parts]
+    return lines + ([(last, last)] if last else [])
+
+
+def unseen_of(inputs, items_of, repeated=False):
+    """Returns the lines of the inputs whose items are new, or with `repeated` the others, and the number of lines left out."""
+    seen = set()
+    written = []
+    left_out = 0
+    for data in inputs:
+        for raw, line in raw_lines_of(data):
+            items = items_of(line)
+            if any(item in seen for item in items) == repeated:
+                written.append(raw)
+            else:
+                left_out += 1
+            seen.update(items)
+    return b"".join(written), left_out
 
 
 class Tests:
@@ -171,6 +195,145 @@ class Tests:
                             self.check(name, ran[:3] == (2, b"", said), ran)
         data = (1 << 23) * b"z" + b"\n"
         self.is_exact("a line of 8 MB", self.run(["top"], 3 * data), counts_of([3 * data], lambda line: [line]))
+
+    def is_unseen(self, name, ran, inputs, items_of, repeated=False, status=0, said=b""):
+        """Checks what `uniq` wrote, and its note, for so few items that the filter has no false positive."""
+        written, left_out = unseen_of(inputs, items_of, repeated)
+        self.check(f"{name}: status", ran[0] == status, ran)
+        self.check(f"{name}: lines", ran[1] == written, (ran[1][:200], written[:200]))
+        note = b"sketches: %d lines left out; about 1 in 1000000000000000000 new items is taken for a repeated one\n" % left_out
+        self.check(f"{name}: note", ran[2] == said + note, ran[2])
+
+    def uniq_worked(self):
+        """Checks unseen lines that are written out by hand."""
+        for words, data, wanted in [
+            ([], b"", b""),
+            ([], b"b\na\nb\nc", b"b\na\nc"),
+            ([], b"b\na\nb", b"b\na\n"),
+            ([], b"a\r\na\na\r\r\n", b"a\r\na\r\r\n"),
+            ([], b"\n\na\n\n", b"\na\n"),
+            ([], b"\xff\n\xfe\n\xff\n\xef\xbf\xbd\n", b"\xff\n\xfe\n\xef\xbf\xbd\n"),
+            (["--repeated"], b"b\na\nb\nb", b"b\nb"),
+            (["-f", "2"], b"x 1\ny 1\nz\nw  2\nz\n", b"x 1\nz\nw  2\nz\n"),
+            (["-f", "2", "--repeated"], b"x 1\ny 1\nz\nw  2\nz\n", b"y 1\n"),
+            (["-d", ",", "-f", "2"], b"x,\ny,,z\nw\n,\xff\n,\xfe\n,\xff", b"x,\nw\n,\xff\n,\xfe\n"),
+        ]:
+            ran = self.run(["uniq", "--no-note", *words], data)
+            self.check(f"uniq {words} of {data}", ran[:3] == (0, wanted, b""), ran)
+
+    def uniq_random_bytes(self):
+        """Checks each choice of items over random bytes, from files and from standard input."""
+        rng = random.Random(3)
+        for round in range(8):
+            inputs = [b"".join(rng.choices(PIECES, k=rng.choice([0, 1, 7, 300, 3000]))) for _ in range(3)]
+            names = [self.file(f"random{n}", data) for n, data in enumerate(inputs)]
+            for words, items_of in SELECTIONS:
+                if words == ["--words"]:
+                    continue
+                for repeated in [[], ["--repeated"]]:
+                    ran = self.run(["uniq", *words, *repeated, "--items", "200000", *names], key=None)
+                    self.is_unseen(f"uniq of random bytes {round} {words} {repeated}", ran, inputs, items_of, bool(repeated))
+            ran = self.run(["uniq", "--items", "200000"], inputs[0])
+            self.is_unseen(f"uniq of random bytes {round} -", ran, inputs[:1], lambda line: [line])
+
+    def uniq_cuts(self):
+        """Cuts an input at each place: by reads of a few bytes, and by a block that ends there."""
+        data = b"ab\r\n\r\n\xe2\x82\xac b\n\xe2\x82\nab\r\na \xf0\x9f\x98\x80 c\r\r\n\n\xe2\x82\xac b\nab"
+        for step in range(1, len(data) + 1):
+            ran = self.run(["uniq"], data, READ_STEP=step)
+            self.is_unseen(f"uniq by reads of {step} bytes", ran, [data], lambda line: [line])
+        for cut in range(len(data) + 1):
+            whole = b"x" * (BLOCK - cut - 1) + b"\n" + data
+            self.is_unseen(f"uniq of a block that ends at {cut}", self.run(["uniq"], whole), [whole], lambda line: [line])
+        for limit in [1, 5, BLOCK - 1, BLOCK, 3 * BLOCK]:
+            for length in [limit - 1, limit, limit + 1]:
+                for end in [b"\n", b""]:
+                    data = b"\n" + length * b"x" + end
+                    ran = self.run(["uniq", "--max-line", limit], data)
+                    name = f"uniq with limit {limit}, a line of {length} and {end}"
+                    if length <= limit:
+                        self.is_unseen(name, ran, [data], lambda line: [line])
+                    else:
+                        said = b"sketches: -: a line is longer than --max-line\n"
+                        self.check(name, ran[0] == 2 and ran[1] in (b"", b"\n") and ran[2] == said, ran)
+
+    def uniq_false_positives(self):
+        """Checks that few new lines are left out, that none is printed twice, and that none is out of order."""
+        lines = [b"line %d" % n for n in range(50000)]
+        rng = random.Random(4)
+        data = b"".join(line + b"\n" for line in lines + rng.choices(lines, k=50000))
+        for questions in [2, 100, 10000]:
+            ran = self.run(["uniq", "--items", 50000, "--false-positives", questions], data)
+            shown = ran[1].split(b"\n")[:-1]
+            left = set(lines) - set(shown)
+            name = f"uniq with one false positive in {questions}"
+            self.check(f"{name}: status", ran[0] == 0, ran[2])
+            self.check(f"{name}: each once, in order", shown == [line for line in lines if line not in left])
+            self.check(f"{name}: few are missing", len(left) * questions <= 50000, len(left))
+            found = re.fullmatch(rb"sketches: (\d+) lines left out; about 1 in (\d+) new items is taken for a repeated one\n", ran[2])
+            self.check(f"{name}: note", found and int(found[1]) == 50000 + len(left), ran[2])
+            self.check(f"{name}: rate", 0.9 * questions <= int(found[2]) <= 2 * questions, ran[2])
+
+    def uniq_statuses(self):
+        """Checks files that cannot be read, wrong use, and devices and calls that fail."""
+        self.file("one", b"a\nb")
+        self.file("two", b"b\nc\n")
+        whole = lambda line: [line]
+        self.is_unseen("uniq of two files", self.run(["uniq", "one", "two"]), [b"a\nb", b"b\nc\n"], whole)
+        absent = b"sketches: none: No such file or directory (os error 2)\n"
+        self.is_unseen("uniq of an absent file", self.run(["uniq", "none", "two"]), [b"b\nc\n"], whole, status=1, said=absent)
+        bad = b"sketches: --items must be at least 1, --false-positives at least 2, and the filter at most 2^37 bits\n"
+        for words in [["--items", "0"], ["--false-positives", "0"], ["--false-positives", "1"], ["--items", str(2**64 - 1)]]:
+            ran = self.run(["uniq", *words], b"a\n")
+            self.check(f"uniq {words}", ran[:3] == (2, b"", bad), ran)
+        for words in [["--items", "-1"], ["--items", "x"], ["-f", "0"], ["-d", ","], ["-f", "1", "-d", ",,"], ["--words"], ["--key", "00"]]:
+            status, out, said, _ = self.run(["uniq", *words], b"a\n")
+            self.check(f"uniq {words}", (status, out) == (2, b"") and said, (status, out, said))
+        with open("/dev/full", "wb") as full:
+            ran = self.run(["uniq"], b"a\n", stdout=full)
+            self.check("uniq and a full device", (ran[0], ran[2]) == (2, b"sketches: output: No space left on device (os error 28)\n"), ran)
+        many = b"".join(b"%d\n" % number for number in range(3000))
+        small = ["uniq", "--items", "200", "--false-positives", "2", "--no-note"]
+        outs = [self.run([*small, "--key", key], many)[1] for key in ["plain", "plain", HEX, HEX]]
+        self.check("uniq under one key and another", outs[0] == outs[1] and outs[2] == outs[3] and outs[0] != outs[2])
+        self.check("uniq has a random seed", len({self.run(small, many, key=None)[1] for _ in range(3)}) > 1)
+        reader, writer = os.pipe()
+        os.close(reader)
+        ran = self.run(["uniq"], b"a\n", stdout=writer)
+        os.close(writer)
+        self.check("uniq and a closed pipe", (ran[0], ran[2]) == (0, b""), ran)
+        words = ["uniq", "--items", "1000"]
+        data = b"".join(b"line %d\xff %d\n" % (n % 40, n) for n in range(200)) + 20 * b"\n" + b"x" * BLOCK
+        done = self.run(words, data)
+        n = 1
+        while True:
+            ran = self.run(words, data, REFUSED_AT=n)
+            self.check(f"uniq, allocation {n}: all memory is freed", ran[3][2] == 0, ran)
+            if ran[3][1] == 0:
+                self.check("uniq, no allocation fails", ran[:3] == done[:3], ran)
+                break
+            ended = ran[0] == 2 and done[1].startswith(ran[1]) and ran[2]
+            self.check(f"uniq, allocation {n}", ended or ran[:3] == done[:3], ran)
+            n += 1
+        short = b"a\nb\na\nb\nc"
+        for which in ["FAILS_READ_AT", "FAILS_WRITE_AT"]:
+            for interrupted in [{}, {"INTERRUPTED": 1}]:
+                n = 1
+                while True:
+                    ran = self.run(words, short, **{which: n, "READ_STEP": 1, **interrupted})
+                    name = f"uniq, {which} {n} {interrupted}"
+                    if ran[3][1] == 0 or interrupted:
+                        self.is_unseen(name, ran, [short], whole)
+                    elif which == "FAILS_READ_AT":
+                        read = short[: n - 1]
+                        said = b"sketches: -: Input/output error (os error 5)\n"
+                        self.is_unseen(name, ran, [read[: read.rfind(b"\n") + 1]], whole, status=1, said=said)
+                    else:
+                        ended = ran[0] == 2 and ran[2].startswith(b"sketches: output: ")
+                        self.check(name, ended and unseen_of([short], whole)[0].startswith(ran[1]), ran)
+                    if ran[3][1] == 0:
+                        break
+                    n += 1
 
     def many_items(self):
         """Checks bounds, their share and missing items over many more items than slots, in several orders."""
@@ -318,6 +481,11 @@ def main():
         tests.pages()
         tests.statuses()
         tests.failures_in_turn()
+        tests.uniq_worked()
+        tests.uniq_random_bytes()
+        tests.uniq_cuts()
+        tests.uniq_false_positives()
+        tests.uniq_statuses()
     print(f"{before[0] + tests.passed} passed, {before[1] + tests.failed} failed")
     sys.exit(1 if before[1] + tests.failed else 0)
 

@@ -1,5 +1,5 @@
 -- What a report of a sketch shows of the items that were added to it.
-use Rattle.std.proofs.Common.{◌≡◌, ◌⊎◌, inl, inr, ⊎_elim, ℕ, zero, suc, ◌+◌, ◌*◌, ◌/◌, ◌<◌, ◌≤◌, ◌||◌, max, min, Bool, true, false, cond, List, [], ◌∷◌, length, map, take, get_or, Option, None, Some, refl, sym, ◌∙◌, ap, subst, arith}
+use Rattle.std.proofs.Common.{◌≡◌, ◌⊎◌, inl, inr, ⊎_elim, ℕ, zero, suc, ◌+◌, ◌*◌, ◌<◌, ◌≤◌, ◌||◌, max, min, Bool, true, false, cond, List, [], ◌∷◌, length, map, take, get_or, Option, None, Some, refl, sym, ◌∙◌, ap, subst, arith}
 use Rattle.std.proofs.lemmas.Bool.{cases_lt, ltb-true}
 use Rattle.std.proofs.lemmas.List.{get_or-take, get_or_default, length-take, length-map}
 use Rattle.std.proofs.lemmas.List.Sums.{sum_by-cons}
@@ -9,6 +9,7 @@ use Rattle.std.specs.Cmp.Lexicographic.{bytes_decides}
 use Rattle.std.specs.Global.{Global}
 use Rattle.std.specs.Io.KnownBytes.{Appends}
 use Rattle.std.specs.List.{All, AllByRecursion, AllPairs, IsDistinct, flat_map, list_any}
+use Rattle.std.specs.Option.{IfSome}
 use Rattle.std.specs.Str.{bytes_eq}
 use Rattle.std.specs.String.{string_bytes, string_eq}
 use Rattle.std.specs.declared.string.String.{String}
@@ -23,10 +24,13 @@ use Rattle.sketch_frequencies.specs.SuggestedSizes.{usual_budget}
 use Rattle.sketch_frequencies.specs.declared.error_type.ErrorType.TheVariants.{NoFalseNegatives}
 use Rattle.sketch_frequencies.proofs.SuggestedSizes.{error_by_budget}
 use Rattle.sketches.specs.Added.{Sketch, AddsStrings}
-use Rattle.sketches.specs.Inputs.{CountsInputs}
+use Rattle.sketches.specs.Images.{HasItems, KeepsItems, Merges, ReportsItems, WritesMerge, all_items}
+use Rattle.sketches.specs.Inputs.{AreRead}
 use Rattle.sketches.specs.Items.{items_of}
 use Rattle.sketches.specs.Reports.{Row, Encloses, HasAll, IsListed, Reports, ShowsTop, WritesReport, occurrences, report_text}
+use Rattle.sketches.specs.declared.merge.MergeOptions.{MergeOptions}
 use Rattle.sketches.specs.declared.top.Options.{Options}
+use Rattle.sketches.proofs.Counted.{CountsInputs}
 
 -- ---- weights are occurrences
 
@@ -116,13 +120,9 @@ distinct_of_first (suc n) (row ∷ rows) d = (distinct_from n row rows d.0, dist
 
 -- ---- a report
 
-module _ (items : List (String Global)) (m : ℕ) (s : Sketch) (so : Represents string_eq s (all_updated (New m (max_sample_size m)) items)) where
-  weight : (x : String Global) → true_weight string_eq (all_updated (New m (max_sample_size m)) items) x ≡ occurrences (map string_bytes items) (string_bytes x)
-  weight x = let e = weight_of (New m (max_sample_size m)) items x in omega (arith, e)
-
-  pub total_is : s.total ≡ length (map string_bytes items)
-  total_is = omega (arith, so.total, total_of (New m (max_sample_size m)) items, length-map items string_bytes)
-
+module _ (items : List (String Global)) (m : ℕ) (s : Sketch) (h : FrequentHistory (String Global)) (so : Represents string_eq s h)
+    (weight : (x : String Global) → true_weight string_eq h x ≡ occurrences (map string_bytes items) (string_bytes x))
+    (total : total_weight h ≡ length (map string_bytes items)) (table : m ≤ min_size h) (sample : max_sample_size m ≤ min_sample h) where
   row_encloses : (row : Row) → Shows string_eq NoFalseNegatives 0 s row → Encloses (map string_bytes items) row
   row_encloses row shows = (
     omega (arith, shows.lower_bound, so.at_least row.item, weight row.item),
@@ -174,24 +174,24 @@ module _ (items : List (String Global)) (m : ℕ) (s : Sketch) (so : Represents 
       ))
       (cases_lt k n)
 
-  error_share : KeepsTailBudget string_eq s (all_updated (New m (max_sample_size m)) items) → usual_budget m * s.error ≤ length (map string_bytes items)
+  error_share : KeepsTailBudget string_eq s h → usual_budget m * s.error ≤ length (map string_bytes items)
   error_share keeps =
-      let few : usual_budget m ≤ budget_size (all_updated (New m (max_sample_size m)) items) = omega (arith, ap (λ (n : ℕ). n / 2) (sample_of (New m (max_sample_size m)) items)) in
-      let bound : usual_budget m * s.error ≤ total_weight (all_updated (New m (max_sample_size m)) items) = error_by_budget string_eq s (all_updated (New m (max_sample_size m)) items) (usual_budget m) so keeps few in
-      omega (arith, bound, so.total, total_is)
+      let few : usual_budget m ≤ budget_size h = omega (arith, sample) in
+      let bound : usual_budget m * s.error ≤ total_weight h = error_by_budget string_eq s h (usual_budget m) so keeps few in
+      omega (arith, bound, total)
 
   error_exact : (distinct : List (List ℕ)) → length distinct ≤ capacity m → HasAll distinct (map string_bytes items) → s.error ≡ 0
   error_exact distinct fit all =
       let r = strings_among items distinct in
       so.exact (record {
         items = r.strings;
-        fit = omega (arith, r.few, fit, ap capacity (size_of (New m (max_sample_size m)) items));
+        fit = omega (arith, r.few, fit, table);
         cover = λ x some.
             let here : 0 < occurrences (map string_bytes items) (string_bytes x) = omega (arith, some, weight x) in
             r.cover x here (all (string_bytes x) here);
       })
 
-  pub reports : KeepsTailBudget string_eq s (all_updated (New m (max_sample_size m)) items) → (top n : ℕ) (rows : List Row) → n ≡ min top (length rows) → ShowsExactly string_eq NoFalseNegatives 0 s rows → Descends rows → MissesNone string_eq 0 s rows → Reports (map string_bytes items) m top s.error (take n rows)
+  pub reports : KeepsTailBudget string_eq s h → (top n : ℕ) (rows : List Row) → n ≡ min top (length rows) → ShowsExactly string_eq NoFalseNegatives 0 s rows → Descends rows → MissesNone string_eq 0 s rows → Reports (map string_bytes items) m top s.error (take n rows)
   reports keeps top n rows is exact descends misses = record {
     few = let len : length (take n rows) ≡ min n (length rows) = length-take n rows in omega (arith, len, is);
     enclosed = All-take (Encloses (map string_bytes items)) n rows (λ k d less. row_encloses _ (exact.shown k d less));
@@ -201,33 +201,43 @@ module _ (items : List (String Global)) (m : ℕ) (s : Sketch) (so : Represents 
     descends = descending n rows exact descends;
     missing = λ item more.
         let (x, is_item) = occurring items item (omega (arith, more)) in
-        let heavy : max 0 s.error < true_weight string_eq (all_updated (New m (max_sample_size m)) items) x = (let c : occurrences (map string_bytes items) (string_bytes x) ≡ occurrences (map string_bytes items) item = ap (occurrences (map string_bytes items)) is_item in omega (arith, more, c, weight x)) in
+        let heavy : max 0 s.error < true_weight string_eq h x = (let c : occurrences (map string_bytes items) (string_bytes x) ≡ occurrences (map string_bytes items) item = ap (occurrences (map string_bytes items)) is_item in omega (arith, more, c, weight x)) in
         subst (λ (t : List ℕ). IsListed (take n rows) t ⊎ ((length (take n rows) ≡ top) × All (λ (row : Row). occurrences (map string_bytes items) t ≤ row.upper_bound) (take n rows))) is_item
         (listed_or_lighter top n rows is exact descends x (misses _ so x heavy));
     share = error_share keeps;
     exact = error_exact;
   }
 
--- what a report shows of strings that were added to a new sketch
-record IsReported (items : List (List ℕ)) (header : Bool) (m top : ℕ) (text : List ℕ) : Type 0 where
-  error : ℕ
-  rows : List Row
-  written : text ≡ report_text header error (length items) rows
-  reports : Reports items m top error rows
-
-reported_of : (header : Bool) (m top : ℕ) (start s : Sketch) (items : List (List ℕ)) (text : List ℕ) → StandsFor string_eq start (New m (max_sample_size m)) → KeepsTailBudget string_eq start (New m (max_sample_size m)) → AddsStrings start items s → ShowsTop s header top text → IsReported items header m top text
-reported_of header m top start s items text new keeps added shows =
-    let h : FrequentHistory (String Global) = all_updated (New m (max_sample_size m)) added.items in
-    let so : Represents string_eq s h = (added.stands (New m (max_sample_size m)) new).encloses in
+-- a report on a sketch of items
+pub reported_items : (size : ℕ) (items : List (List ℕ)) (header : Bool) (top : ℕ) (s : Sketch) (text : List ℕ) → HasItems size items s → ShowsTop s header top text → ReportsItems size items header top text
+reported_items size items header top s text has shows =
+    let so : Represents string_eq s has.history = has.stands.encloses in
     let n : ℕ = min top (length shows.rows) in
-    let total : s.total ≡ length (map string_bytes added.items) = total_is added.items m s so in
+    let total : s.total ≡ length items = so.total ∙ has.total in
     record {
       error = s.error;
       rows = take n shows.rows;
-      written = shows.written ∙ ap (λ (t : ℕ). report_text header s.error t (take n shows.rows)) (total ∙ ap (λ (l : List (List ℕ)). length l) added.are);
+      written = shows.written ∙ ap (λ (t : ℕ). report_text header s.error t (take n shows.rows)) total;
       reports =
-          subst (λ (t : List (List ℕ)). Reports t m top s.error (take n shows.rows)) added.are
-          (reports added.items m s so (added.budget (New m (max_sample_size m)) new keeps) top n shows.rows refl shows.exact shows.descends shows.misses);
+          subst (λ (t : List (List ℕ)). Reports t size top s.error (take n shows.rows)) has.are
+          (reports has.strings size s has.history so (λ x. has.weights x ∙ ap (λ l. occurrences l (string_bytes x)) (sym has.are)) (has.total ∙ ap (λ (l : List (List ℕ)). length l) (sym has.are)) has.table has.sample
+          has.budget top n shows.rows refl shows.exact shows.descends shows.misses);
+    }
+
+-- a sketch has the items that were added to a new one
+pub added_items : (m : ℕ) (start s : Sketch) (items : List (List ℕ)) → StandsFor string_eq start (New m (max_sample_size m)) → KeepsTailBudget string_eq start (New m (max_sample_size m)) → AddsStrings start items s → HasItems m items s
+added_items m start s items new keeps added =
+    let zero : FrequentHistory (String Global) = New m (max_sample_size m) in
+    record {
+      strings = added.items;
+      are = added.are;
+      history = all_updated zero added.items;
+      stands = added.stands zero new;
+      budget = added.budget zero new keeps;
+      weights = λ x. let e = weight_of zero added.items x in let none : true_weight string_eq zero x ≡ 0 = refl in omega (arith, e, none, ap (λ l. occurrences l (string_bytes x)) added.are);
+      total = let none : total_weight zero ≡ 0 = refl in omega (arith, total_of zero added.items, none, length-map added.items string_bytes, ap (λ (l : List (List ℕ)). length l) added.are);
+      table = omega (arith, size_of zero added.items);
+      sample = omega (arith, sample_of zero added.items);
     }
 
 pub reported : (options : Options) (inputs : Option (List (List ℕ))) (complete : Bool) (held holds : Option (List ℕ)) (start s : Sketch) (text : List ℕ)
@@ -235,5 +245,37 @@ pub reported : (options : Options) (inputs : Option (List (List ℕ))) (complete
     → CountsInputs options.selection inputs complete start s → ShowsTop s options.header options.rows text → Appends held holds text → WritesReport options inputs complete held holds
 reported options None complete held holds start s text new keeps counted shows wrote = tt
 reported options (Some all) complete held holds start s text new keeps (read, are, added) shows wrote =
-    let r = reported_of options.header options.size options.rows start s (flat_map (items_of options.selection) read) text new keeps added shows in
+    let items : List (List ℕ) = flat_map (items_of options.selection) read in
+    let r = reported_items options.size items options.header options.rows s text (added_items options.size start s items new keeps added) shows in
     (read, r.error, r.rows, are, subst (Appends held holds) r.written wrote, r.reports)
+
+-- a report on a merged sketch
+pub merge_reported : (options : MergeOptions) (was : Option (List (List ℕ))) (s : Sketch) (held holds : Option (List ℕ)) (text : List ℕ)
+    → IfSome was (λ all. Merges options.images.max_bytes all s) → ShowsTop s options.header options.rows text → Appends held holds text → IfSome was (λ all. WritesMerge options all held holds)
+merge_reported options None s held holds text merges shows wrote = tt
+merge_reported options (Some all) s held holds text merges shows wrote = record {
+  sketch = s;
+  merges = merges;
+  text = text;
+  wrote = wrote;
+  shows = shows;
+  items = λ size lists are. reported_items size (all_items lists) options.header options.rows s text (merges.items size lists are) shows;
+}
+
+-- ---- a sketch that is kept
+
+same_kept : (P : Sketch → Type 0) (kept : Option Sketch) (s : Sketch) → IfSome kept (λ t. t ≡ s) → P s → IfSome kept P
+same_kept P None s is p = tt
+same_kept P (Some t) s is p = subst P (sym is) p
+
+pub merge_kept : (limit : ℕ) (was : Option (List (List ℕ))) (kept : Option Sketch) (s : Sketch) → IfSome was (λ all. Merges limit all s) → IfSome kept (λ t. t ≡ s) → IfSome was (λ all. IfSome kept (Merges limit all))
+merge_kept limit None kept s merges is = tt
+merge_kept limit (Some all) kept s merges is = same_kept (Merges limit all) kept s is merges
+
+pub items_kept : (options : Options) (inputs : Option (List (List ℕ))) (complete : Bool) (kept : Option Sketch) (start s : Sketch)
+    → StandsFor string_eq start (New options.size (max_sample_size options.size)) → KeepsTailBudget string_eq start (New options.size (max_sample_size options.size))
+    → CountsInputs options.selection inputs complete start s → IfSome kept (λ t. t ≡ s) → KeepsItems options inputs complete kept
+items_kept options None complete kept start s new keeps counted is = tt
+items_kept options (Some all) complete kept start s new keeps (read, are, added) is =
+    same_kept (λ t. (read : List (List ℕ)) × AreRead complete all read × HasItems options.size (flat_map (items_of options.selection) read) t) kept s is
+    (read, are, added_items options.size start s (flat_map (items_of options.selection) read) new keeps added)

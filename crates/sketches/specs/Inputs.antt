@@ -1,10 +1,9 @@
--- What is counted of inputs that are opened one after another.
-use Rattle.std.specs.Prelude.{◌≡◌, ℕ, Bool, true, List, [], ◌∷◌, Option, Some, IfSome, MatchOption}
-use Rattle.std.specs.List.{AllZip, flat_map}
-use Rattle.sketches.specs.Added.{Sketch, AddsStrings}
-use Rattle.sketches.specs.Counting.{AreFirstLines}
-use Rattle.sketches.specs.Items.{items_of}
-use Rattle.sketches.specs.declared.selection.Selection.{Selection}
+-- What is taken of inputs that are opened one after another.
+use Rattle.std.specs.Prelude.{◌≡◌, ◌⊎◌, ℕ, Bool, true, List, [], ◌∷◌, ◌++◌, Option, Some, IfSome, MatchOption}
+use Rattle.std.specs.List.{AllZip}
+use Rattle.sketches.specs.Reading.{AreFirstLines, HasLongLine}
+use Rattle.sketches.specs.declared.failure.Failure.{Failure}
+use Rattle.sketches.specs.declared.failure.Failure.TheVariants.{Memory, LineTooLong}
 
 -- the next input was opened, and is left no more; or none is left
 abbrev pub OpensNext : {R : Type 0} → (R → Option (List ℕ)) → Option (List (List ℕ)) → Option (List (List ℕ)) → Option R → Type 0
@@ -16,7 +15,44 @@ pub record AreRead (complete : Bool) (inputs read : List (List ℕ)) : Type 0 wh
   pub fronts : AllZip AreFirstLines inputs read
   pub whole : complete ≡ true → read ≡ inputs
 
--- the items of what was read of each input were added
-abbrev pub CountsInputs : Selection → Option (List (List ℕ)) → Bool → (old new : Sketch) → Type 0
-CountsInputs chosen was complete old new = IfSome was (λ inputs.
-    (read : List (List ℕ)) × AreRead complete inputs read × AddsStrings old (flat_map (items_of chosen) read) new)
+-- one of the inputs has a line of at least `limit` bytes
+pub record HaveLongLine (limit : ℕ) (inputs : List (List ℕ)) : Type 0 where
+  pub earlier : List (List ℕ)
+  pub input : List ℕ
+  pub later : List (List ℕ)
+  pub parts : inputs ≡ earlier ++ input ∷ later
+  pub long : HasLongLine limit input
+
+module _ {S : Type 0} (takes : S → List ℕ → S → Type 0) where
+  -- the lines of each list were taken, in order
+  abbrev pub TakesEach : S → List (List ℕ) → S → Type 0
+  TakesEach old [] new = new ≡ old
+  TakesEach old (bytes ∷ later) new = (mid : S) × takes old bytes mid × TakesEach mid later new
+
+  -- the lines of what was read of each input were taken
+  abbrev pub TakesInputs : Option (List (List ℕ)) → Bool → (old new : S) → Type 0
+  TakesInputs was complete old new = IfSome was (λ inputs.
+      (read : List (List ℕ)) × AreRead complete inputs read × TakesEach old read new)
+
+  module _ (fails : S → List ℕ → Failure → Type 0) where
+    -- the failure may come while the lines of an input are taken, after those of what was read of the inputs before
+    pub record FailsAmong (inputs : List (List ℕ)) (old : S) (failure : Failure) : Type 0 where
+      pub earlier : List (List ℕ)
+      pub input : List ℕ
+      pub later : List (List ℕ)
+      pub parts : inputs ≡ earlier ++ input ∷ later
+      pub read : List (List ℕ)
+      pub fronts : AllZip AreFirstLines earlier read
+      pub mid : S
+      pub taken : TakesEach old read mid
+      pub reason : fails mid input failure
+
+    -- the failure may come while lines are taken, and while those of these inputs are, if they are known
+    pub record FailsTakingInputs (was : Option (List (List ℕ))) (old : S) (failure : Failure) : Type 0 where
+      pub some : (s : S) × (bytes : List ℕ) × fails s bytes failure
+      pub known : IfSome was (λ inputs. FailsAmong inputs old failure)
+
+    -- no memory, a line of at least `limit` bytes, or a failure while lines are taken
+    abbrev pub FailsInputs : ℕ → Option (List (List ℕ)) → S → Failure → Type 0
+    FailsInputs limit was old failure =
+        (failure ≡ Memory) ⊎ (((failure ≡ LineTooLong) × IfSome was (HaveLongLine limit)) ⊎ FailsTakingInputs was old failure)

@@ -51,10 +51,10 @@ abbrev pub Encloses : List (List ℕ) → Row → Type 0
 Encloses items row =
     (row.lower_bound ≤ occurrences items (string_bytes row.item)) × (occurrences items (string_bytes row.item) ≤ row.upper_bound)
 
--- Rows of distinct items that occur, in descending order of upper bounds, at most `count`. An item that occurs more often than `error` has a row,
--- or there are `count` rows and it occurs at most as often as the upper bound of each. The error is at most one part of the number of
--- all items, of as many parts as the table of this size has in its tail budget. It is 0 if few items are distinct: a list that fits
--- into the table has all of them.
+-- Rows of distinct items that occur, in descending order of upper bounds, at most `count`. An item that occurs more often than
+-- `error` has a row, or there are `count` rows and it occurs at most as often as the upper bound of each. The error is at most one
+-- part of the number of all items, of as many parts as the table of this size has in its tail budget. It is 0 if few items are
+-- distinct: a list that fits into the table has all of them.
 pub record Reports (items : List (List ℕ)) (size count error : ℕ) (rows : List Row) : Type 0 where
   pub few : length rows ≤ count
   pub enclosed : All (Encloses items) rows

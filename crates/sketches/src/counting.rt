@@ -1,110 +1,46 @@
-//! Counts the items of one input.
-ghost use Rattle.std.specs.Prelude.{◌≡◌, ◌+◌, ◌<◌, ◌≤◌, [], ◌∷◌, length, take, drop, IfOk, OnOk};
+//! Counts the items of lines.
+ghost use Rattle.std.specs.Prelude.{◌≡◌, refl, [], ◌∷◌, IfErr, OnOk};
 ghost use Rattle.std.specs.Str.{IsUtf8};
 ghost use Rattle.sketch_base.specs.Split.{words_of};
 ghost use Rattle.sketches.specs.Added.{AddsStrings};
-ghost use Rattle.sketches.specs.Counting.{CountsInput, Fills, TakesLines};
+ghost use Rattle.sketches.specs.Failures.{FailsAdding};
 ghost use Rattle.sketches.specs.Items.{items_of, items_of_line, items_of_raw_line};
 
 use crate::failure::Failure;
+use crate::line_sink::LineSink;
 use crate::raw_lines::next_raw_line;
 use crate::selection::{Selection, part_of};
-use sketch_base::{Lines, Strings, Words, finished_lines, from_utf8};
+use sketch_base::{Lines, Strings, Words, from_utf8};
 use sketch_frequencies::FrequentItemsSketch;
 use std::alloc::{AllocError, Global};
-use std::io;
-use std::io::{ErrorKind, Read};
 
-/// Adds 1 to the weight of each item of an input. Returns the error of a read, if any.
-///
-/// After such an error, the items of the lines that were read whole are added. The buffer grows if a line does not fit, up to
-/// `limit` bytes. A read that a signal interrupted is retried.
-///
-/// # Errors
-///
-/// Returns `LineTooLong` if a line and its end take more than `limit` bytes, and the errors of the sketch.
-pub fn count_input<R: Read>(
-    alloc: Global,
-    sketch: &mut FrequentItemsSketch<String>,
-    selection: Selection,
-    reader: &mut R,
-    buffer: &mut Vec<u8>,
-    limit: usize,
-) -> Result<Option<io::Error>, Failure>
-    ensures { IfOk result (λ failure. CountsInput selection (R.remaining reader.old) failure sketch.old sketch.new) }
-{
-    let mut held = 0;
-    'reads: for _ in 0..u64::MAX {
-        make_room(buffer, held, limit)?;
-        let more = match fill(reader, buffer, held) {
-            Ok(more) => more,
-            Err(e) => return Ok(Some(e)),
-        };
-        let Some(count) = more else {
-            continue;
-        };
-        if count == 0 {
-            add_items(alloc, sketch, selection, &buffer[..held])?;
-            return Ok(None);
-        }
-        held = take_lines(alloc, sketch, selection, buffer, held, held + count)?;
-    }
-    Ok(Some(io::Error::from(ErrorKind::Other)))
+/// Adds 1 to the weight of each item of the lines that it takes.
+#[derive(Drop)]
+pub struct ItemCounter {
+    pub sketch: FrequentItemsSketch<String>,
+    pub selection: Selection,
 }
 
-/// Doubles the buffer if it is full, up to `limit` bytes.
-fn make_room(buffer: &mut Vec<u8>, held: usize, limit: usize) -> Result<(), Failure>
-    requires { held ≤ length buffer.old.items }
-    ensures room { OnOk result (held < length buffer.new.items) }
-    ensures kept { OnOk result (take held buffer.new.items ≡ take held buffer.old.items) }
-{
-    let len = buffer.len();
-    if held < len {
-        return Ok(());
-    }
-    let wanted = len.saturating_mul(2).saturating_add(1).min(limit);
-    if wanted <= len {
-        return Err(Failure::LineTooLong);
-    }
-    buffer.resize(wanted, 0)?;
-    Ok(())
-}
+impl LineSink<()> for ItemCounter {
+    ghost use Rattle.sketches.specs.AddingLaws.{strings_none, items_both, items_sooner, items_later};
 
-/// Reads into the buffer, after the bytes that it holds. Returns `None` if a signal interrupted the read.
-fn fill<R: Read>(reader: &mut R, buffer: &mut Vec<u8>, held: usize) -> io::Result<Option<usize>>
-    requires { held < length buffer.old.items }
-    ensures { Fills (R.remaining reader.old) (R.remaining reader.new) held buffer.old.items buffer.new.items result }
-{
-    match reader.read(&mut buffer[held..]) {
-        Ok(count) => Ok(Some(count)),
-        Err(e) if e.kind() == ErrorKind::Interrupted => Ok(None),
-        Err(e) => Err(e),
-    }
-}
+    ghost takes = { λ old bytes new. AddsStrings old.0.sketch (items_of old.0.selection bytes) new.0.sketch
+        × (new.0.selection ≡ old.0.selection) };
 
-/// Adds the items of the whole lines in the first bytes of the buffer, and moves the bytes after them to its front. Returns the
-/// number of those.
-///
-/// The first `held` bytes have no line feed.
-fn take_lines(
-    alloc: Global,
-    sketch: &mut FrequentItemsSketch<String>,
-    selection: Selection,
-    buffer: &mut Vec<u8>,
-    held: usize,
-    end: usize,
-) -> Result<usize, Failure>
-    requires held { held ≤ end }
-    requires end { end ≤ length buffer.old.items }
-    ensures { IfOk result (TakesLines selection sketch.old sketch.new (take end buffer.old.items) buffer.new.items) }
-{
-    if finished_lines(&buffer[held..end]) == 0 {
-        return Ok(end);
+    ghost fails = { λ old bytes failure. FailsAdding old.0.sketch (items_of old.0.selection bytes) failure };
+
+    ghost takes_none = { λ s. (strings_none s.0.sketch, refl) };
+
+    ghost takes_both = { λ r s t xs ys whole. items_both r.0.selection xs ys whole
+        r.0.sketch s.0.sketch t.0.sketch s.0.selection t.0.selection };
+
+    ghost fails_sooner = { λ r xs ys e whole. items_sooner r.0.selection xs ys whole r.0.sketch e };
+
+    ghost fails_later = { λ r s xs ys e whole. items_later r.0.selection xs ys whole r.0.sketch s.0.sketch s.0.selection e };
+
+    fn take(&mut self, alloc: Global, _output: &mut (), bytes: &[u8]) -> Result<(), Failure> {
+        add_items(alloc, &mut self.sketch, self.selection, bytes)
     }
-    let whole = finished_lines(&buffer[..end]);
-    add_items(alloc, sketch, selection, &buffer[..whole])?;
-    buffer.copy_within(whole..end, 0);
-    Ok(end - whole)
 }
 
 /// Adds 1 to the weight of each item of the lines of bytes.
@@ -114,7 +50,8 @@ fn add_items(
     selection: Selection,
     bytes: &[u8],
 ) -> Result<(), Failure>
-    ensures { OnOk result (AddsStrings sketch.old (items_of selection bytes.now) sketch.new) }
+    ensures added { OnOk result (AddsStrings sketch.old (items_of selection bytes.now) sketch.new) }
+    ensures failed { IfErr result (FailsAdding sketch.old (items_of selection bytes.now)) }
 {
     match from_utf8(bytes) {
         Ok(text) => add_text(sketch, selection, text),
@@ -128,7 +65,8 @@ fn add_text(
     selection: Selection,
     text: &str,
 ) -> Result<(), Failure>
-    ensures { OnOk result (AddsStrings sketch.old (items_of selection text.now) sketch.new) }
+    ensures added { OnOk result (AddsStrings sketch.old (items_of selection text.now) sketch.new) }
+    ensures failed { IfErr result (FailsAdding sketch.old (items_of selection text.now)) }
 {
     let mut lines = Lines::new(text);
     'each: loop {
@@ -146,7 +84,8 @@ fn add_raw_lines(
     selection: Selection,
     bytes: &[u8],
 ) -> Result<(), Failure>
-    ensures { OnOk result (AddsStrings sketch.old (items_of selection bytes.now) sketch.new) }
+    ensures added { OnOk result (AddsStrings sketch.old (items_of selection bytes.now) sketch.new) }
+    ensures failed { IfErr result (FailsAdding sketch.old (items_of selection bytes.now)) }
 {
     let mut rest = bytes;
     'each: loop {
@@ -165,7 +104,8 @@ fn add_raw_line(
     selection: Selection,
     line: &[u8],
 ) -> Result<(), Failure>
-    ensures { OnOk result (AddsStrings sketch.old (items_of_raw_line selection line.now) sketch.new) }
+    ensures added { OnOk result (AddsStrings sketch.old (items_of_raw_line selection line.now) sketch.new) }
+    ensures failed { IfErr result (FailsAdding sketch.old (items_of_raw_line selection line.now)) }
 {
     match from_utf8(line) {
         Ok(text) => add_line(sketch, selection, text),
@@ -184,6 +124,7 @@ fn add_line(
     line: &str,
 ) -> Result<(), Failure>
     ensures added { OnOk result (AddsStrings sketch.old (items_of_line selection line.now) sketch.new) }
+    ensures failed { IfErr result (FailsAdding sketch.old (items_of_line selection line.now)) }
     ensures utf8 { IsUtf8 line.now }
 {
     match selection {
@@ -197,7 +138,8 @@ fn add_line(
 
 /// Adds 1 to the weight of each word of a line.
 fn add_words(sketch: &mut FrequentItemsSketch<String>, line: &str) -> Result<(), Failure>
-    ensures { OnOk result (AddsStrings sketch.old (words_of line.now) sketch.new) }
+    ensures added { OnOk result (AddsStrings sketch.old (words_of line.now) sketch.new) }
+    ensures failed { IfErr result (FailsAdding sketch.old (words_of line.now)) }
 {
     sketch.update_all(Words::new(line))?;
     Ok(())
@@ -206,7 +148,8 @@ fn add_words(sketch: &mut FrequentItemsSketch<String>, line: &str) -> Result<(),
 /// Adds 1 to the weight of an item.
 #[inline(always)]
 fn add_item(sketch: &mut FrequentItemsSketch<String>, item: &str) -> Result<(), Failure>
-    ensures { OnOk result (AddsStrings sketch.old (item.now ∷ []) sketch.new) }
+    ensures added { OnOk result (AddsStrings sketch.old (item.now ∷ []) sketch.new) }
+    ensures failed { IfErr result (FailsAdding sketch.old (item.now ∷ [])) }
 {
     sketch.update_item(item)?;
     Ok(())

@@ -12,13 +12,18 @@ pub enum Failure {
     LineTooLong,
     /// The number of items exceeds `u64::MAX`.
     TooManyItems,
-    /// The size of the table is not a power of two from 8 to 2^30.
+    /// The size is not allowed.
     BadSize,
     /// The output could not be written.
     Write(io::Error),
 }
 
 impl From<Error> for Failure {
+    ghost use Rattle.std.specs.Prelude.{◌≡◌};
+    ghost use Rattle.sketches.specs.Faults.{failure_of};
+
+    ghost from_gives = { λ error failure. failure ≡ failure_of error.fault };
+
     fn from(error: Error) -> Self {
         match error.fault() {
             Fault::NoMemory => Failure::Memory,
@@ -29,12 +34,22 @@ impl From<Error> for Failure {
 }
 
 impl<T: Drop> From<AllocFailed<T>> for Failure {
+    ghost use Rattle.std.specs.Prelude.{◌≡◌};
+    ghost use Rattle.sketches.specs.declared.failure.Failure.TheVariants.{Memory};
+
+    ghost from_gives = { λ _ failure. failure ≡ Memory };
+
     fn from(_error: AllocFailed<T>) -> Self {
         Failure::Memory
     }
 }
 
 impl From<AllocError> for Failure {
+    ghost use Rattle.std.specs.Prelude.{◌≡◌};
+    ghost use Rattle.sketches.specs.declared.failure.Failure.TheVariants.{Memory};
+
+    ghost from_gives = { λ _ failure. failure ≡ Memory };
+
     fn from(_error: AllocError) -> Self {
         Failure::Memory
     }

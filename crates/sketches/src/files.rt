@@ -54,14 +54,14 @@ impl<'a> Files<'a> {
     pub fn has_failed(&self) -> bool {
         self.failed
     }
+}
 
-    /// Opens a file, or standard input for `-`.
-    fn open(&self, name: &str) -> io::Result<Input> {
-        if name == "-" {
-            return Ok(Input::Stdin(self.rt.stdin()));
-        }
-        Ok(Input::File(File::open(self.rt, name)?))
+/// Opens a file, or standard input for `-`.
+pub fn open(rt: &HostRuntime, name: &str) -> io::Result<Input> {
+    if name == "-" {
+        return Ok(Input::Stdin(rt.stdin()));
     }
+    Ok(Input::File(File::open(rt, name)?))
 }
 
 impl<'a> Inputs for Files<'a> {
@@ -71,7 +71,7 @@ impl<'a> Inputs for Files<'a> {
         let names = self.names;
         for at in self.next..names.len() {
             self.next = at + 1;
-            match self.open(names[at]) {
+            match open(self.rt, names[at]) {
                 Ok(input) => return Some(input),
                 Err(error) => self.report(error),
             }

@@ -1,11 +1,10 @@
-//! Counts the items of inputs that are opened one after another.
-ghost use Rattle.std.specs.Prelude.{◌≡◌, ℕ, true, List, Option, None, IfOk};
-ghost use Rattle.sketches.specs.Inputs.{CountsInputs, OpensNext};
+//! Reads the lines of inputs that are opened one after another.
+ghost use Rattle.std.specs.Prelude.{◌≡◌, ℕ, true, List, Option, None, IfErr, IfOk};
+ghost use Rattle.sketches.specs.Inputs.{FailsInputs, OpensNext, TakesInputs};
 
-use crate::counting::count_input;
 use crate::failure::Failure;
-use crate::selection::Selection;
-use sketch_frequencies::FrequentItemsSketch;
+use crate::line_sink::LineSink;
+use crate::reading::read_lines;
 use std::alloc::Global;
 use std::io;
 use std::io::Read;
@@ -26,29 +25,31 @@ pub trait Inputs {
         ensures { inputs self.new ≡ inputs self.old };
 }
 
-/// Adds 1 to the weight of each item of each input. The last line of an input ends with it. Returns whether no read failed.
+/// Passes the lines of each input to a sink. The last line of an input ends with it. Returns whether no read failed.
 ///
-/// If a read fails, the lines of that input that were read whole are counted, and then the next input.
+/// If a read fails, the lines of that input that were read whole are taken, and then the next input.
 ///
 /// # Errors
 ///
-/// Returns those of [`count_input`].
-pub fn count_inputs<I: Inputs>(
+/// Returns those of [`read_lines`].
+pub fn read_inputs<I: Inputs, O, S: LineSink<O>>(
     alloc: Global,
-    sketch: &mut FrequentItemsSketch<String>,
-    selection: Selection,
+    sink: &mut S,
+    output: &mut O,
     inputs: &mut I,
     buffer: &mut Vec<u8>,
     limit: usize,
 ) -> Result<bool, Failure>
-    ensures { IfOk result (λ complete. CountsInputs selection (I.inputs inputs.old) complete sketch.old sketch.new) }
+    ensures taken { IfOk result (λ complete.
+        TakesInputs S.takes (I.inputs inputs.old) complete (sink.old, output.old) (sink.new, output.new)) }
+    ensures failed { IfErr result (FailsInputs S.takes S.fails limit (I.inputs inputs.old) (sink.old, output.old)) }
 {
     let mut complete = true;
     'each: for _ in 0..u64::MAX {
         let Some(mut reader) = inputs.next() else {
             return Ok(complete);
         };
-        let failure = count_input(alloc, sketch, selection, &mut reader, buffer, limit)?;
+        let failure = read_lines(alloc, sink, output, &mut reader, buffer, limit)?;
         complete = is_complete(inputs, failure, complete);
     }
     Err(Failure::Memory)

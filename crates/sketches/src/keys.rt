@@ -1,8 +1,9 @@
-//! The key of a run: how its table hashes.
+//! The key of a run: how its table or its filter hashes.
 ghost use Rattle.std.specs.Prelude.{◌≡◌};
-ghost use Rattle.sketches.specs.Keys.{given_key};
+ghost use Rattle.sketches.specs.Keys.{given_key, seed_of};
 
 use hex::FromHex;
+use sketch_base::{DEFAULT_UPDATE_SEED, keyed_hash};
 use sketch_frequencies::{HashKey, TableKey};
 use std::env::{Env, FillError};
 use std::random::RandomSource;
@@ -49,6 +50,16 @@ fn given_key(value: &[u8]) -> Option<TableKey>
     match <[u8; 16] as FromHex>::from_hex(value) {
         Ok(bytes) => Some(TableKey::Keyed(HashKey::from_bytes(&bytes))),
         Err(_) => None,
+    }
+}
+
+/// Returns the seed of a filter under a key. Under another key it is another one, but for a chance of about 1 in 2^64.
+pub fn seed_of(key: TableKey) -> u64
+    ensures { result ≡ seed_of key }
+{
+    match key {
+        TableKey::Plain => DEFAULT_UPDATE_SEED,
+        TableKey::Keyed(key) => keyed_hash(key, b"".as_slice()),
     }
 }
 

@@ -1,39 +1,69 @@
 //! Summaries of the lines of files.
 //!
 //! `sketches top [-f N [-d C] | --words] [-n K] [--size M] [FILE..]` prints the most frequent lines, fields or words of files,
-//! with bounds of how often each occurs. `sketches top --help` lists all options.
+//! with bounds of how often each occurs. `--save IMAGE` saves the sketch. `sketches uniq [-f N [-d C]] [--items N] [--repeated]
+//! [FILE..]` prints each line whose item was not seen before. `sketches merge [-n K] [--save IMAGE] IMAGE..` prints the report of
+//! `top` for all lines that saved sketches counted. `sketches show IMAGE` prints what an image states. `--help` after a command
+//! lists all its options.
 //!
-//! The status is 0, or 1 if a file could not be read and the others were counted. It is 2 after wrong arguments, if the output
-//! could not be written, if memory ran out, or if a line was too long. Messages are on standard error. A closed pipe ends the
-//! program with status 0.
+//! The status is 0, or 1 if a file could not be read and the others were. It is 2 after wrong arguments, if the output or an image
+//! could not be written, if memory ran out, if a line was too long, or if an image could not be read. Messages are on standard
+//! error. A closed pipe ends the program with status 0.
 //!
-//! The table hashes under a random key. The option `--key` and the environment variable `DATASKETCHES_TABLE_KEY` fix it.
+//! Tables and filters hash under a random key. The option `--key` and the environment variable `DATASKETCHES_TABLE_KEY` fix it.
 #![tactic(auto)]
 
+mod batches;
 mod counting;
 mod failure;
 mod field;
 mod files;
+mod image_commands;
+mod image_file;
+mod image_files;
+mod image_options;
+mod images;
 mod inputs;
 mod keys;
+mod line_sink;
+mod merge;
 mod options;
 mod raw_lines;
+mod raw_parts;
+mod reading;
 mod report;
+mod save;
 mod selection;
+mod shared_options;
+mod show;
 mod top;
+mod uniq;
+mod unseen;
 
 use clap::ArgMatches;
 use failure::Failure;
 use files::Files;
-use keys::{KeyFault, key_of};
-use options::{command, selection_of};
+use image_commands::{image_file, run_merge, run_show};
+use keys::{KeyFault, key_of, seed_of};
+use options::{command, part_of, selection_of};
 use std::io::ErrorKind;
 use std::process::ExitCode;
 use std::{env, io};
 use top::{Options, top};
+use uniq::{Summary, UniqOptions, uniq};
 
 /// The status after an error.
 const ERROR: u8 = 2;
+
+/// The message of a delimiter that is not allowed.
+const BAD_DELIMITER: &str = "the delimiter must be one character of ASCII";
+
+/// The message of a table's size that is not allowed.
+const BAD_TABLE: &str = "--size must be a power of two from 8 to 2^30";
+
+/// The message of a filter's size that is not allowed.
+const BAD_FILTER: &str =
+    "--items must be at least 1, --false-positives at least 2, and the filter at most 2^37 bits";
 
 /// The files if none is named.
 static STANDARD_INPUT: [&str; 1] = ["-"];
@@ -56,9 +86,12 @@ fn run(rt: &HostRuntime) -> u8 {
         return fail(rt, "no memory");
     };
     match command.try_get_matches_from(words.as_slice()) {
-        Ok(matches) => match matches.subcommand_matches("top") {
-            Some(matches) => run_top(rt, matches),
-            None => fail(rt, "no command"),
+        Ok(matches) => match matches.subcommand() {
+            Some(("top", matches)) => run_top(rt, matches),
+            Some(("uniq", matches)) => run_uniq(rt, matches),
+            Some(("merge", matches)) => run_merge(rt, matches),
+            Some(("show", matches)) => run_show(rt, matches),
+            _ => fail(rt, "no command"),
         },
         Err(error) => match error.print(rt) {
             Ok(()) => error.exit_code() as u8,
@@ -70,7 +103,7 @@ fn run(rt: &HostRuntime) -> u8 {
 /// Runs `sketches top`. Returns the status.
 fn run_top(rt: &HostRuntime, matches: &ArgMatches<'_>) -> u8 {
     let Some(selection) = selection_of(matches) else {
-        return fail(rt, "the delimiter must be one character of ASCII");
+        return fail(rt, BAD_DELIMITER);
     };
     let key = match key_of(rt, matches.get_str("key")) {
         Ok(key) => key,
@@ -80,18 +113,74 @@ fn run_top(rt: &HostRuntime, matches: &ArgMatches<'_>) -> u8 {
         selection,
         rows: number_of(matches, "rows"),
         size: number_of(matches, "size"),
-        max_line: number_of(matches, "max-line"),
+        max_line: max_line_of(matches),
         header: !matches.get_flag("no-header"),
         key,
     };
     let names = matches
         .get_strs("files")
         .unwrap_or(STANDARD_INPUT.as_slice());
+    let Some(mut image) = image_file(rt, matches) else {
+        return fail(rt, "--save must name a file");
+    };
     let mut files = Files::new(rt, names);
-    match top(rt.alloc(), options, &mut files, &mut rt.stdout()) {
+    let status = match top(
+        rt.alloc(),
+        options,
+        &mut files,
+        &mut image,
+        &mut rt.stdout(),
+    ) {
         Ok(complete) => u8::from(!complete || files.has_failed()),
-        Err(failure) => end(rt, failure, files.current()),
+        Err(failure) => end(rt, failure, files.current(), BAD_TABLE),
+    };
+    if image.has_failed() { ERROR } else { status }
+}
+
+/// Runs `sketches uniq`. Returns the status.
+fn run_uniq(rt: &HostRuntime, matches: &ArgMatches<'_>) -> u8 {
+    let Some(part) = part_of(matches) else {
+        return fail(rt, BAD_DELIMITER);
+    };
+    let key = match key_of(rt, matches.get_str("key")) {
+        Ok(key) => key,
+        Err(fault) => return fail(rt, message_of(fault)),
+    };
+    let options = UniqOptions {
+        part,
+        repeated: matches.get_flag("repeated"),
+        items: matches.get_one::<u64>("items").unwrap_or(0),
+        questions: matches.get_one::<u64>("false-positives").unwrap_or(0),
+        seed: seed_of(key),
+        max_line: max_line_of(matches),
+    };
+    let names = matches
+        .get_strs("files")
+        .unwrap_or(STANDARD_INPUT.as_slice());
+    let mut files = Files::new(rt, names);
+    match uniq(rt.alloc(), options, &mut files, &mut rt.stdout()) {
+        Ok(summary) => {
+            if !matches.get_flag("no-note") {
+                note(rt, &summary);
+            }
+            u8::from(!summary.complete || files.has_failed())
+        }
+        Err(failure) => end(rt, failure, files.current(), BAD_FILTER),
     }
+}
+
+/// Prints how many lines were left out, and how many new items are taken for repeated ones, under ideal hashes.
+fn note(rt: &HostRuntime, summary: &Summary) {
+    let _ = eprintln!(rt;
+        "sketches: {} lines left out; about 1 in {} new items is taken for a repeated one",
+        summary.left_out,
+        summary.questions()
+    );
+}
+
+/// Returns the maximum number of bytes of a line.
+fn max_line_of(matches: &ArgMatches<'_>) -> u32 {
+    matches.get_one::<u32>("max-line").unwrap_or(0)
 }
 
 /// Returns the number of an option that has a default.
@@ -99,12 +188,12 @@ fn number_of(matches: &ArgMatches<'_>, name: &str) -> usize {
     matches.get_one::<u32>(name).unwrap_or(0) as usize
 }
 
-/// Prints why a run ended. Returns the status.
-fn end(rt: &HostRuntime, failure: Failure, file: &str) -> u8 {
+/// Prints why a run ended; `bad_size` is the message of a size that is not allowed. Returns the status.
+fn end(rt: &HostRuntime, failure: Failure, file: &str, bad_size: &str) -> u8 {
     match failure {
         Failure::Memory => fail(rt, "no memory"),
         Failure::TooManyItems => fail(rt, "more than 2^64 - 1 items"),
-        Failure::BadSize => fail(rt, "--size must be a power of two from 8 to 2^30"),
+        Failure::BadSize => fail(rt, bad_size),
         Failure::LineTooLong => fail_at(rt, file, "a line is longer than --max-line"),
         Failure::Write(error) => end_of_output(rt, error),
     }

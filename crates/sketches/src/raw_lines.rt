@@ -2,6 +2,7 @@
 ghost use Rattle.std.specs.Prelude.{◌≡◌};
 ghost use Rattle.std.specs.Str.Lines.{strip_carriage_return};
 ghost use Rattle.sketch_base.specs.Split.{TakesLine};
+ghost use Rattle.sketches.specs.RawLines.{TakesRawLine};
 
 use sketch_base::{Separator, first_separator};
 
@@ -20,6 +21,27 @@ pub fn next_raw_line(bytes: &[u8]) -> Option<(&[u8], &[u8])>
     }
     let (_, rest) = after.split_at(1);
     Some((without_carriage_return(line), rest))
+}
+
+/// Returns the first line of bytes with its end, the same line without it, and the bytes after it. Returns `None` if there are no
+/// bytes.
+///
+/// The end is the line feed and a carriage return before it. The last line may have no end.
+#[inline(always)]
+pub fn next_line_with_end(bytes: &[u8]) -> Option<(&[u8], &[u8], &[u8])>
+    ensures { TakesRawLine bytes.now result }
+{
+    if bytes.is_empty() {
+        return None;
+    }
+    let at = first_separator(bytes, Separator::LineFeed);
+    if at == bytes.len() {
+        let (line, after) = bytes.split_at(at);
+        return Some((line, line, after));
+    }
+    let (raw, after) = bytes.split_at(at + 1);
+    let (line, _) = raw.split_at(at);
+    Some((raw, without_carriage_return(line), after))
 }
 
 /// Returns a line without the carriage return at its end, if there is one.

@@ -1,5 +1,5 @@
 //! The text of a report.
-ghost use Rattle.std.specs.Prelude.{◌≡◌, ◌++◌, IfOk, OnOk, length, min, string_bytes, take};
+ghost use Rattle.std.specs.Prelude.{◌≡◌, ◌++◌, IfErr, IfOk, OnOk, length, min, string_bytes, take};
 ghost use Rattle.std.specs.List.{flat_map};
 ghost use Rattle.sketches.specs.Reports.{ShowsTop, header_line, row_line};
 
@@ -19,7 +19,8 @@ pub fn report(
     header: bool,
     count: usize,
 ) -> Result<String, Failure>
-    ensures { IfOk result (λ text. ShowsTop sketch.now header count (string_bytes text)) }
+    ensures shown { IfOk result (λ text. ShowsTop sketch.now header count (string_bytes text)) }
+    ensures failed { IfErr result (λ failure. failure ≡ Failure.Memory) }
 {
     let rows = sketch.frequent_items_with_threshold(ErrorType::NoFalseNegatives, 0)?;
     let mut text = String::new(alloc);

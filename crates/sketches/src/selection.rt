@@ -4,7 +4,7 @@ ghost use Rattle.sketch_base.specs.Split.{words_of};
 ghost use Rattle.sketches.specs.Items.{part_of};
 
 use crate::field::{Field, field_at};
-use sketch_base::{Strings, Words};
+use sketch_base::{Separator, nth_word};
 
 /// The items of a line.
 #[derive(Clone, Copy)]
@@ -33,20 +33,7 @@ pub fn part_of(part: Part, line: &str) -> Option<&str>
 {
     match part {
         Part::Line => Some(line),
-        Part::Word(index) => word_at(line, index),
+        Part::Word(index) => nth_word(line, Separator::AsciiWhitespace, index),
         Part::Field(field) => field_at(line, field),
     }
-}
-
-/// Returns the word of an index, or `None` if the line has too few words.
-#[inline(always)]
-fn word_at(line: &str, index: u32) -> Option<&str>
-    ensures { MatchOption result (take 1 (drop index (words_of line.now)) ≡ [])
-        (λ item. take 1 (drop index (words_of line.now)) ≡ item.now ∷ []) }
-{
-    let mut words = Words::new(line);
-    'words: for at in 0..index {
-        words.next_str()?;
-    }
-    words.next_str()
 }

@@ -1,11 +1,15 @@
 //! The most frequent items of inputs.
-ghost use Rattle.std.specs.Prelude.{◌≡◌, ◌⊎◌, IfErr, IfOk};
-ghost use Rattle.sketches.specs.Failures.{IsOfOutput};
+ghost use Rattle.std.specs.Prelude.{◌≡◌, ◌⊎◌, IfErr, IfOk, IsErrOf, IsSome};
+ghost use Rattle.sketch_frequencies.specs.Sizes.{size_fault};
+ghost use Rattle.sketches.specs.Failures.{FailsTop, IsOfOutput};
+ghost use Rattle.sketches.specs.Images.{KeepsItems};
 ghost use Rattle.sketches.specs.Reports.{WritesReport};
 
+use crate::counting::ItemCounter;
 use crate::failure::Failure;
-use crate::inputs::{Inputs, count_inputs};
+use crate::inputs::{Inputs, read_inputs};
 use crate::report::report;
+use crate::save::Keeper;
 use crate::selection::Selection;
 use sketch_frequencies::{FrequentItemsSketch, TableKey};
 use std::alloc::Global;
@@ -23,8 +27,8 @@ pub struct Options {
     pub rows: usize,
     /// The maximum number of slots of the table.
     pub size: usize,
-    /// The maximum number of bytes of a line.
-    pub max_line: usize,
+    /// The maximum number of bytes of a line before its line feed.
+    pub max_line: u32,
     /// Whether the first line shows the error and the number of all items.
     pub header: bool,
     /// How the table hashes.
@@ -33,38 +37,40 @@ pub struct Options {
 
 /// Writes a report on the most frequent items of the inputs' lines. Returns whether no read failed.
 ///
-/// The report is written as a whole after all inputs are read.
+/// The report is written as a whole, after all inputs are read and the sketch is kept.
 ///
 /// # Errors
 ///
-/// Returns `BadSize` if the size is not a power of two from 8 to 2^30, `LineTooLong` if a line exceeds the limit, `TooManyItems` if
-/// there are 2^64 items, and `Memory` if an allocation fails. The writer is not called then. Returns `Write` if it fails.
-pub fn top<I: Inputs, W: Write>(
+/// Returns `BadSize` if the size is not a power of two from 8 to 2^30, and then reads nothing. Returns `LineTooLong` if a line
+/// exceeds the limit, `TooManyItems` if there are 2^64 items, and `Memory` if an allocation fails. The writer is not called
+/// then. Returns `Write` if it fails.
+pub fn top<I: Inputs, K: Keeper, W: Write>(
     alloc: Global,
     options: Options,
     inputs: &mut I,
+    keeper: &mut K,
     writer: &mut W,
 ) -> Result<bool, Failure>
     ensures written { IfOk result (λ complete. WritesReport options (I.inputs inputs.old) complete
         (W.contents writer.old) (W.contents writer.new)) }
+    ensures kept { IfOk result (λ complete. KeepsItems options (I.inputs inputs.old) complete (K.kept keeper.new)) }
+
+    // When each error comes, and what it leaves unchanged.
+    ensures failed { IfErr result (FailsTop options (I.inputs inputs.old)) }
+    ensures bad_size { IsSome (size_fault options.size) → IsErrOf result Failure.BadSize }
+    ensures unread { IsErrOf result Failure.BadSize → inputs.new ≡ inputs.old }
     ensures unwritten { IfErr result (λ failure. IsOfOutput failure ⊎ (writer.new ≡ writer.old)) }
 {
-    let mut sketch: FrequentItemsSketch<String> = FrequentItemsSketch::with_key(
-        alloc,
-        options.size,
-        options.key,
-    )?;
-    let limit = options.max_line.saturating_add(1);
+    let sketch = FrequentItemsSketch::with_key(alloc, options.size, options.key)?;
+    let mut counter = ItemCounter {
+        sketch,
+        selection: options.selection,
+    };
+    let limit = options.max_line as usize + 1;
     let mut buffer = vec![in alloc; 0; limit.min(BLOCK)]?;
-    let complete = count_inputs(
-        alloc,
-        &mut sketch,
-        options.selection,
-        inputs,
-        &mut buffer,
-        limit,
-    )?;
-    let text = report(alloc, &sketch, options.header, options.rows)?;
+    let complete = read_inputs(alloc, &mut counter, &mut (), inputs, &mut buffer, limit)?;
+    keeper.keep(&counter.sketch);
+    let text = report(alloc, &counter.sketch, options.header, options.rows)?;
     match writer.write_all(text.as_bytes()) {
         Ok(()) => Ok(complete),
         Err(e) => Err(Failure::Write(e)),

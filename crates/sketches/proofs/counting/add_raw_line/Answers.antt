@@ -7,4 +7,4 @@ pub returns-in-Ok : goal.returns-in-Ok
 returns-in-Ok c =
     let cases = c.in-Ok.ensures.cases in
     let same : items_of_line c.args.selection c.in-Ok.text.now ≡ items_of_raw_line c.args.selection c.args.line.now = ap (items_of_line c.args.selection) (cases.0 ∙ sym (utf8_lossy-IsUtf8 c.args.line.now cases.1)) in
-    rw same at c.add_line.ensures.added
+    record { added = rw same at c.add_line.ensures.added; failed = rw same at c.add_line.ensures.failed }

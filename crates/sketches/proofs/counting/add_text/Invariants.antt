@@ -1,6 +1,6 @@
 use Rattle.std.proofs.Common.{length}
 use Rattle.std.specs.Str.Lines.{lines}
-use Rattle.sketches.proofs.Adding.{HasAddedLines}
+use Rattle.sketches.proofs.AddedItems.{HasAddedLines}
 use Rattle.sketches.proofs.counting.add_text.Given as goal
 
 abbrev pub invariant-each : goal.invariant-each

@@ -1,0 +1,111 @@
+-- Lines whose items are inserted in one call.
+use Rattle.std.proofs.Common.{◌≡◌, ℕ, ◌+◌, ◌<◌, Bool, true, false, not, ◌||◌, List, [], ◌∷◌, ◌++◌, length, get_or, map, take, drop, set, append_assoc, append-nil, refl, sym, ◌∙◌, ap, arith}
+use Rattle.std.proofs.lemmas.List.{drop_more, map-append, take_more_set}
+use Rattle.std.specs.Borrow.{Bor}
+use Rattle.std.specs.List.{flat_map}
+use Rattle.std.specs.Str.Lines.{lines}
+use Rattle.sketch_base.specs.Strings.{strings_at}
+use Rattle.sketch_bloom.specs.State.{FilterState, all_inserted, answers_in_turn, contains_item, inserted}
+use Rattle.sketches.specs.Items.{part_of}
+use Rattle.sketches.specs.RawLines.{raw_lines}
+use Rattle.sketches.specs.Unseen.{AreNextLines, hashed, is_seen, item_of, unseen_lines, with_items, with_lines, written_by, written_of}
+use Rattle.sketches.specs.UnseenLaws.{items_both}
+use Rattle.sketches.specs.declared.selection.Part.{Part}
+
+-- the item of a line with its end is that of the line without it
+pub item_is : (part : Part) (raw line : List ℕ) → lines raw ≡ line ∷ [] → item_of part raw ≡ part_of part line
+item_is part raw line one = ap (flat_map (part_of part)) one ∙ append-nil (part_of part line)
+
+strings_push : (words : List (Bor (List ℕ))) (word : Bor (List ℕ)) → strings_at (words ++ word ∷ []) ≡ strings_at words ++ word.now ∷ []
+strings_push [] word = refl
+strings_push (x ∷ xs) word = ap (λ (l : List (List ℕ)). x.now ∷ l) (strings_push xs word)
+
+-- one more element
+pushed_at : (xs : List (Bor (List ℕ))) (count : ℕ) (x : Bor (List ℕ)) → count < length xs → strings_at (take (count + 1) (set xs count x)) ≡ strings_at (take count xs) ++ x.now ∷ []
+pushed_at xs count x less = ap strings_at (take_more_set xs count x less) ∙ strings_push (take count xs) x
+
+-- ---- the next lines
+
+pub next_none : (part : Part) (bytes : List ℕ) → AreNextLines part bytes bytes [] []
+next_none part bytes = record { parts = refl; items_are = refl }
+
+pub next_more : (part : Part) (bytes rest later raw line item : List ℕ) (raws items : List (List ℕ)) → AreNextLines part bytes rest raws items → raw_lines rest ≡ raw ∷ raw_lines later → lines raw ≡ line ∷ [] → part_of part line ≡ item ∷ [] → AreNextLines part bytes later (raws ++ raw ∷ []) (items ++ item ∷ [])
+next_more part bytes rest later raw line item raws items so next one is = record {
+  parts = so.parts ∙ (ap (λ l. raws ++ l) next ∙ sym (append_assoc raws (raw ∷ []) (raw_lines later)));
+  items_are =
+      map-append (item_of part) raws (raw ∷ [])
+      ∙ (ap (λ l. l ++ item_of part raw ∷ []) so.items_are
+      ∙ (ap (λ (l : List (List ℕ)). map (λ (x : List ℕ). x ∷ []) items ++ l ∷ []) (item_is part raw line one ∙ is) ∙ sym (map-append (λ (x : List ℕ). x ∷ []) items (item ∷ []))));
+}
+
+-- ---- what is written of a batch
+
+or_false : (b : Bool) → (b || false) ≡ b
+or_false true = refl
+or_false false = refl
+
+pub record IsBatch (repeated : Bool) (part : Part) (filter : FilterState) (raws items : List (List ℕ)) : Type 0 where
+  pub written : unseen_lines repeated part filter raws ≡ written_by repeated (answers_in_turn filter (map hashed items)) raws
+  pub filter_is : with_lines part filter raws ≡ all_inserted filter (map hashed items)
+
+same_head : (x y : List (List ℕ)) (xs ys : List (List (List ℕ))) → x ∷ xs ≡ y ∷ ys → x ≡ y
+same_head x y xs ys e = cc
+
+same_tail : (x y : List (List ℕ)) (xs ys : List (List (List ℕ))) → x ∷ xs ≡ y ∷ ys → xs ≡ ys
+same_tail x y xs ys e = cc
+
+pub batch : (repeated : Bool) (part : Part) (filter : FilterState) (raws items : List (List ℕ)) → map (item_of part) raws ≡ map (λ (x : List ℕ). x ∷ []) items → IsBatch repeated part filter raws items
+batch repeated part filter [] [] e = record { written = refl; filter_is = refl }
+batch repeated part filter [] (y ∷ items) e = cc
+batch repeated part filter (raw ∷ raws) [] e = cc
+batch repeated part filter (raw ∷ raws) (item ∷ items) e =
+    let one : item_of part raw ≡ item ∷ [] = same_head _ _ _ _ e in
+    let mid : FilterState = inserted filter (hashed item) in
+    let b = batch repeated part mid raws items (same_tail _ _ _ _ e) in
+    let seen : is_seen filter (item_of part raw) ≡ contains_item filter (hashed item) = ap (is_seen filter) one ∙ or_false (contains_item filter (hashed item)) in
+    let next : with_items filter (item_of part raw) ≡ mid = ap (with_items filter) one in
+    record {
+      written =
+          ap (λ (t : Bool). written_of repeated t raw ++ unseen_lines repeated part (with_items filter (item_of part raw)) raws) seen
+          ∙ (ap (λ (s : FilterState). written_of repeated (contains_item filter (hashed item)) raw ++ unseen_lines repeated part s raws) next
+          ∙ ap (λ l. written_of repeated (contains_item filter (hashed item)) raw ++ l) b.written);
+      filter_is =
+          items_both filter (item_of part raw) (flat_map (item_of part) raws) ∙ (ap (λ (s : FilterState). with_lines part s raws) next ∙ b.filter_is);
+    }
+
+-- ---- one line after another
+
+pub one_written : (repeated : Bool) (seens : List Bool) (raws : List (Bor (List ℕ))) (i : ℕ) (d : Bool) (r : Bor (List ℕ)) → i < length seens → i < length raws
+    → written_by repeated (drop i seens) (strings_at (drop i raws)) ≡ written_of repeated (get_or seens i d) (get_or raws i r).now ++ written_by repeated (drop (i + 1) seens) (strings_at (drop (i + 1) raws))
+one_written repeated seens raws i d r less less' =
+    ap (λ (l : List Bool). written_by repeated l (strings_at (drop i raws))) (drop_more seens i d less)
+    ∙ ap (λ (l : List (Bor (List ℕ))). written_by repeated (get_or seens i d ∷ drop (i + 1) seens) (strings_at l)) (drop_more raws i r less')
+
+pub write_step : (repeated : Bool) (seens : List Bool) (raws : List (Bor (List ℕ))) (i : ℕ) (d : Bool) (r : Bor (List ℕ)) (all held now : List ℕ) → i < length seens → i < length raws
+    → all ≡ held ++ written_by repeated (drop i seens) (strings_at (drop i raws)) → now ≡ held ++ written_of repeated (get_or seens i d) (get_or raws i r).now → all ≡ now ++ written_by repeated (drop (i + 1) seens) (strings_at (drop (i + 1) raws))
+write_step repeated seens raws i d r all held now less less' so e =
+    let later : List ℕ = written_by repeated (drop (i + 1) seens) (strings_at (drop (i + 1) raws)) in
+    so ∙ (ap (λ l. held ++ l) (one_written repeated seens raws i d r less less')
+    ∙ (sym (append_assoc held (written_of repeated (get_or seens i d) (get_or raws i r).now) later) ∙ ap (λ l. l ++ later) (sym e)))
+
+pub taken_more : (part : Part) (bytes rest later line item : List ℕ) (raws items : List (Bor (List ℕ))) (count : ℕ) (r t : Bor (List ℕ)) → count < length raws → count < length items
+    → AreNextLines part bytes rest (strings_at (take count raws)) (strings_at (take count items)) → raw_lines rest ≡ r.now ∷ raw_lines later → lines r.now ≡ line ∷ [] → part_of part line ≡ item ∷ [] → t.now ≡ item
+    → AreNextLines part bytes later (strings_at (take (count + 1) (set raws count r))) (strings_at (take (count + 1) (set items count t)))
+taken_more part bytes rest later line item raws items count r t less less' so next one is same =
+    rw (pushed_at raws count r less, pushed_at items count t less')
+    (next_more part bytes rest later r.now line t.now (strings_at (take count raws)) (strings_at (take count items)) so next one (is ∙ ap (λ (x : List ℕ). x ∷ []) (sym same)))
+
+pub not_true : (b : Bool) → not b ≡ true → b ≡ false
+not_true true e = cc
+not_true false e = refl
+
+pub not_false : (b : Bool) → not b ≡ false → b ≡ true
+not_false true e = refl
+not_false false e = cc
+
+-- a line that is not written
+pub write_skip : (repeated : Bool) (seens : List Bool) (raws : List (Bor (List ℕ))) (i : ℕ) (d : Bool) (all held : List ℕ) → i < length seens → i < length raws
+    → all ≡ held ++ written_by repeated (drop i seens) (strings_at (drop i raws)) → ((raw : List ℕ) → written_of repeated (get_or seens i d) raw ≡ []) → all ≡ held ++ written_by repeated (drop (i + 1) seens) (strings_at (drop (i + 1) raws))
+write_skip repeated seens [] i d all held less less' so none = absurd (omega (arith, less'))
+write_skip repeated seens (r ∷ raws) i d all held less less' so none =
+    write_step repeated seens (r ∷ raws) i d r all held held less less' so (sym (append-nil held) ∙ ap (λ l. held ++ l) (sym (none (get_or (r ∷ raws) i r).now)))

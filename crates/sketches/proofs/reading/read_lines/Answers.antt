@@ -1,0 +1,64 @@
+use Rattle.std.proofs.Common.{Err, inl, inr, ⊎_elim, take, ap, arith, ◌∙◌, length-take-le}
+use Rattle.std.proofs.lemmas.Result.{err_from_is_err_and}
+use Rattle.std.specs.declared.io.Error.{Error}
+use Rattle.sketches.proofs.ReadLines.{taken_none, too_long, taken_more, taken_lines, taken_last, taken_failed, fails_last, fails_lines, filled, none_more}
+use Rattle.sketches.proofs.reading.read_lines.Goals as goal
+
+pub returns-in_err-make_room-clause-failed : goal.returns-in_err-make_room-clause-failed
+returns-in_err-make_room-clause-failed g c =
+    let e = err_from_is_err_and c.from_residual.result c.from_residual.ensures.1 in
+    let f = c.in_err-make_room.ensures in
+    rw (e.1, e.2)
+    (⊎_elim (λ memory. inl memory)
+    (λ long.
+    let (full, le) = f.too_long.0 (ap Err long) in
+    let len = length-take-le c.reads.held c.reads.buffer.items c.reads.invariant.0 in
+    inr (inl (long, too_long g.S.LineSink.takes (g.R.Read.remaining c.args.reader.now) (g.R.Read.remaining c.reads.reader) (c.args.sink.now, c.args.output.now) (c.reads.sink, c.reads.output) (take c.reads.held c.reads.buffer.items) c.args.limit c.reads.invariant.2 (omega (arith, le, len)) c.reads.invariant.1)))
+    f.failed)
+
+pub returns-in-Err-clause-taken : goal.returns-in-Err-clause-taken
+returns-in-Err-clause-taken g c = taken_failed g.S.LineSink.takes (g.R.Read.remaining c.args.reader.now) (g.R.Read.remaining c.reads.reader) (c.args.sink.now, c.args.output.now) (c.reads.sink, c.reads.output) _ c.in-Err.e c.reads.invariant.2
+
+pub returns-in_err-take-clause-failed : goal.returns-in_err-take-clause-failed
+returns-in_err-take-clause-failed g c =
+    let e = err_from_is_err_and c.from_residual-in_err-take.result c.from_residual-in_err-take.ensures.1 in
+    let f = c.in-Ok.ensures in
+    let got = rw c.in-Some.is at f.2 in
+    let same = f.1 ∙ c.in_ok-make_room.ensures.kept in
+    let all = taken_more g.S.LineSink.takes _ _ _ _ _ _ _ _ c.reads.invariant.2 got.1 (filled c.reads.held c.in-Some.count _ _ c.reads.invariant.0 same) in
+    rw (e.1, e.2) (inr (inr (fails_last g.S.LineSink.takes g.S.LineSink.fails g.met.S.LineSink.fails_later _ _ _ (c.reads.sink, c.reads.output) _ (take c.reads.held c.fill.new.buffer.items) _ all (none_more c.reads.held c.in-Some.count _ c.if-count-eq0.true) (got.2 c.if-count-eq0.true) (rw c.deref.ensures.value at c.in_err-take.ensures.failed))))
+
+pub returns-in_err-held-clause-failed : goal.returns-in_err-held-clause-failed
+returns-in_err-held-clause-failed g c =
+    let e = err_from_is_err_and c.from_residual-in_err-held.result c.from_residual-in_err-held.ensures.1 in
+    let f = c.in-Ok.ensures in
+    let got = rw c.in-Some.is at f.2 in
+    let same = f.1 ∙ c.in_ok-make_room.ensures.kept in
+    let all = taken_more g.S.LineSink.takes _ _ _ _ _ _ _ _ c.reads.invariant.2 got.1 (filled c.reads.held c.in-Some.count _ _ c.reads.invariant.0 same) in
+    rw (e.1, e.2) (inr (inr (fails_lines g.S.LineSink.takes g.S.LineSink.fails g.met.S.LineSink.fails_later g.met.S.LineSink.fails_sooner _ _ _ (c.reads.sink, c.reads.output) _ _ all c.in_err-held.ensures.failed)))
+
+pub returns-then-count-eq0 : goal.returns-then-count-eq0
+returns-then-count-eq0 g c =
+    let f = c.in-Ok.ensures in
+    let got = rw c.in-Some.is at f.2 in
+    let same = f.1 ∙ c.in_ok-make_room.ensures.kept in
+    let all = taken_more g.S.LineSink.takes _ _ _ _ _ _ _ _ c.reads.invariant.2 got.1 (filled c.reads.held c.in-Some.count _ _ c.reads.invariant.0 same) in
+    record {
+      taken = taken_last g.S.LineSink.takes g.met.S.LineSink.takes_both Error _ _ _ (c.reads.sink, c.reads.output) (c.take.new.self, c.take.new.output) _ (take c.reads.held c.fill.new.buffer.items) all (none_more c.reads.held c.in-Some.count _ c.if-count-eq0.true) (got.2 c.if-count-eq0.true) (rw c.deref.ensures.value at c.in_ok-take.ensures.taken);
+      failed = tt;
+    }
+
+pub reads-init : goal.reads-init
+reads-init g c = (omega arith, λ k d less. absurd (omega (arith, less)), taken_none g.S.LineSink.takes g.met.S.LineSink.takes_none (g.R.Read.remaining c.args.reader.now) (c.args.sink.now, c.args.output.now))
+
+pub reads-preserved : goal.reads-preserved
+reads-preserved g c =
+    let t = c.in_ok-held.ensures.taken in
+    let f = c.in-Ok.ensures in
+    let got = rw c.in-Some.is at f.2 in
+    let same = f.1 ∙ c.in_ok-make_room.ensures.kept in
+    let all = taken_more g.S.LineSink.takes _ _ _ _ _ _ _ _ c.reads.invariant.2 got.1 (filled c.reads.held c.in-Some.count _ _ c.reads.invariant.0 same) in
+    (t.within, t.rest, taken_lines g.S.LineSink.takes g.met.S.LineSink.takes_both _ _ _ (c.reads.sink, c.reads.output) _ _ _ _ all t)
+
+pub returns-clause-taken : goal.returns-clause-taken
+returns-clause-taken g c = taken_failed g.S.LineSink.takes (g.R.Read.remaining c.args.reader.now) (g.R.Read.remaining c.reads.reader) (c.args.sink.now, c.args.output.now) (c.reads.sink, c.reads.output) _ c.from.result c.reads.invariant.2

@@ -1,0 +1,71 @@
+-- The lines whose items were not seen before.
+use Rattle.std.specs.Prelude.{◌≡◌, ℕ, Bool, false, not, List, [], ◌∷◌, ◌++◌, map, Option, Contains, if◌then◌else◌}
+use Rattle.std.specs.Hash as fed
+use Rattle.std.specs.Io.KnownBytes.{Appends}
+use Rattle.std.specs.List.{flat_map, list_any}
+use Rattle.std.specs.Str.Lines.{lines}
+use Rattle.sketch_base.specs.Hashes.{fed_bytes}
+use Rattle.sketch_bloom.specs.State.{FilterState, all_inserted, contains_item}
+use Rattle.sketches.specs.Inputs.{AreRead}
+use Rattle.sketches.specs.Items.{part_of}
+use Rattle.sketches.specs.RawLines.{raw_lines}
+use Rattle.sketches.specs.declared.selection.Part.{Part}
+
+-- the item of a line with its end: a part of the line without it, if the line has this part
+abbrev pub item_of : Part → List ℕ → List (List ℕ)
+item_of part raw = flat_map (part_of part) (lines raw)
+
+-- what the filter hashes of an item: its bytes, and a last byte that no UTF-8 has
+abbrev pub hashed : List ℕ → List ℕ
+hashed item = fed_bytes fed.str item
+
+-- whether the filter contains one of the items
+abbrev pub is_seen : FilterState → List (List ℕ) → Bool
+is_seen filter items = list_any (λ item. contains_item filter (hashed item)) items
+
+-- the filter with the items inserted
+abbrev pub with_items : FilterState → List (List ℕ) → FilterState
+with_items filter items = all_inserted filter (map hashed items)
+
+-- the filter after the items of lines
+abbrev pub with_lines : Part → FilterState → List (List ℕ) → FilterState
+with_lines part filter raws = with_items filter (flat_map (item_of part) raws)
+
+-- whether a line is written: with `repeated` if its item seems to have been seen, else if it has not
+abbrev pub is_written : Bool → Bool → Bool
+is_written repeated seen = if repeated then seen else not seen
+
+-- what is written of a line
+abbrev pub written_of : Bool → Bool → List ℕ → List ℕ
+written_of repeated seen raw = if is_written repeated seen then raw else []
+
+-- what is written of lines, given for each whether its item seems to have been seen
+abbrev pub written_by : Bool → List Bool → List (List ℕ) → List ℕ
+written_by repeated (seen ∷ seens) (raw ∷ raws) = written_of repeated seen raw ++ written_by repeated seens raws
+written_by repeated _ _ = []
+
+-- the first lines of bytes and the bytes after them. Each of these lines has an item
+pub record AreNextLines (part : Part) (bytes rest : List ℕ) (raws items : List (List ℕ)) : Type 0 where
+  pub parts : raw_lines bytes ≡ raws ++ raw_lines rest
+  pub items_are : map (item_of part) raws ≡ map (λ item. item ∷ []) items
+
+-- the lines that are written, with their ends: for each line, the filter has taken the items of all lines before it
+abbrev pub unseen_lines : Bool → Part → FilterState → List (List ℕ) → List ℕ
+unseen_lines repeated part filter [] = []
+unseen_lines repeated part filter (raw ∷ later) =
+    written_of repeated (is_seen filter (item_of part raw)) raw
+    ++ unseen_lines repeated part (with_items filter (item_of part raw)) later
+
+-- a line whose item is not seen is the first with its item
+abbrev pub AreFirst : Part → FilterState → List (List ℕ) → Type 0
+AreFirst part filter raws =
+    (before after : List (List ℕ)) (raw item : List ℕ) → raws ≡ before ++ raw ∷ after →
+    is_seen (with_lines part filter before) (item_of part raw) ≡ false →
+    Contains (item_of part raw) item → Contains (flat_map (item_of part) before) item → ⊥
+
+-- the writer received the lines of what was read of each input whose items were not seen before, or, with `repeated`, the others
+pub record WritesUnseen (repeated : Bool) (part : Part) (filter : FilterState) (inputs : List (List ℕ)) (complete : Bool) (held holds : Option (List ℕ)) : Type 0 where
+  pub read : List (List ℕ)
+  pub are : AreRead complete inputs read
+  pub written : Appends held holds (unseen_lines repeated part filter (flat_map raw_lines read))
+  pub first : AreFirst part filter (flat_map raw_lines read)

@@ -1,0 +1,117 @@
+-- The laws of lines with their ends, and of the lines that are written.
+use Rattle.std.proofs.Common.{◌≡◌, ℕ, ◌+◌, ◌-◌, ◌<◌, Bool, true, false, cond, eqb, List, [], ◌∷◌, ◌++◌, length, get_or, map, take, drop, Option, None, Some, append_assoc, append-nil, refl, sym, ◌∙◌, ap, subst, arith, length-append}
+use Rattle.std.proofs.lemmas.List.{drop_more, drop_all, take-append-drop, map-append}
+use Rattle.std.proofs.lemmas.List.Concat.{flat_map-append}
+use Rattle.std.proofs.lemmas.List.Splits.{length-slice_split}
+use Rattle.std.specs.Io.KnownBytes.{Appends}
+use Rattle.std.specs.List.{flat_map, onto_first, slice_split}
+use Rattle.std.specs.Prelude.{if◌then◌else◌}
+use Rattle.sketch_bloom.specs.State.{FilterState, all_inserted, inserted}
+use Rattle.sketches.specs.RawLines.{raw_lines, raw_lines_of_parts}
+use Rattle.sketches.specs.Reading.{AreWholeLines}
+use Rattle.sketches.specs.Unseen.{hashed, is_seen, is_written, item_of, unseen_lines, with_items, with_lines}
+use Rattle.sketches.specs.declared.selection.Part.{Part}
+
+abbrev is_feed : ℕ → Bool
+is_feed byte = eqb byte 10
+
+onto_joined : (x : ℕ) (us vs : List (List ℕ)) → 0 < length us → onto_first x (us ++ vs) ≡ onto_first x us ++ vs
+onto_joined x [] vs some = absurd (omega arith)
+onto_joined x (u ∷ us) vs some = refl
+
+-- the parts before a line feed, and those after it
+pub split_joined : (xs ys : List ℕ) → slice_split is_feed (xs ++ 10 ∷ ys) ≡ slice_split is_feed xs ++ slice_split is_feed ys
+split_joined [] ys = refl
+split_joined (x ∷ xs) ys =
+    elim (is_feed x) as (λ b. cond b ([] ∷ slice_split is_feed (xs ++ 10 ∷ ys)) (onto_first x (slice_split is_feed (xs ++ 10 ∷ ys))) ≡ cond b ([] ∷ slice_split is_feed xs) (onto_first x (slice_split is_feed xs)) ++ slice_split is_feed ys) [
+      | true ↦ ap (λ l. [] ∷ l) (split_joined xs ys)
+      | false ↦ ap (onto_first x) (split_joined xs ys) ∙ onto_joined x (slice_split is_feed xs) (slice_split is_feed ys) (omega (arith, length-slice_split is_feed xs))
+    ]
+
+abbrev with_feed : List ℕ → List ℕ
+with_feed x = x ++ 10 ∷ []
+
+raw_cons : (part : List ℕ) (parts : List (List ℕ)) → 0 < length parts → raw_lines_of_parts (part ∷ parts) ≡ with_feed part ∷ raw_lines_of_parts parts
+raw_cons part [] some = absurd (omega arith)
+raw_cons part (next ∷ parts) some = refl
+
+pub raw_joined : (us vs : List (List ℕ)) → 0 < length vs → raw_lines_of_parts (us ++ vs) ≡ map with_feed us ++ raw_lines_of_parts vs
+raw_joined [] vs some = refl
+raw_joined (u ∷ us) vs some = raw_cons u (us ++ vs) (omega (arith, length-append us vs)) ∙ ap (λ l. with_feed u ∷ l) (raw_joined us vs some)
+
+-- the lines before a line feed, and those after it
+pub raw_after_feed : (xs ys : List ℕ) → raw_lines (xs ++ 10 ∷ ys) ≡ map with_feed (slice_split is_feed xs) ++ raw_lines ys
+raw_after_feed xs ys = ap raw_lines_of_parts (split_joined xs ys) ∙ raw_joined (slice_split is_feed xs) (slice_split is_feed ys) (omega (arith, length-slice_split is_feed ys))
+
+-- bytes that end in a line feed
+ends : (x : ℕ) (xs : List ℕ) → get_or (x ∷ xs) (length (x ∷ xs) - 1) 0 ≡ 10 → x ∷ xs ≡ take (length (x ∷ xs) - 1) (x ∷ xs) ++ 10 ∷ []
+ends x xs last =
+    let all : List ℕ = x ∷ xs in
+    let n : ℕ = length all - 1 in
+    sym (take-append-drop n all)
+    ∙ ap (λ l. take n all ++ l) (drop_more all n 0 (omega arith) ∙ (ap (λ (y : ℕ). y ∷ drop (n + 1) all) last ∙ ap (λ (l : List ℕ). 10 ∷ l) (drop_all (n + 1) all (omega arith))))
+
+pub raw_both : (xs ys : List ℕ) → AreWholeLines xs → raw_lines (xs ++ ys) ≡ raw_lines xs ++ raw_lines ys
+raw_both [] ys whole = refl
+raw_both (x ∷ xs) ys whole =
+    let front : List ℕ = take (length (x ∷ xs) - 1) (x ∷ xs) in
+    let e : x ∷ xs ≡ front ++ 10 ∷ [] = ends x xs (whole (omega arith)) in
+    ap (λ l. raw_lines (l ++ ys)) e
+    ∙ (ap raw_lines (append_assoc front (10 ∷ []) ys)
+    ∙ (raw_after_feed front ys
+    ∙ ap (λ l. l ++ raw_lines ys) (sym (ap raw_lines e ∙ (raw_after_feed front [] ∙ append-nil (map with_feed (slice_split is_feed front)))))))
+
+-- ---- the filter, and what is written
+
+inserted_both : (filter : FilterState) (xs ys : List (List ℕ)) → all_inserted filter (xs ++ ys) ≡ all_inserted (all_inserted filter xs) ys
+inserted_both filter [] ys = refl
+inserted_both filter (x ∷ xs) ys = inserted_both (inserted filter x) xs ys
+
+pub items_both : (filter : FilterState) (xs ys : List (List ℕ)) → with_items filter (xs ++ ys) ≡ with_items (with_items filter xs) ys
+items_both filter xs ys = ap (all_inserted filter) (map-append hashed xs ys) ∙ inserted_both filter (map hashed xs) (map hashed ys)
+
+pub with_both : (part : Part) (filter : FilterState) (xs ys : List (List ℕ)) → with_lines part filter (xs ++ ys) ≡ with_lines part (with_lines part filter xs) ys
+with_both part filter xs ys = ap (with_items filter) (flat_map-append (item_of part) xs ys) ∙ items_both filter (flat_map (item_of part) xs) (flat_map (item_of part) ys)
+
+pub unseen_both : (repeated : Bool) (part : Part) (filter : FilterState) (xs ys : List (List ℕ)) → unseen_lines repeated part filter (xs ++ ys) ≡ unseen_lines repeated part filter xs ++ unseen_lines repeated part (with_lines part filter xs) ys
+unseen_both repeated part filter [] ys = refl
+unseen_both repeated part filter (raw ∷ xs) ys =
+    let mid : FilterState = with_items filter (item_of part raw) in
+    let first : List ℕ = if is_written repeated (is_seen filter (item_of part raw)) then raw else [] in
+    ap (λ l. first ++ l) (unseen_both repeated part mid xs ys ∙ ap (λ (s : FilterState). unseen_lines repeated part mid xs ++ unseen_lines repeated part s ys) (sym (items_both filter (item_of part raw) (flat_map (item_of part) xs))))
+    ∙ sym (append_assoc first (unseen_lines repeated part mid xs) (unseen_lines repeated part (with_lines part filter (raw ∷ xs)) ys))
+
+pub appends_none : (held : Option (List ℕ)) → Appends held held []
+appends_none None = tt
+appends_none (Some xs) = sym (append-nil xs)
+
+pub appends_both : (a b c : Option (List ℕ)) (xs ys : List ℕ) → Appends a b xs → Appends b c ys → Appends a c (xs ++ ys)
+appends_both None b c xs ys first second = tt
+appends_both (Some a) None c xs ys first second = absurd first
+appends_both (Some a) (Some b) None xs ys first second = second
+appends_both (Some a) (Some b) (Some c) xs ys first second = second ∙ (ap (λ l. l ++ ys) first ∙ append_assoc a xs ys)
+
+-- ---- the laws of a sink that writes unseen lines
+
+pub takes_nothing : (filter : FilterState) (part : Part) (repeated : Bool) (held : Option (List ℕ))
+    → (filter ≡ with_lines part filter []) × Appends held held (unseen_lines repeated part filter []) × (part ≡ part) × (repeated ≡ repeated)
+takes_nothing filter part repeated held = (refl, appends_none held, refl, refl)
+
+-- what the sink does with lines
+abbrev TakesUnseen : (repeated : Bool) (part : Part) (filter filter' : FilterState) (held holds : Option (List ℕ)) → List ℕ → (part' : Part) (repeated' : Bool) → Type 0
+TakesUnseen repeated part filter filter' held holds bytes part' repeated' =
+    (filter' ≡ with_lines part filter (raw_lines bytes)) × Appends held holds (unseen_lines repeated part filter (raw_lines bytes)) × (part' ≡ part) × (repeated' ≡ repeated)
+
+pub takes_lines : (xs ys : List ℕ) → AreWholeLines xs → (r : Bool) (p : Part) (r' : Bool) (p' : Part) (r'' : Bool) (p'' : Part) (a b c : FilterState) (held mid holds : Option (List ℕ))
+    → TakesUnseen r p a b held mid xs p' r' → TakesUnseen r' p' b c mid holds ys p'' r'' → TakesUnseen r p a c held holds (xs ++ ys) p'' r''
+takes_lines xs ys whole r p r' p' r'' p'' a b c held mid holds (filter, text, same_part, same_repeated) (filter', text', same_part', same_repeated') =
+    let both : raw_lines (xs ++ ys) ≡ raw_lines xs ++ raw_lines ys = raw_both xs ys whole in
+    let later : c ≡ with_lines p (with_lines p a (raw_lines xs)) (raw_lines ys) = filter' ∙ (ap (λ (q : Part). with_lines q b (raw_lines ys)) same_part ∙ ap (λ (s : FilterState). with_lines p s (raw_lines ys)) filter) in
+    let more : unseen_lines r' p' b (raw_lines ys) ≡ unseen_lines r p (with_lines p a (raw_lines xs)) (raw_lines ys) =
+    ap (λ (q : Bool). unseen_lines q p' b (raw_lines ys)) same_repeated ∙ (ap (λ (q : Part). unseen_lines r q b (raw_lines ys)) same_part ∙ ap (λ (s : FilterState). unseen_lines r p s (raw_lines ys)) filter) in (
+      later ∙ sym (ap (with_lines p a) both ∙ with_both p a (raw_lines xs) (raw_lines ys)),
+      subst (Appends held holds) (ap (λ l. unseen_lines r p a (raw_lines xs) ++ l) more ∙ sym (ap (unseen_lines r p a) both ∙ unseen_both r p a (raw_lines xs) (raw_lines ys)))
+          (appends_both held mid holds _ _ text text'),
+      same_part' ∙ same_part,
+      same_repeated' ∙ same_repeated,
+    )

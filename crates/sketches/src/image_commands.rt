@@ -1,0 +1,87 @@
+//! Runs the commands over images.
+use crate::files::open;
+use crate::image_file::ImageFile;
+use crate::image_files::ImageFiles;
+use crate::images::ImageFailure;
+use crate::keys::key_of;
+use crate::merge::{MergeOptions, merge};
+use crate::show::show;
+use crate::{ERROR, end_of_output, fail, fail_at, message_of, number_of};
+use clap::ArgMatches;
+use sketch_frequencies::{FrequentItemsImageOptions, TableKey};
+
+/// Runs `sketches merge`. Returns the status.
+pub fn run_merge(rt: &HostRuntime, matches: &ArgMatches<'_>) -> u8 {
+    let key = match key_of(rt, matches.get_str("key")) {
+        Ok(key) => key,
+        Err(fault) => return fail(rt, message_of(fault)),
+    };
+    let options = MergeOptions {
+        images: FrequentItemsImageOptions {
+            max_bytes: number_of(matches, "max-bytes"),
+            key,
+        },
+        rows: number_of(matches, "rows"),
+        header: !matches.get_flag("no-header"),
+    };
+    let names = matches.get_strs("images").unwrap_or(&[]);
+    let Some(mut image) = image_file(rt, matches) else {
+        return fail(rt, "--save must name a file");
+    };
+    let mut images = ImageFiles::new(rt, names);
+    let status = match merge(
+        rt.alloc(),
+        options,
+        &mut images,
+        &mut image,
+        &mut rt.stdout(),
+    ) {
+        Ok(()) => 0,
+        Err(failure) => end(rt, failure, images.current()),
+    };
+    if image.has_failed() { ERROR } else { status }
+}
+
+/// Runs `sketches show`. Returns the status.
+pub fn run_show(rt: &HostRuntime, matches: &ArgMatches<'_>) -> u8 {
+    let options = FrequentItemsImageOptions {
+        max_bytes: number_of(matches, "max-bytes"),
+        key: TableKey::Plain,
+    };
+    let name = matches.get_str("image").unwrap_or("-");
+    match show(rt.alloc(), &options, open(rt, name), &mut rt.stdout()) {
+        Ok(()) => 0,
+        Err(failure) => end(rt, failure, name),
+    }
+}
+
+/// Returns the file of the option `--save`, or `None` if it is standard output.
+pub fn image_file<'r, 'n>(
+    rt: &'r HostRuntime,
+    matches: &ArgMatches<'n>,
+) -> Option<ImageFile<'r, 'n>> {
+    match matches.get_str("save") {
+        Some("-") => None,
+        name => Some(ImageFile::new(rt, name)),
+    }
+}
+
+/// Prints why a run ended. Returns the status.
+fn end(rt: &HostRuntime, failure: ImageFailure, file: &str) -> u8 {
+    match failure {
+        ImageFailure::Memory => fail(rt, "no memory"),
+        ImageFailure::NoImage => fail(rt, "no image"),
+        ImageFailure::Read(error) => {
+            let _ = eprintln!(rt; "sketches: {file}: {error}");
+            ERROR
+        }
+        ImageFailure::TooLong => fail_at(rt, file, "the image is longer than --max-bytes"),
+        ImageFailure::Rejected(fault) => {
+            let _ = eprintln!(rt; "sketches: {file}: {}: {}", fault.name(), fault.text());
+            ERROR
+        }
+        ImageFailure::TrailingBytes => fail_at(rt, file, "bytes follow the image"),
+        ImageFailure::TooManyItems => fail_at(rt, file, "more than 2^64 - 1 items with this image"),
+        ImageFailure::Write(error) => end_of_output(rt, error),
+    }
+}

@@ -1,0 +1,98 @@
+//! The file that keeps the image of a run's sketch.
+ghost use Rattle.std.specs.Prelude.{◌≡◌, IfSome};
+
+use crate::save::{Keeper, SaveFailure, write_image};
+use sketch_frequencies::FrequentItemsSketch;
+use std::fs;
+use std::fs::File;
+use std::rt::Files;
+
+/// The file that keeps the image of a sketch, if it has a name. If it cannot be written, this is reported on standard error.
+#[derive(Drop)]
+pub struct ImageFile<'r, 'n> {
+    rt: &'r HostRuntime,
+    name: Option<&'n str>,
+    failed: bool,
+}
+
+impl<'r, 'n> ImageFile<'r, 'n> {
+    /// Creates the file of this name, or one that keeps nothing. It is not opened yet.
+    pub fn new(rt: &'r HostRuntime, name: Option<&'n str>) -> Self {
+        ImageFile {
+            rt,
+            name,
+            failed: false,
+        }
+    }
+
+    /// Returns whether the image could not be written.
+    pub fn has_failed(&self) -> bool {
+        self.failed
+    }
+}
+
+impl<'r, 'n> Keeper for ImageFile<'r, 'n> {
+    fn keep(&mut self, sketch: &FrequentItemsSketch<String>) {
+        let Some(name) = self.name else {
+            return;
+        };
+        if let Err(failure) = save(self.rt, sketch, name) {
+            self.failed = true;
+            report(self.rt, name, failure);
+        }
+    }
+}
+
+/// Writes an image of the sketch to the file of a name.
+///
+/// A regular file is written beside, under the name with `.tmp` after it, and renamed. So after an error the file is as it was.
+fn save(
+    rt: &HostRuntime,
+    sketch: &FrequentItemsSketch<String>,
+    name: &str,
+) -> Result<(), SaveFailure> {
+    if is_special(rt, name) {
+        let mut file = File::options().write(true).open(rt, name)?;
+        return write_image(sketch, &mut file);
+    }
+    let beside = format!(in rt.alloc(); "{name}.tmp")?;
+    let file = File::create(rt, beside.as_str())?;
+    let saved = fill(rt, sketch, file, beside.as_str(), name);
+    if saved.is_err() {
+        let _ = fs::remove_file(rt, beside.as_str());
+    }
+    saved
+}
+
+/// Returns whether there is something of a name that is not a regular file, such as a device.
+fn is_special(rt: &HostRuntime, name: &str) -> bool {
+    match rt.metadata(name) {
+        Ok(metadata) => !metadata.is_file(),
+        Err(_) => false,
+    }
+}
+
+/// Writes an image of the sketch to a file, and renames it.
+fn fill(
+    rt: &HostRuntime,
+    sketch: &FrequentItemsSketch<String>,
+    mut file: File,
+    from: &str,
+    to: &str,
+) -> Result<(), SaveFailure> {
+    write_image(sketch, &mut file)?;
+    file.sync_all()?;
+    fs::rename(rt, from, to)?;
+    Ok(())
+}
+
+/// Reports that the image could not be written.
+fn report(rt: &HostRuntime, name: &str, failure: SaveFailure) {
+    let _ = match failure {
+        SaveFailure::Memory => eprintln!(rt; "sketches: {name}: no memory"),
+        SaveFailure::ItemTooLong => eprintln!(rt;
+            "sketches: {name}: an item has 2^32 bytes or more"
+        ),
+        SaveFailure::Write(error) => eprintln!(rt; "sketches: {name}: {error}"),
+    };
+}

@@ -1,0 +1,110 @@
+//! Merges of images.
+ghost use Rattle.std.specs.Prelude.{◌≡◌, ◌⊎◌, ◌+◌, IfErr, IfOk, IfSome, OnOk};
+ghost use Rattle.std.specs.String.{string_eq};
+ghost use Rattle.sketch_frequencies.specs.History.FrequentHistory.{Merge};
+ghost use Rattle.sketch_frequencies.specs.Stands.{ExtendsBoth, ExtendsBothBudgets};
+ghost use Rattle.sketch_frequencies.specs.State.{IsState};
+ghost use Rattle.sketch_frequencies.specs.Steps.{JoinsEqual};
+ghost use Rattle.sketches.specs.ImageFailures.{EndsAdding, EndsMerge, IsWriteFailure};
+ghost use Rattle.sketches.specs.Images.{Merges, WritesMerge};
+
+use crate::images::{ImageFailure, Images, read_image};
+use crate::report::report;
+use crate::save::Keeper;
+use sketch_base::Fault;
+use sketch_frequencies::{FrequentItemsImageOptions, FrequentItemsSketch};
+use std::alloc::Global;
+use std::io::Write;
+
+/// How images are merged and printed.
+#[derive(Clone, Copy)]
+pub struct MergeOptions {
+    /// The maximum number of bytes of an image, and of its table and strings, and the key under which tables hash.
+    pub images: FrequentItemsImageOptions,
+    /// The maximum number of rows.
+    pub rows: usize,
+    /// Whether the first line shows the error and the number of all items.
+    pub header: bool,
+}
+
+/// Writes a report on the items of all images. The merged sketch is kept before.
+///
+/// The report is written as a whole after all images are read.
+///
+/// # Errors
+///
+/// Returns those of [`merge_images`]. The writer is not called then. Returns `Write` if it fails.
+pub fn merge<I: Images, K: Keeper, W: Write>(
+    alloc: Global,
+    options: MergeOptions,
+    images: &mut I,
+    keeper: &mut K,
+    writer: &mut W,
+) -> Result<(), ImageFailure>
+    ensures written { OnOk result (IfSome (I.images images.old)
+        (λ all. WritesMerge options all (W.contents writer.old) (W.contents writer.new))) }
+    ensures kept { OnOk result (IfSome (I.images images.old)
+        (λ all. IfSome (K.kept keeper.new) (Merges options.images.max_bytes all))) }
+    ensures err { IfErr result (λ failure. IfSome (I.images images.old) (λ all. EndsMerge options.images.max_bytes all failure)) }
+    ensures unwritten { IfErr result (λ failure. IsWriteFailure failure ⊎ (writer.new ≡ writer.old)) }
+{
+    let sketch = merge_images(alloc, &options.images, images)?;
+    keeper.keep(&sketch);
+    let Ok(text) = report(alloc, &sketch, options.header, options.rows) else {
+        return Err(ImageFailure::Memory);
+    };
+    match writer.write_all(text.as_bytes()) {
+        Ok(()) => Ok(()),
+        Err(error) => Err(ImageFailure::Write(error)),
+    }
+}
+
+/// Returns the sketch of the first image, after those of the others were merged into it in order.
+///
+/// It keeps the maximum size of the first image. Two sketches are in memory at a time.
+///
+/// # Errors
+///
+/// Returns `NoImage` if there is none, and those of [`read_image`] for the first image that has one. Returns `TooManyItems` if the
+/// total of all images exceeds 2^64 - 1, and `Memory` if an allocation fails.
+fn merge_images<I: Images>(
+    alloc: Global,
+    options: &FrequentItemsImageOptions,
+    images: &mut I,
+) -> Result<FrequentItemsSketch<String>, ImageFailure>
+    ensures merged { IfOk result (λ sketch. IfSome (I.images images.old) (λ all. Merges options.now.max_bytes all sketch)) }
+    ensures err { IfErr result (λ failure. IfSome (I.images images.old) (λ all. EndsMerge options.now.max_bytes all failure)) }
+{
+    let Some(first) = images.next() else {
+        return Err(ImageFailure::NoImage);
+    };
+    let mut sketch = read_image(alloc, options, first)?;
+    'each: for _ in 0..u64::MAX {
+        let Some(opened) = images.next() else {
+            return Ok(sketch);
+        };
+        let other = read_image(alloc, options, opened)?;
+        add(&mut sketch, &other)?;
+    }
+    Err(ImageFailure::Memory)
+}
+
+/// Merges another sketch into a sketch.
+fn add(
+    sketch: &mut FrequentItemsSketch<String>,
+    other: &FrequentItemsSketch<String>,
+) -> Result<(), ImageFailure>
+    ensures state { IsState string_eq sketch.new }
+    ensures join { OnOk result (JoinsEqual string_eq sketch.old other.now sketch.new) }
+    ensures stands { OnOk result (ExtendsBoth string_eq sketch.old other.now sketch.new Merge) }
+    ensures budget { OnOk result (ExtendsBothBudgets string_eq sketch.old other.now sketch.new Merge) }
+    ensures err { IfErr result (EndsAdding (sketch.old.total + other.now.total)) }
+{
+    let Err(error) = sketch.merge(other) else {
+        return Ok(());
+    };
+    match error.fault() {
+        Fault::NoMemory => Err(ImageFailure::Memory),
+        _ => Err(ImageFailure::TooManyItems),
+    }
+}

@@ -1,0 +1,114 @@
+//! Reads the lines of one input.
+ghost use Rattle.std.specs.Prelude.{◌≡◌, ◌⊎◌, ◌↔◌, ◌+◌, ◌<◌, ◌≤◌, length, take, drop, IfErr, IfOk, IsErrOf, OnOk};
+ghost use Rattle.sketches.specs.Reading.{FailsInput, FailsWithin, Fills, IsInOneLine, TakesInput, TakesLines};
+
+use crate::failure::Failure;
+use crate::line_sink::LineSink;
+use sketch_base::finished_lines;
+use std::alloc::Global;
+use std::io;
+use std::io::{ErrorKind, Read};
+
+/// Passes the lines of an input to a sink. Returns the error of a read, if any.
+///
+/// After such an error, the lines that were read whole are taken. The buffer grows if a line does not fit, up to `limit`
+/// bytes. A read that a signal interrupted is retried.
+///
+/// # Errors
+///
+/// Returns `LineTooLong` if a line has at least `limit` bytes before its line feed, `Memory` if the buffer cannot grow, and
+/// the errors of the sink.
+pub fn read_lines<R: Read, O, S: LineSink<O>>(
+    alloc: Global,
+    sink: &mut S,
+    output: &mut O,
+    reader: &mut R,
+    buffer: &mut Vec<u8>,
+    limit: usize,
+) -> Result<Option<io::Error>, Failure>
+    ensures taken { IfOk result (λ failure.
+        TakesInput S.takes (R.remaining reader.old) failure (sink.old, output.old) (sink.new, output.new)) }
+    ensures failed { IfErr result (FailsInput S.fails limit (R.remaining reader.old) (sink.old, output.old)) }
+{
+    let mut held = 0;
+    'reads: for _ in 0..u64::MAX {
+        make_room(buffer, held, limit)?;
+        let more = match fill(reader, buffer, held) {
+            Ok(more) => more,
+            Err(e) => return Ok(Some(e)),
+        };
+        let Some(count) = more else {
+            continue;
+        };
+        if count == 0 {
+            sink.take(alloc, output, &buffer[..held])?;
+            return Ok(None);
+        }
+        held = take_lines(alloc, sink, output, buffer, held, held + count)?;
+    }
+    Ok(Some(io::Error::from(ErrorKind::Other)))
+}
+
+/// Doubles the buffer if it is full, up to `limit` bytes.
+///
+/// # Errors
+///
+/// Returns `LineTooLong` if the buffer is full and has `limit` bytes or more, else `Memory` if it cannot grow.
+fn make_room(buffer: &mut Vec<u8>, held: usize, limit: usize) -> Result<(), Failure>
+    requires { held ≤ length buffer.old.items }
+    ensures room { OnOk result (held < length buffer.new.items) }
+    ensures kept { OnOk result (take held buffer.new.items ≡ take held buffer.old.items) }
+    ensures too_long { IsErrOf result Failure.LineTooLong ↔ ((held ≡ length buffer.old.items) × (limit ≤ held)) }
+    ensures failed { IfErr result (λ failure. (failure ≡ Failure.Memory) ⊎ (failure ≡ Failure.LineTooLong)) }
+{
+    let len = buffer.len();
+    if held < len {
+        return Ok(());
+    }
+    if limit <= len {
+        return Err(Failure::LineTooLong);
+    }
+    let wanted = len.saturating_mul(2).saturating_add(1).min(limit);
+    buffer.resize(wanted, 0)?;
+    Ok(())
+}
+
+/// Reads into the buffer, after the bytes that it holds. Returns `None` if a signal interrupted the read.
+fn fill<R: Read>(reader: &mut R, buffer: &mut Vec<u8>, held: usize) -> io::Result<Option<usize>>
+    requires { held < length buffer.old.items }
+    ensures { Fills (R.remaining reader.old) (R.remaining reader.new) held buffer.old.items buffer.new.items result }
+{
+    match reader.read(&mut buffer[held..]) {
+        Ok(count) => Ok(Some(count)),
+        Err(e) if e.kind() == ErrorKind::Interrupted => Ok(None),
+        Err(e) => Err(e),
+    }
+}
+
+/// Passes the whole lines in the first bytes of the buffer to a sink, and moves the bytes after them to its front. Returns the
+/// number of those.
+///
+/// The first `held` bytes have no line feed.
+fn take_lines<O, S: LineSink<O>>(
+    alloc: Global,
+    sink: &mut S,
+    output: &mut O,
+    buffer: &mut Vec<u8>,
+    held: usize,
+    end: usize,
+) -> Result<usize, Failure>
+    requires held { held ≤ end }
+    requires end { end ≤ length buffer.old.items }
+    requires line { IsInOneLine (take held buffer.old.items) }
+    ensures taken { IfOk result (λ kept. TakesLines S.takes (sink.old, output.old) (sink.new, output.new)
+        (take end buffer.old.items) buffer.new.items kept) }
+    ensures failed { IfErr result (λ failure. FailsWithin S.fails (sink.old, output.old) (take end buffer.old.items) failure) }
+{
+    if finished_lines(&buffer[held..end]) == 0 {
+        return Ok(end);
+    }
+    let whole = finished_lines(&buffer[..end]);
+    sink.take(alloc, output, &buffer[..whole])?;
+    buffer.copy_within(whole..end, 0);
+    Ok(end - whole)
+}
