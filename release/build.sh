@@ -1,5 +1,5 @@
 #!/usr/bin/env bash
-# Builds the packages of the last commit into a folder: release/build.sh OUT [ARCHIVE PROGRAM]. OUT gets
+# Builds the packages of the last commit into a folder: release/build.sh OUT [ARCHIVE PROGRAM SKETCHES]. OUT gets
 #
 #     datasketches-VERSION-linux-x86_64.tar.gz    C library and program, for any folder
 #     libdatasketches0, libdatasketches-dev, python3-datasketches-rattle, datasketches-tools, datasketches-doc    Debian packages
@@ -7,15 +7,16 @@
 #     datasketches_rattle-VERSION-..whl           wheel for the Python of `PYTHON`, by default /usr/bin/python3
 #     SHA256SUMS
 #
-# ARCHIVE is what `rt lib` builds from `crates/datasketches_c`, PROGRAM what `rt run` builds from `crates/datasketches_cli`.
-# Without them the crates are proved and built first, if they are not built yet. SOURCE_DATE_EPOCH is the time of all files, by
-# default that of the commit. The same commit, time and tools give the same bytes, in any folder.
+# ARCHIVE is what `rt lib` builds from `crates/datasketches_c`, PROGRAM what `rt run` builds from `crates/datasketches_cli`, and
+# SKETCHES what it builds from `crates/sketches`. Without them the crates are proved and built first, if they are not built yet.
+# SOURCE_DATE_EPOCH is the time of all files, by default that of the commit. The same commit, time and tools give the same bytes, in
+# any folder.
 set -euo pipefail
 umask 022
 top="$(cd "$(dirname "$0")/.." && pwd)"
 out="${1:?the folder to build into}"
-[ $# -eq 1 ] || [ $# -eq 3 ] || {
-    echo "usage: release/build.sh OUT [ARCHIVE PROGRAM]" >&2
+[ $# -eq 1 ] || [ $# -eq 4 ] || {
+    echo "usage: release/build.sh OUT [ARCHIVE PROGRAM SKETCHES]" >&2
     exit 2
 }
 export LC_ALL=C.UTF-8 TZ=UTC PYTHON="${PYTHON:-/usr/bin/python3}" PYTHONDONTWRITEBYTECODE=1
@@ -34,15 +35,16 @@ trap 'rm -rf "$work"' EXIT
 git clone -q "$top" "$work/source"
 source="$work/source"
 version="$(cat "$source/VERSION")"
-archive="${2:-}" program="${3:-}"
+archive="${2:-}" program="${3:-}" sketches="${4:-}"
 if [ -z "$archive" ]; then
     [ -z "$(git -C "$top" status --porcelain -- crates crates.txt)" ] || {
         echo "crates/ or crates.txt differ from the last commit: commit them first" >&2
         exit 1
     }
     log="$out/build.log"
-    echo "proving and building the crates: about 20 minutes on four cores if nothing is built yet (all output: $log)"
-    (cd "$top/crates/datasketches_c" && rt lib && cd ../datasketches_cli && rt run <stdin) 2>&1 | tee "$log" |
+    echo "proving and building the crates: about half an hour on four cores if nothing is built yet (all output: $log)"
+    (cd "$top/crates/datasketches_c" && rt lib && cd ../datasketches_cli && rt run <stdin &&
+        cd ../sketches && rt run -- top <stdin) 2>&1 | tee "$log" |
         awk '/^(so far|crate )/ { print "  " $0; fflush() }' || {
         tail -n 20 "$log" >&2
         exit 1
@@ -50,6 +52,7 @@ if [ -z "$archive" ]; then
     rm "$log"
     archive="$top/crates/datasketches_c/out/libdatasketches_c.a"
     program="$top/crates/datasketches_cli/out/datasketches_cli"
+    sketches="$top/crates/sketches/out/sketches"
 fi
 
 # What is built, without symbols that only debuggers read.
@@ -58,13 +61,20 @@ bash "$source/bindings/python/build.sh" "$work/python" "$archive"
 make -s -C "$source/bindings/postgresql" PG_CONFIG="$pg_config" ARCHIVE="$work/c/libdatasketches.a" \
     DESTDIR="$work/postgresql" COPT=-g0 install
 install -m 755 "$program" "$work/datasketches_cli"
+install -m 755 "$sketches" "$work/sketches"
 unneeded=(--remove-section=.comment --remove-section=.note)
 strip --strip-debug --enable-deterministic-archives "${unneeded[@]}" "$work/c/libdatasketches.a"
-strip --strip-unneeded "${unneeded[@]}" "$work/c/libdatasketches.so.0" "$work/datasketches_cli" \
+strip --strip-unneeded "${unneeded[@]}" "$work/c/libdatasketches.so.0" "$work/datasketches_cli" "$work/sketches" \
     "$work"/python/datasketches_rattle/_sketches*.so "$work/postgresql$("$pg_config" --pkglibdir)/sketches_rattle.so"
 
-# The licence of the toolchain's library in the program.
-install -m 644 "$(dirname "$(rt doc)")/rattle/hex/LICENSE-MIT" "$work/LICENSE.hex"
+# The man page and the completions of `sketches`.
+mkdir "$work/manual"
+"$PYTHON" "$source/release/manual.py" "$work/sketches" "$source/crates/sketches/README.md" "$work/manual"
+
+# The licences of the toolchain's libraries in the programs.
+for library in hex clap; do
+    install -m 644 "$(dirname "$(rt doc)")/rattle/$library/LICENSE-MIT" "$work/LICENSE.$library"
+done
 
 # The tarball.
 name="datasketches-$version-linux-x86_64"

@@ -37,8 +37,13 @@ page bindings/c/README.md dev/usr/share/doc/libdatasketches-dev/README.md
 install -D -m 644 "$source/bindings/c/example.c" dev/usr/share/doc/libdatasketches-dev/examples/example.c
 
 install -D -m 755 "$work/datasketches_cli" tools/usr/bin/datasketches_cli
+install -D -m 755 "$work/sketches" tools/usr/bin/sketches
 install -D -m 644 "$source/release/datasketches_cli.1" tools/usr/share/man/man1/datasketches_cli.1
-gzip -9n tools/usr/share/man/man1/datasketches_cli.1
+install -D -m 644 "$work/manual/sketches.1" tools/usr/share/man/man1/sketches.1
+gzip -9n tools/usr/share/man/man1/*.1
+install -D -m 644 "$work/manual/sketches.bash" tools/usr/share/bash-completion/completions/sketches
+install -D -m 644 "$work/manual/_sketches" tools/usr/share/zsh/vendor-completions/_sketches
+install -D -m 644 "$work/manual/sketches.fish" tools/usr/share/fish/vendor_completions.d/sketches.fish
 mkdir tools/DEBIAN
 
 package=python/usr/lib/python3/dist-packages
@@ -61,6 +66,17 @@ mkdir -p doc/DEBIAN "$pages"
 "$PYTHON" "$source/release/pages.py" tree "$source" "$pages"
 ln -sf copyright "$pages/LICENSE"
 
+# Prints the part of a file `copyright` for the toolchain's libraries in a program, which have one licence.
+licence_of() {
+    local program="$1" files
+    shift
+    files=("${@/#/$work/LICENSE.}")
+    printf '\nFiles: usr/bin/%s\nComment: Of the toolchain: %s.\n' "$program" "$*"
+    sed -sn 's/^Copyright (c) /Copyright: /p' "${files[@]}" | sed '2,$s/^Copyright: / /'
+    printf 'License: Expat\n'
+    sed -n '/^Permission/,$ { s/^$/./; s/^/ /; p }' "${files[0]}"
+}
+
 pack() {
     local folder="$1" name="$2"
     local doc="$folder/usr/share/doc/$name"
@@ -69,10 +85,8 @@ pack() {
     cp "$source/NOTICE" "$doc/NOTICE"
     if [ "$folder" = tools ]; then
         {
-            printf '\nFiles: usr/bin/datasketches_cli\nComment: The library hex of the toolchain.\n'
-            sed -n 's/^Copyright (c) /Copyright: /p' "$work/LICENSE.hex" | sed '2,$s/^Copyright: / /'
-            printf 'License: Expat\n'
-            sed -n '/^Permission/,$ { s/^$/./; s/^/ /; p }' "$work/LICENSE.hex"
+            licence_of datasketches_cli hex
+            licence_of sketches clap hex
         } >>"$doc/copyright"
     fi
     gzip -9n <debian/changelog >"$doc/changelog.gz"

@@ -2,10 +2,10 @@
 runs the first examples of the pages, and removes it again. It needs root, for `debootstrap` and `chroot`. A server of PostgreSQL
 runs in that Debian on a unix socket alone, and is stopped.
 
-    python3 release/tests/run.py [--after 'N passed, M failed'] PROGRAM ARCHIVE
+    python3 release/tests/run.py [--after 'N passed, M failed'] PROGRAM ARCHIVE SKETCHES
 
-prints the failed tests and then 'N passed, M failed', counted on from the numbers after `--after`. `DEBIAN_MIRROR` names the
-mirror, by default http://deb.debian.org/debian.
+PROGRAM, ARCHIVE and SKETCHES are those of `release/build.sh`. It prints the failed tests and then 'N passed, M failed', counted on
+from the numbers after `--after`. `DEBIAN_MIRROR` names the mirror, by default http://deb.debian.org/debian.
 """
 import filecmp
 import glob
@@ -23,6 +23,7 @@ sys.path[:0] = [f"{TOP}/bindings/postgresql/tests", f"{TOP}/tests/docs"]
 
 import links  # noqa: E402
 import page  # noqa: E402
+import sketches  # noqa: E402
 
 MIRROR = os.environ.get("DEBIAN_MIRROR", "http://deb.debian.org/debian")
 TOOLS = "gcc libc6-dev pkgconf cmake make"
@@ -77,13 +78,13 @@ class Tests:
         got = self.run(script, **settings)
         self.check(name, got is not None and got.endswith(wanted) and wanted != "", got)
 
-    def build_twice(self, program, archive):
-        """Builds from two clones in two folders. Returns the folder of the first packages."""
+    def build_twice(self, *programs):
+        """Builds from two clones in two folders, with what `build.sh` takes. Returns the folder of the first packages."""
         outs = []
         for name in ["one", "the other/clone"]:
             clone, out = f"{self.work}/{name}", f"{self.work}/{name} built"
             subprocess.run(["git", "clone", "-q", TOP, clone], check=True)
-            subprocess.run(["bash", f"{clone}/release/build.sh", out, archive, program], check=True,
+            subprocess.run(["bash", f"{clone}/release/build.sh", out, *programs], check=True,
                            stdout=subprocess.DEVNULL if outs else None)
             outs.append(out)
         names = sorted(os.listdir(outs[0]))
@@ -135,8 +136,9 @@ class Tests:
         self.nothing_left(f"after {names[0]}")
 
     def nothing_left(self, name):
-        left = self.run("find / -xdev \\( -name '*datasketches*' -o -name '*sketches[_-]rattle*' \\) -not -path '/release*' "
-                        "-not -path '/proc/*'; ldconfig -p | "
+        names = ["*datasketches*", "*sketches[_-]rattle*", "sketches", "sketches.*", "_sketches"]
+        found = " -o ".join(f"-name '{it}'" for it in names)
+        left = self.run(f"find / -xdev \\( {found} \\) -not -path '/release*' -not -path '/proc/*'; ldconfig -p | "
                         "grep datasketches || true")
         self.check(f"nothing is left {name}", left == "", left)
 
@@ -145,6 +147,7 @@ class Tests:
         self.prints("README.md: the program", blocks[0], ROWS)
         page = self.run("zcat /usr/share/man/man1/datasketches_cli.1.gz")
         self.check("the example of the manual", page is not None and ROWS in page)
+        sketches.check(self)
         self.removed("datasketches-tools")
 
     def libraries(self):
@@ -229,14 +232,14 @@ def main():
     if words[0] == "--after":
         passed, failed = [int(number) for number in re.fullmatch(r"(\d+) passed, (\d+) failed", words[1]).groups()]
         words = words[2:]
-    program, archive = [os.path.abspath(word) for word in words]
+    program, archive, packed = [os.path.abspath(word) for word in words]
     if os.geteuid() != 0:
         print(f"failed: the packages are tested as root alone\n{passed} passed, {failed + 1} failed")
         sys.exit(1)
     with tempfile.TemporaryDirectory() as work:
         tests = Tests(work, passed, failed)
         making = tests.start_root()
-        built = tests.build_twice(program, archive)
+        built = tests.build_twice(archive, program, packed)
         tests.compiled(built)
         tests.pages(built)
         made = making.wait(timeout=600)
