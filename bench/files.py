@@ -343,7 +343,7 @@ def plot(results, about):
 def main():
     write_files()
     about = f"{datetime.date.today()}, {processor()}, {len(os.sched_getaffinity(0))} processors"
-    print(f"{about}. The least and the median of {RUNS} runs by the clock, and the median of user time, in milliseconds.\n"
+    print(f"{about}. Times are in milliseconds: the least and the median of {RUNS} runs by the clock, and the median of user time.\n"
           f"The ratio is the time of the tool over that of the job's first. The peak is that of the largest process, in MB.\n\n"
           "| job | tool | least | median | user | ns | ratio | peak |\n|---|---|---|---|---|---|---|---|", flush=True)
     results = []

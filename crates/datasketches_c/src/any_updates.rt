@@ -46,11 +46,12 @@ fn update_given(alloc: Global, handle: &mut SketchHandle, items: GivenItems<'_>)
 }
 
 /// Adds 1 to the weight of each item, in order. The sketch is a Count-Min sketch or one of frequent items, which takes items of its
-/// own type alone.
+/// own type alone. Null rows are not counted.
 ///
 /// Returns the first of these errors, and then changes nothing:
 ///
-/// - `BAD_ARGUMENT` if the kind of the items is not known, or the bitmap has fewer bits than there are rows, or words or lines have one.
+/// - `BAD_ARGUMENT` if the kind of the items is not known, the bitmap has fewer bits than there are rows, or words or lines have a
+///   bitmap.
 /// - `BadOffsets` if there is no offset, an offset is below the one before it, or an offset exceeds the number of bytes.
 /// - `InvalidUtf8` if a string is not UTF-8.
 /// - `NO_SKETCH` if the handle has no sketch, and `WRONG_KIND` if its sketch is a filter, shared, or one of frequent items of another
@@ -125,20 +126,23 @@ fn update_weighted_rows(
 }
 
 /// Adds a weight to each item's, in order. The sketch is a Count-Min sketch with weights in `u64` or one of frequent items, which
-/// takes items of its own type alone. A weight of 0 changes nothing in a sketch of frequent items.
+/// takes items of its own type alone. A weight of 0 changes nothing in a sketch of frequent items. There is a weight for each row.
+/// Those of null rows are not read.
 ///
 /// Returns the first of these errors, and then changes nothing:
 ///
-/// - `BAD_ARGUMENT` if the kind of the items is not known, or the bitmap has fewer bits than there are rows, or words or lines have one.
+/// - `BAD_ARGUMENT` if the kind of the items is not known, the bitmap has fewer bits than there are rows, or words or lines have a
+///   bitmap.
 /// - `BadOffsets` if there is no offset, an offset is below the one before it, or an offset exceeds the number of bytes.
 /// - `InvalidUtf8` if a string is not UTF-8.
-/// - `NO_ROOM` if the number of items is not the length of `weights`.
+/// - `NO_ROOM` if the number of rows is not the length of `weights`.
+/// - `NoMemory` if the items have a bitmap, and the copy of the weights of valid rows cannot be allocated.
 /// - `NO_SKETCH` if the handle has no sketch, and `WRONG_KIND` if its sketch is of another kind, shared, or one of frequent items of
 ///   another type.
 /// - `WeightOverflow` if the total would exceed 2^64 - 1 with all weights.
 ///
-/// Returns `NoMemory` for the first item for which an allocation fails. Then the items before it are added, and no others. Only a
-/// sketch of frequent items allocates: for a string that is not tracked, and for its table.
+/// Returns `NoMemory` for the first item for which an allocation fails. Then the items before it are added, and no others. For
+/// items only a sketch of frequent items allocates: for a string that is not tracked, and for its table.
 #[unsafe(no_mangle)]
 pub extern "C" fn ds_update_all_weighted(
     alloc: Global,
@@ -193,14 +197,15 @@ fn bounds_given(
 }
 
 /// Writes the bounds and the estimate of each item's weight in a sketch of frequent items, which takes items of its own type alone.
-/// Does not allocate.
+/// There is a place for each row. The bounds of a null row are 0. Does not allocate.
 ///
 /// Returns the first of these errors, and then changes nothing:
 ///
-/// - `BAD_ARGUMENT` if the kind of the items is not known, or the bitmap has fewer bits than there are rows, or words or lines have one.
+/// - `BAD_ARGUMENT` if the kind of the items is not known, the bitmap has fewer bits than there are rows, or words or lines have a
+///   bitmap.
 /// - `BadOffsets` if there is no offset, an offset is below the one before it, or an offset exceeds the number of bytes.
 /// - `InvalidUtf8` if a string is not UTF-8.
-/// - `NO_ROOM` if the number of items is not the length of `bounds`.
+/// - `NO_ROOM` if the number of rows is not the length of `bounds`.
 /// - `NO_SKETCH` if the handle has no sketch, and `WRONG_KIND` if its sketch is not one of frequent items of this type.
 #[unsafe(no_mangle)]
 pub extern "C" fn ds_frequent_items_bounds_all(

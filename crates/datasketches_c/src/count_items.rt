@@ -82,14 +82,17 @@ where
     on_weights!(alloc, items, weights, kept => update_weighted(alloc, handle, items, kept))
 }
 
-/// Adds a weight to each item's, in order. The total grows by each weight's distance from 0.
+/// Adds a weight to each item's, in order. The total grows by each weight's distance from 0. There is a weight for each row. Those
+/// of null rows are not read.
 ///
 /// Returns the first of these errors, and then changes nothing:
 ///
-/// - `BAD_ARGUMENT` if the kind of the items is not known, or the bitmap has fewer bits than there are rows, or words or lines have one.
+/// - `BAD_ARGUMENT` if the kind of the items is not known, the bitmap has fewer bits than there are rows, or words or lines have a
+///   bitmap.
 /// - `BadOffsets` if there is no offset, an offset is below the one before it, or an offset exceeds the number of bytes.
 /// - `InvalidUtf8` if a string is not UTF-8.
-/// - `NO_ROOM` if the number of items is not the length of `weights`.
+/// - `NO_ROOM` if the number of rows is not the length of `weights`.
+/// - `NoMemory` if the items have a bitmap, and the copy of the weights of valid rows cannot be allocated.
 /// - `NO_SKETCH` if the handle has no sketch, and `WRONG_KIND` if its sketch is of another kind or shared.
 /// - `WeightOverflow` if the total would exceed 2^63 - 1 with all weights.
 #[unsafe(no_mangle)]
@@ -162,14 +165,15 @@ where
     })
 }
 
-/// Writes the estimate of each item's weight: the minimum of its cells.
+/// Writes the estimate of each item's weight: the minimum of its cells. There is an estimate for each row. That of a null row is 0.
 ///
 /// Returns the first of these errors, and then changes nothing:
 ///
-/// - `BAD_ARGUMENT` if the kind of the items is not known, or the bitmap has fewer bits than there are rows, or words or lines have one.
+/// - `BAD_ARGUMENT` if the kind of the items is not known, the bitmap has fewer bits than there are rows, or words or lines have a
+///   bitmap.
 /// - `BadOffsets` if there is no offset, an offset is below the one before it, or an offset exceeds the number of bytes.
 /// - `InvalidUtf8` if a string is not UTF-8.
-/// - `NO_ROOM` if the number of items is not the length of `estimates`.
+/// - `NO_ROOM` if the number of rows is not the length of `estimates`.
 /// - `NO_SKETCH` if the handle has no sketch, and `WRONG_KIND` if its sketch is of another kind.
 #[unsafe(no_mangle)]
 pub extern "C" fn ds_count_min_u64_estimate_all(
@@ -188,14 +192,15 @@ pub extern "C" fn ds_count_min_u64_estimate_all(
     on_given!(items, given => estimate_all::<u64>(alloc, handle, given, estimates))
 }
 
-/// Writes the estimate of each item's weight: the minimum of its cells.
+/// Writes the estimate of each item's weight: the minimum of its cells. There is an estimate for each row. That of a null row is 0.
 ///
 /// Returns the first of these errors, and then changes nothing:
 ///
-/// - `BAD_ARGUMENT` if the kind of the items is not known, or the bitmap has fewer bits than there are rows, or words or lines have one.
+/// - `BAD_ARGUMENT` if the kind of the items is not known, the bitmap has fewer bits than there are rows, or words or lines have a
+///   bitmap.
 /// - `BadOffsets` if there is no offset, an offset is below the one before it, or an offset exceeds the number of bytes.
 /// - `InvalidUtf8` if a string is not UTF-8.
-/// - `NO_ROOM` if the number of items is not the length of `estimates`.
+/// - `NO_ROOM` if the number of rows is not the length of `estimates`.
 /// - `NO_SKETCH` if the handle has no sketch, and `WRONG_KIND` if its sketch is of another kind.
 #[unsafe(no_mangle)]
 pub extern "C" fn ds_count_min_i64_estimate_all(

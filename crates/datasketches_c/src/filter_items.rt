@@ -37,11 +37,12 @@ fn insert_given(alloc: Global, handle: &mut SketchHandle, items: GivenItems<'_>)
     })
 }
 
-/// Inserts many items, as one after another, and faster.
+/// Inserts many items, as one after another, and faster. Null rows are not inserted.
 ///
 /// Returns the first of these errors, and then changes nothing:
 ///
-/// - `BAD_ARGUMENT` if the kind of the items is not known, or the bitmap has fewer bits than there are rows, or words or lines have one.
+/// - `BAD_ARGUMENT` if the kind of the items is not known, the bitmap has fewer bits than there are rows, or words or lines have a
+///   bitmap.
 /// - `BadOffsets` if there is no offset, an offset is below the one before it, or an offset exceeds the number of bytes.
 /// - `InvalidUtf8` if a string is not UTF-8.
 /// - `NO_SKETCH` if the handle has no sketch, and `WRONG_KIND` if its sketch is of another kind or shared.
@@ -100,14 +101,15 @@ fn contains_given(
     })
 }
 
-/// Writes for each of many items whether the filter contains it.
+/// Writes for each of many items whether the filter contains it. There is a result for each row. That of a null row is no.
 ///
 /// Returns the first of these errors, and then changes nothing:
 ///
-/// - `BAD_ARGUMENT` if the kind of the items is not known, or the bitmap has fewer bits than there are rows, or words or lines have one.
+/// - `BAD_ARGUMENT` if the kind of the items is not known, the bitmap has fewer bits than there are rows, or words or lines have a
+///   bitmap.
 /// - `BadOffsets` if there is no offset, an offset is below the one before it, or an offset exceeds the number of bytes.
 /// - `InvalidUtf8` if a string is not UTF-8.
-/// - `NO_ROOM` if the number of items is not the length of `results`.
+/// - `NO_ROOM` if the number of rows is not the length of `results`.
 /// - `NO_SKETCH` if the handle has no sketch, and `WRONG_KIND` if its sketch is of another kind.
 #[unsafe(no_mangle)]
 pub extern "C" fn ds_bloom_contains_all(
@@ -137,8 +139,8 @@ fn contains_and_insert_each(filter: &mut BloomFilter, items: GivenItems<'_>, res
     on_items!(items, sequence => filter.contains_and_insert_all(sequence, results))
 }
 
-/// Inserts given items into a filter in order, and writes for each row whether the filter contained its item before. The answer for a
-/// null is no.
+/// Inserts given items into a filter in order, and writes for each row whether the filter contained its item before. The answer for
+/// a null is no.
 fn contains_and_insert_by_row(filter: &mut BloomFilter, items: GivenItems<'_>, results: &mut [bool])
     requires { length results.old ≡ num_rows (many items).rows }
     ensures results { OnRows (many items.entry).validity false results.new (λ answers.
@@ -171,14 +173,16 @@ fn contains_and_insert_given(
     })
 }
 
-/// Inserts many items, as one after another, and writes for each whether the filter contained it before.
+/// Inserts many items, as one after another, and writes for each whether the filter contained it before. There is a result for
+/// each row. A null row is not inserted, and its result is no.
 ///
 /// Returns the first of these errors, and then changes nothing:
 ///
-/// - `BAD_ARGUMENT` if the kind of the items is not known, or the bitmap has fewer bits than there are rows, or words or lines have one.
+/// - `BAD_ARGUMENT` if the kind of the items is not known, the bitmap has fewer bits than there are rows, or words or lines have a
+///   bitmap.
 /// - `BadOffsets` if there is no offset, an offset is below the one before it, or an offset exceeds the number of bytes.
 /// - `InvalidUtf8` if a string is not UTF-8.
-/// - `NO_ROOM` if the number of items is not the length of `results`.
+/// - `NO_ROOM` if the number of rows is not the length of `results`.
 /// - `NO_SKETCH` if the handle has no sketch, and `WRONG_KIND` if its sketch is of another kind or shared.
 #[unsafe(no_mangle)]
 pub extern "C" fn ds_bloom_contains_and_insert_all(
@@ -230,14 +234,16 @@ fn image_contains_given(image: &[u8], items: GivenItems<'_>, results: &mut [bool
     })
 }
 
-/// Writes for each of many items whether the filter in an image contains it. See `ds_bloom_image_contains_u64`.
+/// Writes for each of many items whether the filter in an image contains it. There is a result for each row. That of a null row is
+/// no. See `ds_bloom_image_contains_u64`.
 ///
 /// Returns the first of these errors, and then changes nothing:
 ///
-/// - `BAD_ARGUMENT` if the kind of the items is not known, or the bitmap has fewer bits than there are rows, or words or lines have one.
+/// - `BAD_ARGUMENT` if the kind of the items is not known, the bitmap has fewer bits than there are rows, or words or lines have a
+///   bitmap.
 /// - `BadOffsets` if there is no offset, an offset is below the one before it, or an offset exceeds the number of bytes.
 /// - `InvalidUtf8` if a string is not UTF-8.
-/// - `NO_ROOM` if the number of items is not the length of `results`.
+/// - `NO_ROOM` if the number of rows is not the length of `results`.
 /// - The error of the first failed check of the image.
 #[unsafe(no_mangle)]
 pub extern "C" fn ds_bloom_image_contains_all(

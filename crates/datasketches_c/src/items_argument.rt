@@ -284,7 +284,8 @@ pub(crate) use on_items;
 ///
 /// Returns the first of these errors, and then changes nothing:
 ///
-/// - `BAD_ARGUMENT` if the kind of the items is not known, or the bitmap has fewer bits than there are rows, or words or lines have one.
+/// - `BAD_ARGUMENT` if the kind of the items is not known, the bitmap has fewer bits than there are rows, or words or lines have a
+///   bitmap.
 /// - `BadOffsets` if there is no offset, an offset is below the one before it, or an offset exceeds the number of bytes.
 /// - `InvalidUtf8` if a string is not UTF-8.
 #[unsafe(no_mangle)]

@@ -40,8 +40,8 @@ fn num_nulls<T>(bits: Validity<'_>, results: &[T]) -> usize
     count
 }
 
-/// Does `$work`, which writes the results of the valid rows of `$items` to `$places`. Then moves each to its row. The result of each
-/// other row becomes `$null`.
+/// Does `$work`, which writes the results of the valid rows of `$items` to `$places`. Then moves each to its row. The result of
+/// each other row becomes `$null`.
 macro_rules! by_row {
     ($items:expr, $results:expr, $null:expr, $places:ident => $work:expr) => {{
         let validity = $crate::valid_rows::copy_of(&$items.validity);
@@ -113,8 +113,8 @@ pub(crate) fn valid_weights<T: Copy>(
     Ok(kept)
 }
 
-/// Does `$work` with the weights of the valid rows of `$items`, and gives the result of `$work`. Gives `NoMemory` if no memory is left
-/// for their copy, which is made if there is a bitmap.
+/// Does `$work` with the weights of the valid rows of `$items`, and gives the result of `$work`. Gives `NoMemory` if no memory is
+/// left for their copy, which is made if there is a bitmap.
 macro_rules! on_weights {
     ($alloc:expr, $items:expr, $weights:expr, $kept:ident => $work:expr) => {
         match $crate::valid_rows::copy_of(&$items.validity) {

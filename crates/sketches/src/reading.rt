@@ -9,6 +9,9 @@ use std::alloc::Global;
 use std::io;
 use std::io::{ErrorKind, Read};
 
+/// The number of bytes that one read can return, if lines may be that long.
+pub const BLOCK: usize = 1 << 18;
+
 /// Passes the lines of an input to a sink. Returns the error of a read, if any.
 ///
 /// After such an error, the lines that were read whole are taken. The buffer grows if a line does not fit, up to `limit`

@@ -8,15 +8,13 @@ ghost use Rattle.sketches.specs.Reports.{WritesReport};
 use crate::counting::ItemCounter;
 use crate::failure::Failure;
 use crate::inputs::{Inputs, read_inputs};
+use crate::reading::BLOCK;
 use crate::report::report;
 use crate::save::Keeper;
 use crate::selection::Selection;
 use sketch_frequencies::{FrequentItemsSketch, TableKey};
 use std::alloc::Global;
 use std::io::Write;
-
-/// The number of bytes that one read can return, if lines may be that long.
-const BLOCK: usize = 1 << 18;
 
 /// What is counted and printed.
 #[derive(Clone, Copy)]

@@ -7,15 +7,13 @@ ghost use Rattle.sketches.specs.Unseen.{WritesUnseen};
 
 use crate::failure::Failure;
 use crate::inputs::{Inputs, read_inputs};
+use crate::reading::BLOCK;
 use crate::selection::Part;
 use crate::unseen::UnseenLines;
 use sketch_bloom::{BloomFilter, BloomFilterBuilder, suggest_num_bits, suggest_num_hashes};
 use std::alloc::Global;
 use std::io::Write;
 use std::num::{nearest_u64_to_f64, nearest_usize_to_f64, saturating_f64_to_u64};
-
-/// The number of bytes that one read can return, if lines may be that long.
-const BLOCK: usize = 1 << 18;
 
 /// Which lines are written, and the size of the filter.
 #[derive(Clone, Copy)]
