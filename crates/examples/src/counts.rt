@@ -93,6 +93,11 @@ pub fn count_text(counts: &mut CountMinSketch<u64>, text: &str) -> Result<(), Er
     counts.update_all(Words::new(text))
 }
 
+/// Counts the even numbers.
+pub fn count_even(counts: &mut CountMinSketch<u64>, numbers: &[u64]) -> Result<(), Error> {
+    counts.extend(numbers.iter().filter(|n| **n % 2 == 0))
+}
+
 /// Counts the items of a day, in any sequence.
 pub fn counts_of_day<I: CountMinItems<u64>>(
     alloc: Global,

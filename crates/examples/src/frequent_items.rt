@@ -44,6 +44,11 @@ pub fn add_prices(prices: &mut FrequentItemsSketch<String>) -> Result<(), Error>
     prices.update_all_with_counts(Strs(&["apple", "pear"]), &[30, 45])
 }
 
+/// Adds the even numbers.
+pub fn add_even(sketch: &mut FrequentItemsSketch<u64>, numbers: &[u64]) -> Result<(), Error> {
+    sketch.extend(numbers.iter().filter(|n| **n % 2 == 0))
+}
+
 /// Creates a sketch whose purges are cheap.
 pub fn with_cheap_purges(alloc: Global, key: TableKey) -> Result<FrequentItemsSketch<u64>, Error> {
     let sizes = FrequentItemsSizes {

@@ -22,6 +22,7 @@ use crate::counts::bytes_of_apple;
 use crate::counts::bytes_within_a_thousandth;
 use crate::counts::count_batch;
 use crate::counts::count_bytes;
+use crate::counts::count_even;
 use crate::counts::count_page;
 use crate::counts::count_text;
 use crate::counts::counts_of_day;
@@ -53,6 +54,7 @@ use crate::filters::repeated_of_four;
 use crate::filters::seen_by_both;
 use crate::filters::still_refused;
 use crate::filters::vocabulary_has;
+use crate::frequent_items::add_even;
 use crate::frequent_items::add_prices;
 use crate::frequent_items::add_word;
 use crate::frequent_items::apples_of_both_shops;
@@ -253,6 +255,7 @@ fn strings_are_as_the_docs_say(rt: HostRuntime) {
     assert!(rt; strings_of_a_filter(rt.alloc()) == Ok((true, true, true, false)));
     assert!(rt; strings_of_counts(rt.alloc()) == Ok((3, 1)));
     assert!(rt; numbers_of_a_filter(rt.alloc()) == Ok(([true, false, true], false, true)));
+    assert!(rt; even_numbers(rt.alloc()) == Ok(([2, 0], [2, 0])));
     assert!(rt; contained_in_union(rt.alloc()) == Ok(true));
 }
 
@@ -269,6 +272,18 @@ fn numbers_of_a_filter(alloc: Global) -> Result<([bool; 3], bool, bool), Error> 
     ];
     let first = is_repeated(&mut filter, "ann");
     Ok((answers, first, is_repeated(&mut filter, "ann")))
+}
+
+/// Returns how often an even number and an odd one were counted, by counts and by frequent items.
+fn even_numbers(alloc: Global) -> Result<([u64; 2], [u64; 2]), Error> {
+    let mut counts = CountMinSketch::new(alloc, 4, 128)?;
+    count_even(&mut counts, &[2, 1, 2])?;
+    let mut sketch = FrequentItemsSketch::new(alloc, 64)?;
+    add_even(&mut sketch, &[2, 1, 2])?;
+    Ok((
+        [counts.estimate(2_u64), counts.estimate(1_u64)],
+        [sketch.estimate(&2), sketch.estimate(&1)],
+    ))
 }
 
 /// Returns whether names of a buffer are blocked, and which of four names were seen before.

@@ -1,6 +1,7 @@
 mod Ascii
 pub mod BothEnds
 pub mod Blocks
+pub mod Delimited
 pub mod DirectRemainder
 mod FirstWords
 pub mod KeptBytes
@@ -10,6 +11,7 @@ mod MarkedWords
 mod Marks
 pub mod ManyStrings
 pub mod Murmur3Pieces
+pub mod PartsUtf8
 pub mod Rotation
 pub mod Searching
 pub mod Separators
@@ -28,3 +30,4 @@ mod WordEnds
 pub mod Writing
 pub mod Xxh64Pieces
 pub mod Xxh64String
+pub mod Yielded

@@ -1,7 +1,6 @@
 -- The first word of a string whose separators are marked.
 use Rattle.std.proofs.Common.{◌≡◌, ◌≢◌, ◌⊎◌, ℕ, zero, suc, ◌+◌, ◌-◌, ◌*◌, ◌/◌, ◌^◌, ◌<◌, ◌≤◌, ⊎_elim, Bool, true, false, not, cond, List, [], ◌∷◌, length, map, get_or, take, drop, w64, refl, sym, ◌∙◌, ap, subst, arith, length-drop}
 use Rattle.std.specs.List.{position_or_len, slice_range}
-use Rattle.std.specs.Str.{IsUtf8, IsCharBoundary}
 use Rattle.std.specs.Int.{trailing_ones}
 use Rattle.std.proofs.lemmas.Bool.{cases_lt, false≢true}
 use Rattle.std.proofs.lemmas.Nat.Bits.{bit_at-trailing_ones}
@@ -9,12 +8,11 @@ use Rattle.std.proofs.Math.Pow.{pow_mono}
 use Rattle.std.proofs.lemmas.List.{length-map, length-take-le, get_or-take, drop-take, take_all}
 use Rattle.std.proofs.lemmas.List.Sums.{prefix_len-le-length}
 use Rattle.std.proofs.lemmas.Simd.{bit_mask_l, mask_l-lt}
-use Rattle.std.proofs.lemmas.Str.{IsCharBoundary-start, IsUtf8-drop}
 use Rattle.sketch_base.specs.Split.{IsFirstMarked, separates, with_word, words_by}
 use Rattle.sketch_base.specs.declared.separator.Separator.{Separator}
 use Rattle.sketch_base.proofs.Marks.{marks, marks_drop}
 use Rattle.sketch_base.proofs.Searching.{found_in, range_by_length}
-use Rattle.sketch_base.proofs.SplitWords.{HasSkipped, skips, first_boundary, first_word, nothing_left, plain_after}
+use Rattle.sketch_base.proofs.SplitWords.{HasSkipped, skips, first_word, nothing_left, plain_after}
 
 pub set_bit : (b : Bool) → ◌≡◌ {A = ℕ} (cond b 1 0) 1 → b ≡ true
 set_bit true e = refl
@@ -80,13 +78,13 @@ before_last-drop n k xs le =
     let count : length xs - n ≡ k + (length (drop k xs) - n) = omega (arith, length-drop k xs) in
     ap (λ m. drop k (take m xs)) count ∙ drop-take k (length (drop k xs) - n) xs
 
-module _ (s : Separator) (text : List ℕ) (utf8 : IsUtf8 text) where
+module _ (s : Separator) (text : List ℕ) where
   -- separators up to an index are skipped
   skips_all : (at : ℕ) → at ≤ length text → ((k : ℕ) → k < at → separates s (get_or text k 0) ≡ true) → HasSkipped s text at
-  skips_all zero le all = (omega arith, IsCharBoundary-start text utf8, refl)
+  skips_all zero le all = (omega arith, refl)
   skips_all (suc at) le all =
       let next : at + 1 ≡ suc at = omega arith in
-      subst (HasSkipped s text) next (skips s text at utf8 (skips_all at (omega arith) (λ k less. all k (omega arith))) (omega arith) (all at (omega arith)))
+      subst (HasSkipped s text) next (skips s text at (skips_all at (omega arith) (λ k less. all k (omega arith))) (omega arith) (all at (omega arith)))
 
   -- all bytes but the last `left` have marks
   module _ (left mask : ℕ) (le : left ≤ length text) (few : length text ≤ left + 63) (is : mask ≡ marks (separates s) (before_last left text)) where
@@ -151,11 +149,8 @@ module _ (s : Separator) (text : List ℕ) (utf8 : IsUtf8 text) where
               omega (arith, found))
               known
 
-          within : end ≤ length behind
-          within = omega (arith, end_marked)
-
-          pub cut_behind : IsCharBoundary behind end
-          cut_behind = first_boundary s behind end first within
+          pub end_within : end ≤ length behind
+          end_within = omega (arith, end_marked)
 
           starts_before : 0 < length behind → start < length text - left
           starts_before some = ⊎_elim
@@ -173,11 +168,6 @@ module _ (s : Separator) (text : List ℕ) (utf8 : IsUtf8 text) where
           plain_first = subst (λ l. 0 < length l → separates s (get_or l 0 0) ≡ false) (sym back) (plain_after s text start plain_start_of)
 
           module _ (front : word ≡ take end behind) (last : rest ≡ drop end behind) where
-            pub utf8_left : IsUtf8 rest
-            utf8_left =
-                subst IsUtf8 (sym last)
-                (IsUtf8-drop behind end (subst IsUtf8 (sym back) (IsUtf8-drop text start utf8 (subst (IsCharBoundary text) (sym starts) skips_marked.1))) cut_behind)
-
             pub left_rest : left ≤ length rest
             left_rest = omega (arith, end_marked, left_behind, ap length last, length-drop end behind)
 
@@ -191,8 +181,8 @@ module _ (s : Separator) (text : List ℕ) (utf8 : IsUtf8 text) where
 
             pub first_marked_word : words_by s text ≡ with_word word (words_by s rest)
             first_marked_word =
-                sym (skips_marked.2) ∙ ap (λ k. words_by s (drop k text)) (sym starts) ∙ ap (words_by s) (sym back)
-                ∙ first_word s behind word rest end plain_first first within front last
+                sym (skips_marked.1) ∙ ap (λ k. words_by s (drop k text)) (sym starts) ∙ ap (words_by s) (sym back)
+                ∙ first_word s behind word rest end plain_first first end_within front last
 
             pub no_marked_word : word ≡ [] → words_by s rest ≡ []
             no_marked_word none = ap (words_by s) (nothing_left s behind word rest end plain_first first front last none)

@@ -1,15 +1,15 @@
 -- The words of a string, one after another.
-use Rattle.std.proofs.Common.{◌≡◌, ℕ, zero, suc, ◌+◌, ◌<◌, ◌≤◌, ⊎_elim, Bool, true, false, ltb, List, [], ◌∷◌, ◌++◌, length, get_or, take, drop, filter, refl, sym, ◌∙◌, ap, subst, arith, length-drop}
+use Rattle.std.proofs.Common.{◌≡◌, ℕ, zero, suc, ◌+◌, ◌<◌, ◌≤◌, ⊎_elim, Bool, true, false, ltb, List, [], ◌∷◌, length, get_or, take, drop, filter, refl, sym, ◌∙◌, ap, subst, arith, length-drop}
 use Rattle.std.specs.List.{position_or_len, slice_split, onto_first}
-use Rattle.std.specs.Str.{IsUtf8, IsCharBoundary}
+use Rattle.std.specs.Str.{IsCharBoundary}
 use Rattle.std.specs.Char.{is_ascii_whitespace}
 use Rattle.std.proofs.lemmas.Bool.{cases_lt, eqb-true, false≢true}
 use Rattle.std.proofs.lemmas.Bool.Decides.{nat_tests}
-use Rattle.std.proofs.lemmas.List.{drop-drop, drop_more, take-append-drop, take_all, drop_all}
+use Rattle.std.proofs.lemmas.List.{drop_more, take_all, drop_all}
 use Rattle.std.proofs.lemmas.List.Sums.{passes_at_first}
 use Rattle.std.proofs.lemmas.List.Splits.{slice_split_first}
-use Rattle.std.proofs.lemmas.Str.{IsCharBoundary-end, IsCharBoundary-before_ascii, IsCharBoundary-after_ascii}
-use Rattle.sketch_base.specs.Split.{EndsWith, separates, with_word, words_by}
+use Rattle.std.proofs.lemmas.Str.{IsCharBoundary-end, IsCharBoundary-before_ascii}
+use Rattle.sketch_base.specs.Split.{separates, with_word, words_by}
 use Rattle.sketch_base.specs.declared.separator.Separator.{Separator}
 use Rattle.sketch_base.specs.declared.separator.Separator.TheVariants.{Space, LineFeed, AsciiWhitespace}
 
@@ -33,18 +33,17 @@ first_of (x ∷ xs) parts some =
     rw test refl
 
 module _ (s : Separator) where
-  -- the words from an index on are all of them, and the string may be cut there
+  -- the words from an index on are all of them
   abbrev pub HasSkipped : List ℕ → ℕ → Type 0
-  HasSkipped text at = (at ≤ length text) × IsCharBoundary text at × (words_by s (drop at text) ≡ words_by s text)
+  HasSkipped text at = (at ≤ length text) × (words_by s (drop at text) ≡ words_by s text)
 
   after_separator : (xs : List ℕ) (at : ℕ) → at < length xs → separates s (get_or xs at 0) ≡ true → words_by s (drop at xs) ≡ words_by s (drop (at + 1) xs)
   after_separator xs at less stops = rw (drop_more xs at 0 less, stops) refl
 
   -- one more separator
-  pub skips : (text : List ℕ) (at : ℕ) → IsUtf8 text → HasSkipped text at → at < length text → separates s (get_or text at 0) ≡ true → HasSkipped text (at + 1)
-  skips text at utf8 (le, cut, same) less stops = (
+  pub skips : (text : List ℕ) (at : ℕ) → HasSkipped text at → at < length text → separates s (get_or text at 0) ≡ true → HasSkipped text (at + 1)
+  skips text at (le, same) less stops = (
     omega arith,
-    IsCharBoundary-after_ascii text at utf8 less (separator_below s _ stops),
     sym (after_separator text at less stops) ∙ same,
   )
 
@@ -101,9 +100,3 @@ module _ (s : Separator) where
   nothing_left [] word rest at plain e w r none = r ∙ drop_all at [] (omega arith)
   nothing_left (x ∷ xs) word rest zero plain e w r none = absurd (false≢true (sym (plain (omega arith)) ∙ rw (← e) at (passes_at_first (separates s) (x ∷ xs) 0 (omega (arith, e)))))
   nothing_left (x ∷ xs) word rest (suc n) plain e w r none = absurd (omega (arith, ap length (sym w ∙ none)))
-
--- what is left of a string, cut twice, is its end
-pub ends_behind : (text rest : List ℕ) (start end : ℕ) → rest ≡ drop end (drop start text) → EndsWith text rest
-ends_behind text rest start end is =
-    let front : List ℕ = take (start + end) text in
-    (front, sym (take-append-drop (start + end) text) ∙ ap (λ (l : List ℕ). front ++ l) (sym (is ∙ drop-drop end start text)))

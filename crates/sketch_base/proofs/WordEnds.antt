@@ -1,10 +1,9 @@
 -- The ends of words among marks: a mark behind an element that is not marked.
-use Rattle.std.proofs.Common.{◌≡◌, ◌≢◌, ℕ, zero, suc, ◌+◌, ◌-◌, ◌*◌, ◌/◌, ◌%◌, ◌^◌, ◌<◌, ◌≤◌, min, bit_and, Bool, true, false, not, cond, ◌&&◌, w64, List, [], ◌∷◌, ◌++◌, length, map, get_or, take, drop, refl, sym, ◌∙◌, ap, subst, arith, length-drop}
+use Rattle.std.proofs.Common.{◌≡◌, ◌≢◌, ℕ, zero, suc, ◌+◌, ◌-◌, ◌*◌, ◌/◌, ◌%◌, ◌^◌, ◌<◌, ◌≤◌, min, bit_and, Bool, true, false, not, cond, ◌&&◌, w64, List, [], ◌∷◌, ◌++◌, length, map, get_or, take, drop, refl, sym, ◌∙◌, ap, arith, length-drop}
 use Rattle.std.specs.Int.{bit_at, trailing_zeros}
 use Rattle.std.specs.Int.Bits.{and_step, and_self}
 use Rattle.std.specs.List.{position_or_len}
 use Rattle.std.specs.Simd.Lanes.{mask_l}
-use Rattle.std.specs.Str.{IsUtf8, IsCharBoundary}
 use Rattle.std.proofs.Math.Nat.{pow-suc}
 use Rattle.std.proofs.Math.Pow.{pow_mono}
 use Rattle.std.proofs.lemmas.Bool.{false≢true}
@@ -12,12 +11,11 @@ use Rattle.std.proofs.lemmas.List.{drop-drop, length-map, take-append-drop}
 use Rattle.std.proofs.lemmas.List.Sums.{prefix_len-le-length}
 use Rattle.std.proofs.lemmas.Nat.Bits.{bit_at-trailing_zeros}
 use Rattle.std.proofs.lemmas.Simd.{bit_mask_l, mask_l-lt}
-use Rattle.std.proofs.lemmas.Str.{IsCharBoundary-before_ascii, IsCharBoundary-start, IsUtf8-drop}
 use Rattle.sketch_base.specs.Split.{separates, with_word, words_by}
 use Rattle.sketch_base.specs.declared.separator.Separator.{Separator}
 use Rattle.sketch_base.proofs.MarkedWords.{set_bit, clear_bit, before_last, before_last-length, before_last-drop}
 use Rattle.sketch_base.proofs.Marks.{marks, marks_drop}
-use Rattle.sketch_base.proofs.SplitWords.{first_word, separator_below}
+use Rattle.sketch_base.proofs.SplitWords.{first_word}
 
 -- which marks end a word. Before the first element there is a mark or none
 pub ends_of : Bool → List Bool → List Bool
@@ -178,11 +176,11 @@ module _ (s : Separator) where
   reaches before [] zs = λ n at here lower. absurd (false≢true (ap (λ (l : List Bool). get_or l at false) (sym (cleared_nil n)) ∙ here))
   reaches before (y ∷ ys) zs = reaches_behind before y ys zs (separates s y) refl (λ p. reaches p ys zs)
 
--- words were skipped in a string whose last bytes have no marks: it may be cut there, and the ends of the other words are set
+-- words were skipped in bytes of which the last have no marks: the ends of the other words are set
 abbrev pub HasPassed : Separator → List ℕ → ℕ → ℕ → ℕ → ℕ → Type 0
 HasPassed s text unmarked count ends at =
     (ends ≡ mask_l (cleared count (ends_of true (map (separates s) (before_last unmarked text)))))
-    × (at + unmarked ≤ length text) × IsCharBoundary text at × (words_by s (drop at text) ≡ drop count (words_by s text))
+    × (at + unmarked ≤ length text) × (words_by s (drop at text) ≡ drop count (words_by s text))
 
 length-cleared : (n : ℕ) (es : List Bool) → length (cleared n es) ≡ length es
 unfolding cleared
@@ -196,7 +194,7 @@ unfolding ends_of
 length-ends_of before [] = refl
 length-ends_of before (b ∷ bs) = omega (arith, length-ends_of b bs)
 
-module _ (s : Separator) (text : List ℕ) (utf8 : IsUtf8 text) (unmarked mask : ℕ) (le : unmarked ≤ length text) (few : length text ≤ unmarked + 63) (is : mask ≡ marks (separates s) (before_last unmarked text)) where
+module _ (s : Separator) (text : List ℕ) (unmarked mask : ℕ) (le : unmarked ≤ length text) (few : length text ≤ unmarked + 63) (is : mask ≡ marks (separates s) (before_last unmarked text)) where
   few_bits : length (map (separates s) (before_last unmarked text)) < 64
   few_bits = omega (arith, length-map (before_last unmarked text) (separates s), before_last-length unmarked text)
 
@@ -210,7 +208,6 @@ module _ (s : Separator) (text : List ℕ) (utf8 : IsUtf8 text) (unmarked mask :
   none_passed = (
     ap (λ (m : ℕ). bit_and m (2 ^ 64 - 1 - (m * 2 + 1))) is ∙ ends_mask true (map (separates s) (before_last unmarked text)) 64 few_bits,
     omega arith,
-    IsCharBoundary-start text utf8,
     refl,
   )
 
@@ -234,22 +231,16 @@ module _ (s : Separator) (text : List ℕ) (utf8 : IsUtf8 text) (unmarked mask :
         (set_bit _ (sym (bit_of (trailing_zeros w64 ends)) ∙ lowest.1))
         (λ k less. clear_bit _ (sym (bit_of k) ∙ lowest.2 k less)) in
         let whole : before_last unmarked text ++ drop (length text - unmarked) text ≡ text = take-append-drop (length text - unmarked) text in
-        let marked : trailing_zeros w64 ends + unmarked ≤ length text = omega (arith, found.0, before_last-length unmarked text) in
-        let separator : separates s (get_or text (trailing_zeros w64 ends) 0) ≡ true =
-        ap (λ (l : List ℕ). separates s (get_or l (trailing_zeros w64 ends) 0)) (sym whole) ∙ found.1 in (
+        let marked : trailing_zeros w64 ends + unmarked ≤ length text = omega (arith, found.0, before_last-length unmarked text) in (
           ap (λ (m : ℕ). bit_and m (m - 1)) passed.0
               ∙ clear_lowest (cleared count (ends_of true (map (separates s) (before_last unmarked text)))) (λ none. some (passed.0 ∙ none))
               ∙ ap mask_l (cleared_more count (ends_of true (map (separates s) (before_last unmarked text)))),
           marked,
-          IsCharBoundary-before_ascii text (trailing_zeros w64 ends) (omega (arith, found.0, before_last-length unmarked text)) (separator_below s _ separator),
           ap (λ (l : List ℕ). words_by s (drop (trailing_zeros w64 ends) l)) (sym whole) ∙ found.2 ∙ ap (λ (l : List ℕ). drop (suc count) (words_by s l)) whole,
         )
 
   -- what is left of the string, cut there
   module _ (count ends at : ℕ) (passed : HasPassed s text unmarked count ends at) (rest : List ℕ) (back : rest ≡ drop at text) where
-    pub utf8_rest : IsUtf8 rest
-    utf8_rest = subst IsUtf8 (sym back) (IsUtf8-drop text at utf8 passed.2)
-
     pub unmarked_rest : unmarked ≤ length rest
     unmarked_rest = omega (arith, passed.1, ap length back, length-drop at text)
 
@@ -262,7 +253,7 @@ module _ (s : Separator) (text : List ℕ) (utf8 : IsUtf8 text) (unmarked mask :
         ∙ ap (marks (separates s)) (before_last-drop unmarked at text passed.1 ∙ ap (before_last unmarked) (sym back))
 
     pub words_rest : words_by s rest ≡ drop count (words_by s text)
-    words_rest = ap (words_by s) back ∙ passed.3
+    words_rest = ap (words_by s) back ∙ passed.2
 
 -- only the word
 pub only_first : (word : List ℕ) (all later : List (List ℕ)) → all ≡ with_word word later → take 1 all ≡ with_word word []

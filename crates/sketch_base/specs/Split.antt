@@ -34,10 +34,6 @@ abbrev pub with_word : List ℕ → List (List ℕ) → List (List ℕ)
 with_word [] words = []
 with_word (x ∷ xs) words = (x ∷ xs) ∷ words
 
--- a string ends with another
-abbrev pub EndsWith : List ℕ → List ℕ → Type 0
-EndsWith text rest = (front : List ℕ) × (text ≡ front ++ rest)
-
 -- the first line and the string after it. A string without lines is empty
 abbrev pub TakesLine : List ℕ → Option (Bor (List ℕ) × Bor (List ℕ)) → Type 0
 TakesLine text found =

@@ -1,5 +1,5 @@
-//! The layer below the sketches: hash functions, byte cursors, fields of images, families, errors, remainders, words
-//! and lines.
+//! The layer below the sketches: hash functions, byte cursors, fields of images, families, errors, remainders, words,
+//! fields and lines.
 //!
 //! - [`XxHash64`] and [`MurmurHash3X64128`] hash bytes that arrive in pieces. Contracts see each result as the hash of
 //!   the whole list of bytes.
@@ -20,15 +20,19 @@
 //! - [`Family`] names a kind of sketch in an image. An [`Error`] has a kind and a [`Fault`], its cause.
 //! - [`laws`] states the values of the constants.
 //! - [`Divisor`] computes remainders by a precomputed number without a division.
-//! - [`first_words`] splits a string into an array, and [`nth_word`] returns one of its words. [`finished_words`] and
-//!   [`finished_lines`] return where a chunk of a stream can be split.
+//! - [`first_words`] splits a string into an array, and [`nth_word`] returns one of its words. [`nth_word_of_bytes`]
+//!   does so for bytes that need not be UTF-8. [`nth_field_of_bytes`] and [`nth_field`] return one field between
+//!   delimiters. [`finished_words`] and [`finished_lines`] return where a chunk of a stream can be split.
 #![tactic(auto)]
 
+mod byte_set;
 mod byte_strings;
+mod byte_words;
 mod divisor;
 mod error;
 mod family;
 mod fault;
+mod fields;
 pub mod image;
 mod item_hash;
 mod items;
@@ -57,10 +61,12 @@ mod words;
 mod xxhash;
 
 pub use byte_strings::ByteStrings;
+pub use byte_words::nth_word_of_bytes;
 pub use divisor::Divisor;
 pub use error::{Error, ErrorKind};
 pub use family::Family;
 pub use fault::Fault;
+pub use fields::{nth_field, nth_field_of_bytes};
 pub use item_hash::{keyed_hash_of, murmur3_of, murmur3_of_u64, xxh64_of};
 pub use items::{Item, Items};
 pub use lines::Lines;

@@ -1,9 +1,10 @@
 //! The bytes that separate words, and the search for the first of them.
 ghost use Rattle.std.specs.Prelude.{◌≡◌, ◌+◌, ◌<◌, ◌≤◌, length, map};
-ghost use Rattle.std.specs.List.{position_or_len, slice_range};
+ghost use Rattle.std.specs.List.{position_or_len};
 ghost use Rattle.std.specs.Simd.Lanes.{mask_l};
-ghost use Rattle.sketch_base.specs.Split.{IsFirstMarked, separates};
+ghost use Rattle.sketch_base.specs.Split.{separates};
 
+use crate::byte_set::{ByteSet, first_member};
 use std::simd::prelude::*;
 
 /// The bytes between words.
@@ -89,6 +90,25 @@ impl Separator {
     }
 }
 
+impl ByteSet for Separator {
+    ghost member = { separates };
+
+    #[inline(always)]
+    fn contains(self, byte: u8) -> bool {
+        self.separates(byte)
+    }
+
+    #[inline(always)]
+    fn marks_of_16(self, lanes: Simd<u8, 16>) -> u64 {
+        self.marks(lanes)
+    }
+
+    #[inline(always)]
+    fn marks_of_8(self, lanes: Simd<u8, 8>) -> u64 {
+        self.marks(lanes)
+    }
+}
+
 /// Returns the first index of a byte that stands between words, or the number of bytes if there is none.
 ///
 /// # Examples
@@ -105,45 +125,5 @@ pub fn first_separator(bytes: &[u8], separator: Separator) -> usize
     ensures value { result ≡ position_or_len (separates separator) bytes.now }
     ensures bound { result ≤ length bytes.now }
 {
-    let mut at = 0;
-    while bytes.len() - at >= 16 {
-        let found = first_separator_in::<16>(bytes, at, separator);
-        if found < 16 {
-            return at + found;
-        }
-        at += 16;
-    }
-    if bytes.len() - at >= 8 {
-        let found = first_separator_in::<8>(bytes, at, separator);
-        if found < 8 {
-            return at + found;
-        }
-        at += 8;
-    }
-    while at < bytes.len() && !separator.separates(bytes[at]) {
-        at += 1;
-    }
-    at
-}
-
-/// Returns the same for the `N` bytes from index `at`, as an index from `at`.
-#[inline(always)]
-fn first_separator_in<const N: usize>(bytes: &[u8], at: usize, separator: Separator) -> usize
-    requires lanes { N ≤ 64 }
-    requires room { at + N ≤ length bytes.now }
-    ensures { result ≡ position_or_len (separates separator) (slice_range bytes.now at (at + N)) }
-{
-    lowest_mark(separator.marks(Simd::<u8, N>::from_slice(&bytes[at..])), N)
-}
-
-/// Returns the index of the lowest bit that is set, or `len` if none is.
-#[inline(always)]
-pub(crate) fn lowest_mark(marks: u64, len: usize) -> usize
-    ensures { IsFirstMarked marks len result }
-{
-    if marks == 0 {
-        len
-    } else {
-        marks.trailing_zeros() as usize
-    }
+    first_member(bytes, separator)
 }

@@ -1,29 +1,12 @@
 //! Splits strings into words and lines.
-ghost use Rattle.std.specs.Prelude.{◌≡◌, ◌+◌, ◌≤◌, [], length, take, drop};
+ghost use Rattle.std.specs.Prelude.{◌≡◌, ◌≤◌, length, take, drop};
 ghost use Rattle.std.specs.Str.Lines.{lines, strip_carriage_return};
-ghost use Rattle.sketch_base.specs.Split.{CutsUtf8, EndsWith, IsBehindLast, SplitsAt, TakesLine, separates, with_word, words_by};
+ghost use Rattle.sketch_base.specs.Split.{CutsUtf8, IsBehindLast, SplitsAt, TakesLine, separates, words_by};
 ghost use Rattle.sketch_base.specs.Strings.{strings_at};
 ghost use Rattle.sketch_base.specs.declared.separator.Separator.TheVariants.{LineFeed};
 
 use crate::separator::{Separator, first_separator};
 use crate::words::Words;
-
-/// Returns the first word of a string and the string after it. Both are empty if there is no word.
-#[inline(always)]
-pub(crate) fn next_word(text: &str, separator: Separator) -> (&str, &str)
-    ensures words { words_by separator text.now ≡ with_word result.0.now (words_by separator result.1.now) }
-    ensures shorter { length result.0.now + length result.1.now ≤ length text.now }
-    ensures rest { EndsWith text.now result.1.now }
-    ensures none { result.0.now ≡ [] → result.1.now ≡ [] }
-{
-    let bytes = text.as_bytes();
-    let mut start = 0;
-    while start < bytes.len() && separator.separates(bytes[start]) {
-        start += 1;
-    }
-    let (_, text) = text.split_at(start);
-    text.split_at(first_separator(text.as_bytes(), separator))
-}
 
 /// Writes the first words of a string to `words`, as many as it has elements. Returns their number. The elements behind
 /// them stay.

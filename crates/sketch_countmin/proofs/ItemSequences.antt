@@ -3,7 +3,7 @@ use Rattle.std.proofs.Common.{inl, inr, ◌≡◌, ℕ, suc, ◌+◌, ◌-◌, �
 use Rattle.std.specs.Prelude.{◌==◌, count_by}
 use Rattle.std.proofs.lemmas.Bool.{cases_eq, cases_lt, false≢true}
 use Rattle.std.proofs.lemmas.Int.{ints}
-use Rattle.std.proofs.lemmas.List.{length_push, length-append, length-map, map-set, append-nil, take_all, length-drop, get_or-drop, drop-drop, get_or_default}
+use Rattle.std.proofs.lemmas.List.{length_push, length-append, length-map, map-append, map-set, append-nil, take_all, length-drop, get_or-drop, drop-drop, get_or_default}
 use Rattle.std.proofs.lemmas.List.Sums.{sum_by_push}
 use Rattle.sketch_countmin.specs.Buckets.{bucket_of}
 use Rattle.sketch_countmin.specs.Rows.{cell_at}
@@ -17,23 +17,22 @@ pub record HasCounted (old : CountState) (items rest : List (List ℕ)) (new : C
   pub parts : items ≡ before ++ rest
   pub counted : CountsAll old before new
 
-pub counted_none : (old : CountState) (items : List (List ℕ)) → HasCounted old items items old
-counted_none old items = record {
-  before = [];
-  parts = refl;
-  counted = record {
-    shape = record { hashes = refl; buckets = refl; seed = refl };
-    total = omega arith;
-    cells = λ r lr b lb. omega (arith, ints);
-  };
+pub counts_none : (old : CountState) → CountsAll old [] old
+counts_none old = record {
+  shape = record { hashes = refl; buckets = refl; seed = refl };
+  total = omega arith;
+  cells = λ r lr b lb. omega (arith, ints);
 }
+
+pub counted_none : (old : CountState) (items : List (List ℕ)) → HasCounted old items items old
+counted_none old items = record { before = []; parts = refl; counted = counts_none old }
 
 by_test : (t : Bool) (z : ℤ) (n : ℕ) → (z +ℤ pos n) +ℤ cond t (pos 1) (pos 0) ≡ z +ℤ pos (n + cond t 1 0)
 by_test true z n = omega (arith, ints)
 by_test false z n = omega (arith, ints)
 
 -- one more is counted
-counts_more : (old mid new : CountState) (items : List (List ℕ)) (bytes : List ℕ) → CountsAll old items mid → Counts mid bytes (pos 1) new
+pub counts_more : (old mid new : CountState) (items : List (List ℕ)) (bytes : List ℕ) → CountsAll old items mid → Counts mid bytes (pos 1) new
     → CountsAll old (items ++ bytes ∷ []) new
 counts_more old mid new items bytes all one = record {
   shape = record {
@@ -85,6 +84,24 @@ counted_stop old mid new items rest after bytes greatest so next fits full same 
     let room : greatest - old.total ≡ length so.before = omega (arith, so.counted.total) in
     let front : take (greatest - old.total) items ≡ so.before = ap (λ (n : ℕ). take n items) room ∙ (ap (take (length so.before)) split ∙ take_front so.before (bytes ∷ after)) in
     (rw same (subst (λ xs. CountsAll old xs mid) (sym front) so.counted), omega (arith, so.counted.total, ap length split, length-append so.before (bytes ∷ after)))
+
+-- ---- the items of an iterator
+
+module _ {A : Type 0} (bytes : A → List ℕ) where
+  pub seen_more : (old mid new : CountState) (seen : List A) (item : A) → CountsAll old (map bytes seen) mid → Counts mid (bytes item) (pos 1) new → CountsAll old (map bytes (seen ++ item ∷ [])) new
+  seen_more old mid new seen item so one = subst (λ l. CountsAll old l new) (sym (map-append bytes seen (item ∷ []))) (counts_more old mid new (map bytes seen) (bytes item) so one)
+
+  -- all items are counted
+  pub seen_all : (old new : CountState) (seen : List A) (greatest : ℕ) → CountsAll old (map bytes seen) new → new.total ≤ greatest
+      → CountsAll old (take (greatest - old.total) (map bytes seen)) new × (old.total + length (map bytes seen) ≤ greatest)
+  seen_all old new seen greatest so fits = counted_all old new (map bytes seen) [] greatest (record { before = map bytes seen; parts = sym (append-nil (map bytes seen)); counted = so }) refl fits
+
+  -- the total has no room for the last item
+  pub seen_stop : (old mid new : CountState) (seen : List A) (item : A) (greatest : ℕ) → CountsAll old (map bytes seen) mid → mid.total ≤ greatest → (mid.total + 1 ≤ greatest → false ≡ true) → new ≡ mid
+      → CountsAll old (take (greatest - old.total) (map bytes (seen ++ item ∷ []))) new × (greatest < old.total + length (map bytes (seen ++ item ∷ [])))
+  seen_stop old mid new seen item greatest so fits full same =
+      counted_stop old mid new (map bytes (seen ++ item ∷ [])) (bytes item ∷ []) [] (bytes item) greatest
+      (record { before = map bytes seen; parts = map-append bytes seen (item ∷ []); counted = so }) refl fits full same
 
 -- ---- an item and those after it, by its index
 

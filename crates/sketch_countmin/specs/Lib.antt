@@ -6,6 +6,7 @@ pub mod Grid
 pub mod History
 pub mod Image
 pub mod Items
+pub mod Iterated
 pub mod View
 pub mod Laws
 pub mod Preamble

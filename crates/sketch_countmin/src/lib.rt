@@ -7,11 +7,11 @@
 //! [`update`](CountMinSketch::update) takes any item that can be hashed. [`update_item`](CountMinSketch::update_item)
 //! takes a [`RowItem`], which is `&I` or `&str`, and hashes a string in less time.
 //! [`update_all`](CountMinSketch::update_all) takes a [`CountMinItems`]: a slice, or the words or lines of a string, or
-//! other sequences of `sketch_base`.
+//! other sequences of `sketch_base`. [`extend`](CountMinSketch::extend) takes any iterator of items.
 //!
 //! A sketch implements `Clone`, `Debug`, `PartialEq` and `Eq`. It implements neither `Default`, `Extend` nor
 //! `FromIterator`: a new sketch needs sizes and an allocator, and an update can fail with an error that these traits
-//! cannot return.
+//! cannot return. So `extend` is a method of its own.
 #![tactic(auto)]
 
 mod cell_list;

@@ -1,7 +1,7 @@
 -- Many updates, one after another, each of the item that a key names.
-use Rattle.std.proofs.Common.{◌≡◌, ℕ, ◌+◌, ◌<◌, ◌≤◌, Bool, false, List, [], ◌∷◌, ◌++◌, length, take, drop, get_or, set, append_assoc, refl, sym, ap, ◌∙◌, subst, arith, length-drop}
+use Rattle.std.proofs.Common.{◌≡◌, ℕ, ◌+◌, ◌<◌, ◌≤◌, Bool, false, List, [], ◌∷◌, ◌++◌, length, map, take, drop, get_or, set, append_assoc, refl, sym, ap, ◌∙◌, subst, arith, length-drop}
 use Rattle.std.proofs.lemmas.Bool.{ltb-true}
-use Rattle.std.proofs.lemmas.List.{append-nil, get_or-drop, drop_more, take_more, take_more_set}
+use Rattle.std.proofs.lemmas.List.{append-nil, map-append, get_or-drop, drop_more, take_more, take_more_set}
 use Rattle.std.specs.List.{AllZip}
 use Rattle.std.specs.Prelude.{IsTrue, filter, nat_lt}
 use Rattle.sketch_base.specs.Errors.{ErrorValue, invalid_argument, no_memory}
@@ -57,7 +57,7 @@ module _ {T : Type 0} (eq : T → T → Bool) where
   none_named old [] named = refl
   none_named old (x ∷ xs) named = absurd named
 
-  keys_none : (old : FrequentState T) → UpdatesKeys eq old [] old
+  pub keys_none : (old : FrequentState T) → UpdatesKeys eq old [] old
   keys_none old = record {
     some = ([], tt);
     updates = λ items named. subst (λ xs. UpdatesAll eq old xs old) (sym (none_named old items named)) (updates_none eq old);
@@ -104,6 +104,27 @@ module _ {T : Type 0} (eq : T → T → Bool) where
     overflow = overflow;
     memory = memory;
   }
+
+  -- ---- the keys of an iterator
+
+  module _ {K : Type 0} (names : K → T → Bool) where
+    pub seen_more : (old mid new : FrequentState T) (seen : List K) (key : K) → ((x y : T) → IsTrue (names key x) → names key y ≡ eq x y) → UpdatesKeys eq old (map names seen) mid → StepsByKey eq mid (names key) 1 new
+        → ((x : T) → IsTrue (names key x) → Extends eq mid new (λ h. Update h x 1)) → ((x : T) → IsTrue (names key x) → ExtendsBudget eq mid new (λ h. Update h x 1)) → UpdatesKeys eq old (map names (seen ++ key ∷ [])) new
+    seen_more old mid new seen key alike so step stands budget =
+        subst (λ l. UpdatesKeys eq old l new) (sym (map-append names seen (key ∷ []))) (keys_more old mid new (map names seen) (names key) alike so step stands budget)
+
+    -- the update by the last key failed
+    pub seen_until : (old mid new : FrequentState T) (seen : List K) (key : K) (e : ErrorValue) → UpdatesKeys eq old (map names seen) mid → new ≡ mid →
+        (Overflows mid 1 → e ≡ invalid_argument WeightOverflow) → (TotalHasRoom mid 1 → (e ≡ no_memory) × (is_tracked_by_key (names key) mid.counters ≡ false)) → StopsAtKey eq old (map names (seen ++ key ∷ [])) e new
+    seen_until old mid new seen key e so same overflow memory = rw same (record {
+      before = map names seen;
+      refused = names key;
+      behind = [];
+      parts = map-append names seen (key ∷ []);
+      added = so;
+      overflow = overflow;
+      memory = memory;
+    })
 
   -- ---- updates with weights
 

@@ -17,8 +17,8 @@
 //! are not trusted, give a sketch a secret [`TableKey`]. It says what they must not see.
 //!
 //! A sketch has no `Default` and no `FromIterator`, since it needs its size and an allocator. It has no `Extend`, since an
-//! update can fail with an error that `extend` has no room for. It has no `==`: of two sketches of one stream, each can keep
-//! other counters.
+//! update can fail with an error that this trait cannot return: [`extend`](FrequentItemsSketch::extend) is a method of its own. It
+//! has no `==`: of two sketches of one stream, each can keep other counters.
 #![tactic(auto)]
 
 mod error_type;

@@ -1,9 +1,11 @@
 //! Many items, or many other sketches, in one call.
 ghost use Rattle.std.specs.Prelude.{◌≡◌, ℕ, ◌+◌, ◌<◌, ◌≤◌, ◌↔◌, pos, unsigned_abs, ◌-◌, [], length, map, take, sum_by, slice_index_or, All, OnOk, OnErr, IsOk, IsTrue, IsErrOf};
+ghost use Rattle.std.specs.Iterator.{ExtendsWithItems, IsFiniteIterable};
 ghost use Rattle.std.specs.List.{zip};
 ghost use Rattle.sketch_base.specs.Errors.{invalid_argument};
 ghost use Rattle.sketch_base.specs.Hashes.{fed_bytes};
 ghost use Rattle.sketch_countmin.specs.History.{all_updated, each_updated, all_merged};
+ghost use Rattle.sketch_countmin.specs.Iterated.{CountsSeen};
 ghost use Rattle.sketch_countmin.specs.Stands.{Extends, ExtendsByAll};
 ghost use Rattle.sketch_countmin.specs.State.{IsCountState, SameShape, CountsAll, CountsEach, JoinsEach, IsMinCell};
 
@@ -51,6 +53,45 @@ impl<T: CountMinValue> CountMinSketch<T> {
         ensures succeeds { self.old.total + length (I.list items) ≤ T.greatest → IsOk result }
     {
         items.count_in(self)
+    }
+
+    /// Counts each item of an iterator with weight 1, as [`update_item`](Self::update_item) does one after another. Does not
+    /// allocate.
+    ///
+    /// The iterator must end. [`update_all`](Self::update_all) is faster for slices and strings.
+    ///
+    /// # Errors
+    ///
+    /// `WeightOverflow` at the first item for which the total has no room. The items before it are then counted, and no
+    /// others.
+    ///
+    /// # Examples
+    ///
+    /// ```
+    /// use sketch_base::Error;
+    /// use sketch_countmin::CountMinSketch;
+    ///
+    /// fn count_even(counts: &mut CountMinSketch<u64>, numbers: &[u64]) -> Result<(), Error> {
+    ///     counts.extend(numbers.iter().filter(|n| **n % 2 == 0))
+    /// }
+    /// ```
+    pub fn extend<R: RowItem<T> + Drop, U: IntoIterator<Item = R>>(
+        &mut self,
+        items: U,
+    ) -> Result<(), Error>
+        requires { IsFiniteIterable U.into_iter_gives U.IntoIter.can_next U.IntoIter.remaining items }
+        ensures counted { ExtendsWithItems U.into_iter_gives U.IntoIter.next_gives
+            (λ old seen new. CountsSeen T.greatest old (map R.bytes seen) result new) items self.old self.new result }
+        ensures state { IsCountState T.greatest self.new }
+    {
+        // For the prover: this read brings in what holds of every sketch.
+        let _total = self.total;
+        for item in items {
+            let Ok(()) = self.update_item(item) else {
+                return Err(Error::invalid_argument(Fault::WeightOverflow));
+            };
+        }
+        Ok(())
     }
 
     /// Counts each item with weight 1, item by item.

@@ -1,9 +1,10 @@
 //! Updates of many items in one call, and their estimates and bounds.
 ghost use Rattle.std.specs.Prelude.{◌≡◌, ◌+◌, ◌^◌, ◌<◌, ◌↔◌, true, length, map, sum, IfErr, IsTrue, OnOk, OnErr, IsErrOf};
+ghost use Rattle.std.specs.Iterator.{ExtendsWithItems, IsFiniteIterable};
 ghost use Rattle.std.specs.List.{AllZip};
 ghost use Rattle.sketch_base.specs.Errors.{invalid_argument, no_memory};
 ghost use Rattle.sketch_frequencies.specs.Bounds.{bounds_by_key, BoundWeight};
-ghost use Rattle.sketch_frequencies.specs.KeyedBatches.{UpdatesKeys, StopsAtKey, UpdatesWeighedKeys, StopsAtWeighedKey};
+ghost use Rattle.sketch_frequencies.specs.KeyedBatches.{UpdatesKeys, StopsAtKey, UpdatesSeen, UpdatesWeighedKeys, StopsAtWeighedKey};
 ghost use Rattle.sketch_frequencies.specs.Stands.{IsExactOfFew};
 ghost use Rattle.sketch_frequencies.specs.State.{IsState, Overflows, TotalHasRoom, estimate_by_key, must_grow};
 ghost use Rattle.sketch_frequencies.specs.WeightedBatches.{weighed};
@@ -63,6 +64,44 @@ impl<T: Eq + Hash + Drop> FrequentItemsSketch<T> {
             };
             self.update_item(key)?;
         }
+    }
+
+    /// Adds 1 to the weight of the item that each key of an iterator names, as [`update_item`](Self::update_item) does one after
+    /// another.
+    ///
+    /// The iterator must end. [`update_all`](Self::update_all) takes slices and sequences of strings.
+    ///
+    /// # Errors
+    ///
+    /// Stops at the first key whose update fails, and returns that error: `WeightOverflow` or `NoMemory`. The items of the keys
+    /// before it stay added. The item of that key is not added, and no key after it is taken.
+    ///
+    /// # Examples
+    ///
+    /// ```
+    /// use sketch_frequencies::{Error, FrequentItemsSketch};
+    ///
+    /// fn add_even(sketch: &mut FrequentItemsSketch<u64>, numbers: &[u64]) -> Result<(), Error> {
+    ///     sketch.extend(numbers.iter().filter(|n| **n % 2 == 0))
+    /// }
+    /// ```
+    pub fn extend<K: OwnedKey<T>, U: IntoIterator<Item = K>>(
+        &mut self,
+        keys: U,
+    ) -> Result<(), Error>
+        requires { IsFiniteIterable U.into_iter_gives U.IntoIter.can_next U.IntoIter.remaining keys }
+        ensures updates { ExtendsWithItems U.into_iter_gives U.IntoIter.next_gives
+            (λ old seen new. UpdatesSeen T.eq old (map K.names seen) result new) keys self.old self.new result }
+        ensures state { IsState T.eq self.new }
+    {
+        // Borrows a field, which brings the invariant of the sketch into the proof.
+        let _ = &self.map;
+        for key in keys {
+            if let Err(e) = self.update_item(key) {
+                return Err(e);
+            }
+        }
+        Ok(())
     }
 
     /// Adds each count to the weight of the item that the key at its index names, in order.
