@@ -7,13 +7,13 @@
  * A number is hashed as 8 bytes, lowest first. So a number from 0 to 2^63 - 1 is the same item as `uint64_t` and as `int64_t`.
  * A string is bytes and their number, without an end mark. It must be valid UTF-8.
  *
- * A call on many items takes a `ds_items`, which says where they are: numbers, strings in one of three forms, or the words or the
- * lines of a string. The library reads the items during the call, and keeps no pointer to them.
+ * A call on many items takes a `ds_items`, which says where they are: numbers, strings in one of three forms, the words or the
+ * lines of a string, or the bytes that are hashed. The library reads the items during the call, and keeps no pointer to them.
  *
  * A call returns the first error in this order:
  *
  *  1. DS_BAD_ARGUMENT, by the checks of `datasketches_checks.h` (see below), and if the `kind` of a `ds_items` is none of the
- *     seven kinds of items, its bitmap has too few bits, or words or lines have a bitmap.
+ *     eight kinds of items, its bitmap has too few bits, or words or lines have a bitmap.
  *  2. Errors of arguments: DS_BAD_OFFSETS, DS_INVALID_UTF8, DS_NO_ROOM if items and their weights or results differ in number,
  *     DS_BAD_FRACTION.
  *  3. Errors of handles: DS_NO_SKETCH if the handle has no sketch, DS_WRONG_KIND if its sketch is of a kind without this call,
@@ -309,13 +309,14 @@ enum {
     DS_ITEMS_OFFSETS32 = 3, /* strings in one buffer, by offsets of 32 bits */
     DS_ITEMS_STRINGS = 4,   /* strings in an array of ds_string */
     DS_ITEMS_WORDS = 5,     /* the words of a string */
-    DS_ITEMS_LINES = 6      /* the lines of a string */
+    DS_ITEMS_LINES = 6,     /* the lines of a string */
+    DS_ITEMS_FED = 7        /* items given by the bytes that are hashed */
 };
 
 /* Many items of one kind, where they are. The members of other kinds are pointers to no values, and never null.
  *
- * Numbers and strings are rows, some of which may be missing, as nulls in a column of Arrow. Row i is there if bit `first_bit` + i
- * of the bitmap is set. Bit k is the bit k % 8, lowest first, of byte k / 8. Without a bitmap each row is there.
+ * Numbers, strings and hashed bytes are rows. Some may be missing, as nulls in a column of Arrow. Row i is there if bit `first_bit`
+ * + i of the bitmap is set. Bit k is the bit k % 8, lowest first, of byte k / 8. Without a bitmap each row is there.
  *
  * Missing rows are neither inserted nor counted, and their weights are not read. Their results are false, and their estimates and
  * bounds 0. The number of items that a call needs includes missing rows. Their offsets and strings are checked like those of other
@@ -335,6 +336,8 @@ typedef struct ds_items {
     size_t num_offsets32;
     const ds_string *strings;
     size_t num_strings;
+    const ds_string *fed;
+    size_t num_fed;
     const uint8_t *validity; /* the bitmap of rows */
     size_t num_validity;     /* its number of bytes: 0 if there is no bitmap */
     size_t first_bit;        /* the bit of the first row */
@@ -352,7 +355,7 @@ static inline ds_items ds_no_items(int32_t kind)
 {
     void *none = ds_no_values();
     ds_items items = {kind, (uint64_t *)none, 0, (int64_t *)none, 0, (uint8_t *)none, 0, (uint64_t *)none, 0, (uint32_t *)none, 0,
-                      (ds_string *)none, 0, (uint8_t *)none, 0, 0};
+                      (ds_string *)none, 0, (ds_string *)none, 0, (uint8_t *)none, 0, 0};
     return items;
 }
 
@@ -379,6 +382,19 @@ static inline ds_items ds_items_strings(const ds_string *strings, size_t count)
     ds_items items = ds_no_items(DS_ITEMS_STRINGS);
     if (strings || count) items.strings = strings;
     items.num_strings = count;
+    return items;
+}
+
+/* Returns items in an array, each given by the bytes that are hashed. They need not be UTF-8. Filters and Count-Min sketches take
+ * them. Frequent items need the items themselves, and return DS_WRONG_KIND.
+ *
+ * A number of 64 bits is hashed as its eight bytes, the lowest first. A string is hashed as its bytes and then the byte 255. Rust's
+ * `Hash` feeds a hasher these bytes, and others for other types. */
+static inline ds_items ds_items_fed(const ds_string *items_as_bytes, size_t count)
+{
+    ds_items items = ds_no_items(DS_ITEMS_FED);
+    if (items_as_bytes || count) items.fed = items_as_bytes;
+    items.num_fed = count;
     return items;
 }
 
@@ -434,11 +450,13 @@ static inline size_t ds_num_rows(const ds_items *items)
     case DS_ITEMS_OFFSETS: return items->num_offsets - (items->num_offsets > 0);
     case DS_ITEMS_OFFSETS32: return items->num_offsets32 - (items->num_offsets32 > 0);
     case DS_ITEMS_STRINGS: return items->num_strings;
+    case DS_ITEMS_FED: return items->num_fed;
     default: return 0;
     }
 }
 
-/* Returns numbers or strings with a bitmap of their rows, which has at least `first_bit` + n bits for n rows. Null is no bitmap.
+/* Returns numbers, strings or hashed bytes with a bitmap of their rows. It has at least `first_bit` + n bits for n rows. Null is no
+ * bitmap.
  * For a slice of a column of Arrow, pass a pointer to its first number or offset, and the slice's start as `first_bit`:
  *
  *     ds_items rows = ds_items_offsets32(bytes, num_bytes, (const uint32_t *)offsets + start, num_rows + 1);

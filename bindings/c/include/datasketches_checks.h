@@ -32,7 +32,8 @@ static inline bool ds_have_null(const ds_string *strings, size_t count)
 static inline bool ds_items_have_null(const ds_items *items)
 {
     return !items || !items->u64s || !items->i64s || !items->bytes || !items->offsets || !items->offsets32 || !items->strings ||
-           !items->validity || ds_have_null(items->strings, items->num_strings);
+           !items->fed || !items->validity || ds_have_null(items->strings, items->num_strings) ||
+           ds_have_null(items->fed, items->num_fed);
 }
 
 /* Returns whether there are handles at null, or the handle is one of them. */

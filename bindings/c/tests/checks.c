@@ -10,16 +10,17 @@
 
 _Static_assert(sizeof(ds_sketch) == sizeof(void *), "a handle is one word");
 _Static_assert(sizeof(ds_string) == 16 && offsetof(ds_string, length) == 8, "ds_string");
-_Static_assert(sizeof(ds_items) == 128 && offsetof(ds_items, kind) == 0 && offsetof(ds_items, u64s) == 8 &&
+_Static_assert(sizeof(ds_items) == 144 && offsetof(ds_items, kind) == 0 && offsetof(ds_items, u64s) == 8 &&
                    offsetof(ds_items, num_u64s) == 16 && offsetof(ds_items, i64s) == 24 && offsetof(ds_items, num_i64s) == 32 &&
                    offsetof(ds_items, bytes) == 40 && offsetof(ds_items, num_bytes) == 48 && offsetof(ds_items, offsets) == 56 &&
                    offsetof(ds_items, num_offsets) == 64 && offsetof(ds_items, offsets32) == 72 &&
                    offsetof(ds_items, num_offsets32) == 80 && offsetof(ds_items, strings) == 88 &&
-                   offsetof(ds_items, num_strings) == 96 && offsetof(ds_items, validity) == 104 &&
-                   offsetof(ds_items, num_validity) == 112 && offsetof(ds_items, first_bit) == 120,
+                   offsetof(ds_items, num_strings) == 96 && offsetof(ds_items, fed) == 104 && offsetof(ds_items, num_fed) == 112 &&
+                   offsetof(ds_items, validity) == 120 && offsetof(ds_items, num_validity) == 128 &&
+                   offsetof(ds_items, first_bit) == 136,
                "ds_items");
 _Static_assert(DS_ITEMS_U64 == 0 && DS_ITEMS_I64 == 1 && DS_ITEMS_OFFSETS == 2 && DS_ITEMS_OFFSETS32 == 3 &&
-                   DS_ITEMS_STRINGS == 4 && DS_ITEMS_WORDS == 5 && DS_ITEMS_LINES == 6,
+                   DS_ITEMS_STRINGS == 4 && DS_ITEMS_WORDS == 5 && DS_ITEMS_LINES == 6 && DS_ITEMS_FED == 7,
                "kinds of items");
 _Static_assert(sizeof(ds_key) == 16 && offsetof(ds_key, k0) == 0 && offsetof(ds_key, k1) == 8, "ds_key");
 _Static_assert(sizeof(ds_image_options) == 24 && offsetof(ds_image_options, max_bytes) == 0 &&
@@ -144,7 +145,7 @@ static void functions(void)
     CHECK(ds_bloom_new(&a, 64, 1, 9001) == DS_OK && (ds_clone)(&b, &a) == DS_OK);
     CHECK(join(&a, &b) == DS_OK && (ds_bloom_insert_all)(&a, AS_ITEMS(u64, (const uint64_t[]){1, 2}, 2)) == DS_OK);
     CHECK(ds_bloom_contains_u64(&a, 2) == DS_YES);
-    CHECK((ds_bloom_insert_all)(&a, (const ds_items[]){ds_no_items(DS_ITEMS_LINES + 1)}) == DS_BAD_ARGUMENT);
+    CHECK((ds_bloom_insert_all)(&a, (const ds_items[]){ds_no_items(DS_ITEMS_FED + 1)}) == DS_BAD_ARGUMENT);
     (ds_free)(&a);
     release(&b);
     CHECK(ds_reset(&a) == DS_NO_SKETCH && ds_reset(&b) == DS_NO_SKETCH);
@@ -155,11 +156,11 @@ static void functions(void)
 
 /* Checks that items have only these arrays: those of the others are there, and have no values. */
 static void holds_only(const ds_items *it, int32_t kind, size_t u64s, size_t i64s, size_t bytes, size_t offsets, size_t offsets32,
-                       size_t strings)
+                       size_t strings, size_t fed)
 {
     CHECK(it->kind == kind && it->num_u64s == u64s && it->num_i64s == i64s && it->num_bytes == bytes);
-    CHECK(it->num_offsets == offsets && it->num_offsets32 == offsets32 && it->num_strings == strings);
-    CHECK(it->u64s && it->i64s && it->bytes && it->offsets && it->offsets32 && it->strings);
+    CHECK(it->num_offsets == offsets && it->num_offsets32 == offsets32 && it->num_strings == strings && it->num_fed == fed);
+    CHECK(it->u64s && it->i64s && it->bytes && it->offsets && it->offsets32 && it->strings && it->fed);
     CHECK(it->validity && it->num_validity == 0 && it->first_bit == 0);
 }
 
@@ -171,32 +172,35 @@ static void items(void)
     const uint32_t offsets[3] = {0, 1, 2};
     const uint8_t *bytes = (const uint8_t *)"a b";
     const ds_string strings[2] = {{bytes, 1}, {bytes, 3}};
-    const ds_items made[7] = {ds_items_u64(u64s, 3),
+    const ds_items made[8] = {ds_items_u64(u64s, 3),
                               ds_items_i64(i64s, 2),
                               ds_items_offsets(bytes, 3, u64s, 3),
                               ds_items_offsets32(bytes, 3, offsets, 3),
                               ds_items_strings(strings, 2),
                               ds_items_words(bytes, 3),
-                              ds_items_lines(bytes, 3)};
-    const ds_items empty[7] = {ds_items_u64(NULL, 0),
+                              ds_items_lines(bytes, 3),
+                              ds_items_fed(strings, 2)};
+    const ds_items empty[8] = {ds_items_u64(NULL, 0),
                                ds_items_i64(NULL, 0),
                                ds_items_offsets(NULL, 0, NULL, 0),
                                ds_items_offsets32(NULL, 0, NULL, 0),
                                ds_items_strings(NULL, 0),
                                ds_items_words(NULL, 0),
-                               ds_items_lines(NULL, 0)};
+                               ds_items_lines(NULL, 0),
+                               ds_items_fed(NULL, 0)};
 
-    holds_only(&made[0], DS_ITEMS_U64, 3, 0, 0, 0, 0, 0);
-    holds_only(&made[1], DS_ITEMS_I64, 0, 2, 0, 0, 0, 0);
-    holds_only(&made[2], DS_ITEMS_OFFSETS, 0, 0, 3, 3, 0, 0);
-    holds_only(&made[3], DS_ITEMS_OFFSETS32, 0, 0, 3, 0, 3, 0);
-    holds_only(&made[4], DS_ITEMS_STRINGS, 0, 0, 0, 0, 0, 2);
-    holds_only(&made[5], DS_ITEMS_WORDS, 0, 0, 3, 0, 0, 0);
-    holds_only(&made[6], DS_ITEMS_LINES, 0, 0, 3, 0, 0, 0);
+    holds_only(&made[0], DS_ITEMS_U64, 3, 0, 0, 0, 0, 0, 0);
+    holds_only(&made[1], DS_ITEMS_I64, 0, 2, 0, 0, 0, 0, 0);
+    holds_only(&made[2], DS_ITEMS_OFFSETS, 0, 0, 3, 3, 0, 0, 0);
+    holds_only(&made[3], DS_ITEMS_OFFSETS32, 0, 0, 3, 0, 3, 0, 0);
+    holds_only(&made[4], DS_ITEMS_STRINGS, 0, 0, 0, 0, 0, 2, 0);
+    holds_only(&made[5], DS_ITEMS_WORDS, 0, 0, 3, 0, 0, 0, 0);
+    holds_only(&made[6], DS_ITEMS_LINES, 0, 0, 3, 0, 0, 0, 0);
+    holds_only(&made[7], DS_ITEMS_FED, 0, 0, 0, 0, 0, 0, 2);
     CHECK(made[0].u64s == u64s && made[1].i64s == i64s && made[2].bytes == bytes && made[2].offsets == u64s);
     CHECK(made[3].bytes == bytes && made[3].offsets32 == offsets && made[4].strings == strings);
-    CHECK(made[5].bytes == bytes && made[6].bytes == bytes);
-    for (int32_t kind = 0; kind < 7; kind++) holds_only(&empty[kind], kind, 0, 0, 0, 0, 0, 0);
+    CHECK(made[5].bytes == bytes && made[6].bytes == bytes && made[7].fed == strings);
+    for (int32_t kind = 0; kind < 8; kind++) holds_only(&empty[kind], kind, 0, 0, 0, 0, 0, 0, 0);
 }
 
 /* Names and messages as calls of the library. */
@@ -239,7 +243,7 @@ static const int64_t NUMBER[1] = {7};
 static const ds_string NULLS[2] = {{B, 1}, {NULL, 0}};
 
 /* One item of each kind, no items of each kind, and items with a null pointer. */
-enum { ITEM_KINDS = 7, MOST_NULLS = 64 };
+enum { ITEM_KINDS = 8, MOST_NULLS = 96 };
 
 static ds_items one_item[ITEM_KINDS], no_items[ITEM_KINDS], null_items[MOST_NULLS];
 static size_t num_null_items;
@@ -252,7 +256,8 @@ static void make_items(void)
                                       ds_items_offsets32(B, 1, ENDS32, 2),
                                       ds_items_strings(NULLS, 1),
                                       ds_items_words(B, 1),
-                                      ds_items_lines(B, 1)};
+                                      ds_items_lines(B, 1),
+                                      ds_items_fed(NULLS, 1)};
     const ds_items null[] = {ds_items_u64(NULL, 1),
                              ds_items_i64(NULL, 1),
                              ds_items_offsets(NULL, 1, ENDS, 2),
@@ -262,7 +267,9 @@ static void make_items(void)
                              ds_items_strings(NULL, 1),
                              ds_items_strings(NULLS, 2),
                              ds_items_words(NULL, 1),
-                             ds_items_lines(NULL, 1)};
+                             ds_items_lines(NULL, 1),
+                             ds_items_fed(NULL, 1),
+                             ds_items_fed(NULLS, 2)};
     memcpy(one_item, one, sizeof one);
     memcpy(null_items, null, sizeof null);
     num_null_items = sizeof null / sizeof *null;
@@ -271,7 +278,7 @@ static void make_items(void)
         if (kind == DS_ITEMS_OFFSETS) no_items[kind] = ds_items_offsets(NULL, 0, ENDS, 1);
         if (kind == DS_ITEMS_OFFSETS32) no_items[kind] = ds_items_offsets32(NULL, 0, ENDS32, 1);
         /* the pointers of other kinds are checked too, also without values */
-        for (int pointer = 0; pointer < 7; pointer++) {
+        for (int pointer = 0; pointer < 8; pointer++) {
             ds_items *it = &null_items[num_null_items++];
             *it = one_item[kind];
             if (pointer == 0) it->u64s = NULL;
@@ -280,7 +287,8 @@ static void make_items(void)
             if (pointer == 3) it->offsets = NULL;
             if (pointer == 4) it->offsets32 = NULL;
             if (pointer == 5) it->strings = NULL;
-            if (pointer == 6) it->validity = NULL;
+            if (pointer == 6) it->fed = NULL;
+            if (pointer == 7) it->validity = NULL;
         }
     }
 }

@@ -448,7 +448,7 @@ static size_t give_bitmaps(struct given *out)
 static size_t give_all(struct given *out)
 {
     static uint32_t offsets32[COUNT(OFFSETS)][5];
-    static const int32_t unknown[] = {-1, ITEM_KINDS, 256, INT32_MIN, INT32_MAX};
+    static const int32_t unknown[] = {-1, ITEM_KINDS + 1, 256, INT32_MIN, INT32_MAX};
     const struct given plain[] = {
         {ds_items_u64(NUMBERS, 3), 3, DS_OK},
         {ds_items_i64(WITH_SIGN, 3), 3, DS_OK},

@@ -39,7 +39,7 @@ TABLE_KEY = {"DATASKETCHES_TABLE_KEY": bytes(range(16)).hex()}
 # The C type of each Rust type of an export. A slice is a pointer and a length, and an allocator is not passed.
 CROSSES = {"u8": "uint8_t", "u16": "uint16_t", "u32": "uint32_t", "u64": "uint64_t", "i32": "int32_t", "i64": "int64_t"}
 CROSSES |= {"usize": "size_t", "bool": "bool", "SketchHandle": "ds_sketch", "Status": "ds_status"}
-CROSSES |= {"ItemBounds": "ds_frequent_items_bounds", "ItemsArgument": "ds_items"}
+CROSSES |= {"ItemBounds": "ds_frequent_items_bounds", "ItemsArgument": "ds_items", "FedBytes": "ds_string"}
 
 # The exports of the sources that only the library's own C calls.
 INTERNAL = {"ds_free_handle", "ds_new_frequent_items", "ds_read_image"}
@@ -205,7 +205,7 @@ def casts():
 
 def items_of_strings():
     """Returns the kinds of items that are strings: the number of each by its name, as DS_ITEMS_WORDS."""
-    return dict(re.findall(r"(DS_ITEMS_(?!U64|I64)\w+) = (\d)", read(f"{C}/include/datasketches.h")))
+    return dict(re.findall(r"(DS_ITEMS_(?!U64|I64|FED)\w+) = (\d)", read(f"{C}/include/datasketches.h")))
 
 
 def needs_check(kinds):
@@ -290,8 +290,8 @@ class Tests:
         of_kinds = [(KINDS.get(name), number) for number, name in kinds]
         kinds = re.findall(r"^ +(\d) => Some\(ItemsKind::(\w+)\),$", read(f"{CRATE}/src/items_argument.rt"), re.MULTILINE)
         of_kinds += [(f"ITEMS_{name.upper()}", number) for number, name in kinds]
-        self.check("the kinds", of_kinds == constants[-13:], (of_kinds, constants))
-        self.check("the other results", set(others) == set(constants[:-13]) - of_c, constants)
+        self.check("the kinds", of_kinds == constants[-14:], (of_kinds, constants))
+        self.check("the other results", set(others) == set(constants[:-14]) - of_c, constants)
         self.check("the members of ds_items", items_in_c() == items_in_header(), (items_in_c(), items_in_header()))
 
     def calls(self, source):
@@ -599,6 +599,7 @@ def main():
         tests.calls(f"{HERE}/strings.c")
         tests.calls(f"{HERE}/kinds.c")
         tests.calls(f"{HERE}/columns.c")
+        tests.calls(f"{HERE}/fed.c")
         tests.calls(f"{HERE}/keys.c")
         tests.calls(f"{HERE}/table_keys.c")
         tests.calls(f"{HERE}/many.c")

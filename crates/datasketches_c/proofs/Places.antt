@@ -4,7 +4,7 @@ use Rattle.std.proofs.lemmas.List.{length-take-le}
 use borrow.Rule.Slice.PartMut.{put_mid, same_len_mid}
 use Rattle.sketch_base.specs.Validity.{valid}
 use Rattle.datasketches_c.specs.ManyItems.{Rows, num_rows, num_valid}
-use Rattle.datasketches_c.specs.ManyItems.Rows.{u64s, i64s, strings}
+use Rattle.datasketches_c.specs.ManyItems.Rows.{u64s, i64s, strings, fed_as_given}
 use Rattle.datasketches_c.specs.ValidRows.{of_valid}
 use Rattle.datasketches_c.proofs.RowCounts.{length-of_valid, length_valid_map}
 
@@ -17,6 +17,7 @@ pub as_many : {A : Type 0} → (validity : Option (List Bool)) (rows : Rows) (re
 as_many validity (u64s rows) results same = length-of_valid validity results rows same
 as_many validity (i64s rows) results same = length-of_valid validity results rows same
 as_many validity (strings rows) results same = length-of_valid validity results rows same
+as_many validity (fed_as_given rows) results same = length-of_valid validity results rows same
 
 -- there is a place for each item
 pub place_count : {A : Type 0} → (validity bits : Option (List Bool)) (rows : Rows) (results : List A) (from : ℕ) → bits ≡ validity

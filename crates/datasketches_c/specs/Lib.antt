@@ -9,6 +9,7 @@ pub mod CountJoins
 pub mod CountSteps
 pub mod Equality
 pub mod Estimates
+pub mod Fed
 pub mod FilterCalls
 pub mod FilterImages
 pub mod FrequentBatches

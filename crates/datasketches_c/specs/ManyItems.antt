@@ -11,20 +11,23 @@ use Rattle.sketch_base.specs.Hashes.{fed_bytes}
 use Rattle.sketch_base.specs.Split.{words_of}
 use Rattle.sketch_base.specs.Strings.{AreOffsets, strings_at, strings_of}
 use Rattle.sketch_base.specs.declared.fault.Fault.TheVariants.{InvalidUtf8}
+use Rattle.datasketches_c.specs.Fed.{fed_whole}
 use Rattle.datasketches_c.specs.Numbers.{bad_argument, bad_offsets, no_room, refusal_number, wrong_kind}
 use Rattle.datasketches_c.specs.ValidRows.{bits_from, of_valid}
+use Rattle.datasketches_c.specs.declared.fed_bytes.FedBytes.{FedBytes}
 use Rattle.datasketches_c.specs.declared.items_argument.GivenItems.{GivenItems}
 use Rattle.datasketches_c.specs.declared.items_argument.GivenRows.{GivenRows}
 use Rattle.datasketches_c.specs.declared.items_argument.GivenRows.TheVariants as given
 use Rattle.datasketches_c.specs.declared.items_argument.ItemsArgument.{ItemsArgument}
 use Rattle.datasketches_c.specs.declared.items_argument.ItemsKind.{ItemsKind}
-use Rattle.datasketches_c.specs.declared.items_argument.ItemsKind.TheVariants.{U64, I64, Offsets, Offsets32, Strings, Words, Lines}
+use Rattle.datasketches_c.specs.declared.items_argument.ItemsKind.TheVariants.{U64, I64, Offsets, Offsets32, Strings, Words, Lines, Fed}
 
--- the rows of a column: numbers, or the bytes of strings
+-- the rows of a column: numbers, the bytes of strings, or items given by the bytes that a hash feeds
 pub data Rows : Type 0 where
   u64s : List ℕ → Rows
   i64s : List ℤ → Rows
   strings : List (List ℕ) → Rows
+  fed_as_given : List FedBytes → Rows
 
 -- many items: rows, with a bit for each that says whether it is valid if some may be null. The items are the valid rows
 pub record ManyItems : Type 0 where
@@ -35,12 +38,14 @@ abbrev pub num_rows : Rows → ℕ
 num_rows (u64s rows) = length rows
 num_rows (i64s rows) = length rows
 num_rows (strings rows) = length rows
+num_rows (fed_as_given rows) = length rows
 
 -- the bytes that the hash of each row feeds
 abbrev pub fed_rows : Rows → List (List ℕ)
 fed_rows (u64s rows) = map (fed_bytes fed.u64) rows
 fed_rows (i64s rows) = map (fed_bytes fed.i64) rows
 fed_rows (strings rows) = map (fed_bytes fed.str) rows
+fed_rows (fed_as_given rows) = map (fed_bytes (λ item. fed_whole item.bytes.now)) rows
 
 -- the bytes that the hash of each item feeds
 abbrev pub fed_items : ManyItems → List (List ℕ)
@@ -51,6 +56,7 @@ abbrev pub num_valid : Rows → Option (List Bool) → ℕ
 num_valid (u64s rows) validity = length (of_valid validity rows)
 num_valid (i64s rows) validity = length (of_valid validity rows)
 num_valid (strings rows) validity = length (of_valid validity rows)
+num_valid (fed_as_given rows) validity = length (of_valid validity rows)
 
 abbrev pub num_items : ManyItems → ℕ
 num_items items = num_valid items.rows items.validity
@@ -61,7 +67,7 @@ items_kind_numbered number =
     if int_eq number (pos 0) then Some U64 else if int_eq number (pos 1) then Some I64
     else if int_eq number (pos 2) then Some Offsets else if int_eq number (pos 3) then Some Offsets32
     else if int_eq number (pos 4) then Some Strings else if int_eq number (pos 5) then Some Words
-    else if int_eq number (pos 6) then Some Lines else None
+    else if int_eq number (pos 6) then Some Lines else if int_eq number (pos 7) then Some Fed else None
 
 -- the rows of an argument of this kind
 abbrev pub rows_of : ItemsKind → ItemsArgument → Rows
@@ -72,6 +78,7 @@ rows_of Offsets32 a = strings (strings_of a.bytes.now a.offsets32.now)
 rows_of Strings a = strings (strings_at a.strings.now)
 rows_of Words a = strings (words_of a.bytes.now)
 rows_of Lines a = strings (lines a.bytes.now)
+rows_of Fed a = fed_as_given a.fed.now
 
 -- the items of an argument of this kind
 abbrev pub items_of : ItemsKind → ItemsArgument → ManyItems
@@ -84,6 +91,7 @@ rows_with_bits I64 a = Some (length a.i64s.now)
 rows_with_bits Offsets a = Some (length a.offsets.now - 1)
 rows_with_bits Offsets32 a = Some (length a.offsets32.now - 1)
 rows_with_bits Strings a = Some (length a.strings.now)
+rows_with_bits Fed a = Some (length a.fed.now)
 rows_with_bits kind a = None
 
 -- there are bits for this number of rows, or there is no bitmap
@@ -173,6 +181,7 @@ given_rows (given.Offsets32 rows) = strings rows
 given_rows (given.Strings rows) = strings rows
 given_rows (given.Words text) = strings (words_of text.now)
 given_rows (given.Lines text) = strings (lines text.now)
+given_rows (given.Fed rows) = fed_as_given rows.now
 
 -- the items of a valid argument
 abbrev pub many : GivenItems → ManyItems

@@ -1,9 +1,10 @@
-//! Many items as an argument of calls: numbers, or strings in one of several forms.
+//! Many items as an argument of calls: numbers, strings in one of several forms, or the bytes that a hash feeds.
 ghost use Rattle.std.specs.Prelude.{◌≡◌, ◌↔◌, ◌<◌, ◌^◌, IsTrue, length};
 ghost use Rattle.datasketches_c.specs.ManyItems.{GivesItems, GivesRows, HasBits, OnItems, given_rows, items_kind_numbered, num_rows, rows_with_bits};
 ghost use Rattle.datasketches_c.specs.Numbers.{ok};
 ghost use Rattle.datasketches_c.specs.ValidRows.{bits_from};
 
+use crate::fed_bytes::FedBytes;
 use crate::status_code::{BAD_ARGUMENT, OK, refusal_number};
 use sketch_base::{ByteStrings, Fault, Lines, OffsetStrings, Strings, Validity, Words, from_utf8};
 
@@ -17,6 +18,7 @@ pub enum ItemsKind {
     Strings,
     Words,
     Lines,
+    Fed,
 }
 
 /// Returns the kind of a number: `DS_ITEMS_U64` and so on in C. Returns `None` if it is none of them.
@@ -31,6 +33,7 @@ fn items_kind_numbered(number: i32) -> Option<ItemsKind>
         4 => Some(ItemsKind::Strings),
         5 => Some(ItemsKind::Words),
         6 => Some(ItemsKind::Lines),
+        7 => Some(ItemsKind::Fed),
         _ => None,
     }
 }
@@ -46,6 +49,8 @@ pub struct ItemsArgument<'a> {
     pub offsets: &'a [u64],
     pub offsets32: &'a [u32],
     pub strings: &'a [&'a [u8]],
+    /// The bytes of items as a hash feeds them. They need not be UTF-8.
+    pub fed: &'a [FedBytes<'a>],
     /// A bit for each row, lowest first in each byte: a row is valid if its bit is set. All are valid if the bitmap is empty.
     pub validity: &'a [u8],
     /// The bit of the first row.
@@ -62,6 +67,7 @@ pub enum GivenRows<'a> {
     Strings(ByteStrings<'a>),
     Words(&'a str),
     Lines(&'a str),
+    Fed(&'a [FedBytes<'a>]),
 }
 
 /// The items of a valid argument: its valid rows.
@@ -82,6 +88,7 @@ fn rows_with_bits(kind: ItemsKind, items: &ItemsArgument<'_>) -> Option<usize>
         ItemsKind::Offsets => Some(items.offsets.len().saturating_sub(1)),
         ItemsKind::Offsets32 => Some(items.offsets32.len().saturating_sub(1)),
         ItemsKind::Strings => Some(items.strings.len()),
+        ItemsKind::Fed => Some(items.fed.len()),
         _ => None,
     }
 }
@@ -153,6 +160,7 @@ fn given_rows<'a>(kind: ItemsKind, items: &ItemsArgument<'a>) -> Result<GivenRow
             Ok(text) => Ok(GivenRows::Lines(text)),
             Err(_) => Err(refusal_number(Fault::InvalidUtf8)),
         },
+        ItemsKind::Fed => Ok(GivenRows::Fed(items.fed)),
     }
 }
 
@@ -181,6 +189,7 @@ pub(crate) fn num_rows(rows: &GivenRows<'_>) -> usize
         GivenRows::Strings(strings) => strings.len(),
         GivenRows::Words(text) => count_strings(Words::new(text)),
         GivenRows::Lines(text) => count_strings(Lines::new(text)),
+        GivenRows::Fed(items) => items.len(),
     }
 }
 
@@ -272,6 +281,9 @@ macro_rules! on_items {
             }
             $crate::items_argument::GivenRows::Lines(text) => {
                 let rows = sketch_base::Lines::new(text);
+                $crate::items_argument::on_valid!(rows, validity, $sequence => $work)
+            }
+            $crate::items_argument::GivenRows::Fed(rows) => {
                 $crate::items_argument::on_valid!(rows, validity, $sequence => $work)
             }
         }

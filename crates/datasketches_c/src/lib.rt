@@ -15,6 +15,7 @@ mod count_questions;
 mod count_sketches;
 mod count_update;
 mod equality;
+pub mod fed_bytes;
 mod filter;
 mod filter_items;
 mod filter_joins;
