@@ -9,6 +9,7 @@ turns, RUNS times each, and their last results are checked:
 - The bounds of `sketches` must enclose the true numbers. No item that is missing may occur more often than
   the last row's bound.
 - `sketches uniq` must print lines of the exact result in order, and miss at most the share that its note states.
+- `sketches join` must print each line that is a key, in order, and at most twice the share of others that its note states.
 """
 import collections
 import datetime
@@ -163,13 +164,28 @@ def unseen_check(unseen, total):
     """Returns a check that the output has lines of `unseen` in order, and misses at most the share that the note states."""
     def check(output, note):
         lines = output.split(b"\n")[:-1]
-        stated = re.fullmatch(r"sketches: (\d+) lines left out; about 1 in (\d+) new items is taken for a repeated one\n", note)
+        stated = re.fullmatch(r"sketches: (\d+) lines left out; .*: about 1 in (\d+) new items is taken for a repeated one\n", note)
         rest = iter(unseen)
         if not all(line in rest for line in lines):
             wrong("a line is repeated, or out of order")
         missed, allowed = len(unseen) - len(lines), -(-len(unseen) // int(stated[2]))
         if int(stated[1]) != total - len(lines) or missed > allowed:
             wrong(f"{missed} lines are missing, at most {allowed} allowed, and the note has {note.strip()}")
+
+    return check
+
+
+def joined_check(lines, keys):
+    """Returns a check that the output has the lines that are keys, in order, and at most twice the others that the note states."""
+    def check(output, note):
+        printed = output.split(b"\n")[:-1]
+        stated = re.fullmatch(r"sketches: (\d+) lines left out; .*: about 1 in (\d+) other items is taken for a key\n", note)
+        chosen = set(printed)
+        if printed != [line for line in lines if line in keys or line in chosen]:
+            wrong("a key is missing, or a line is out of order")
+        others, allowed = len(chosen - keys), 2 * -(-len(set(lines) - keys) // int(stated[2]))
+        if int(stated[1]) != len(lines) - len(printed) or others > allowed:
+            wrong(f"{others} other lines, at most {allowed} allowed, and the note has {note.strip()}")
 
     return check
 
@@ -229,6 +245,22 @@ def unseen_job():
         Tool("mawk '!seen[$0]++'", ["mawk", "!seen[$0]++", LINES], same_check(unseen)),
         Tool("sort -u, in another order", ["sort", "-u", LINES], same_check(sorted(unseen))),
         Tool("datamash rmdup", shell(f"datamash rmdup 1 <{LINES}"), same_check(unseen)),
+    ], RUNS)
+
+
+def joined_job():
+    """Returns a job for the lines that are in a file of keys, which has every fifth distinct line."""
+    lines = read_lines(LINES)
+    keys = list(dict.fromkeys(lines))[::5]
+    path = f"{OUT}/keys"
+    with open(path, "wb") as file:
+        file.write(b"".join(key + b"\n" for key in keys))
+    known = set(keys)
+    exact = same_check([line for line in lines if line in known])
+    return Job(f"lines in a file of keys, {SIZE} MB", "line", len(lines), [
+        Tool("sketches join --keys", [PROGRAM, "join", "--keys", path, LINES], joined_check(lines, known)),
+        Tool("mawk, keys of an array", ["mawk", "NR == FNR { keys[$0]; next } $0 in keys", path, LINES], exact),
+        Tool("grep -xFf", ["grep", "-xFf", path, LINES], exact),
     ], RUNS)
 
 
@@ -351,7 +383,7 @@ def main():
         lambda: top_job("most frequent lines", LINES, "lines", []),
         lambda: top_job("field 7 of a log", LOG, "7", ["-f", "7"]),
         lambda: top_job("most frequent words", WORDS, "words", ["--words"]),
-        unseen_job, merge_job, empty_job]
+        unseen_job, joined_job, merge_job, empty_job]
     for maker in makers:
         job = maker()
         if job is None:

@@ -28,6 +28,29 @@ def image_of(counts, total=None, error=0, lg_max=12, lg_cur=12):
     return head + weights + b"".join(struct.pack("<I", len(item)) + item for item in counts)
 
 
+def seed_hash(seed):
+    """Returns the low 16 bits of MurmurHash3 x64 128 of a seed as eight bytes, under the seed 0."""
+    mask = 2**64 - 1
+    rotated = lambda x, n: (x << n | x >> 64 - n) & mask
+    mixed = lambda k: rotated(k * 0x87C37B91114253D5 & mask, 31) * 0x4CF5AD432745937F & mask
+
+    def final(k):
+        k = (k ^ k >> 33) * 0xFF51AFD7ED558CCD & mask
+        k = (k ^ k >> 33) * 0xC4CEB9FE1A85EC53 & mask
+        return k ^ k >> 33
+
+    first, second = mixed(seed) ^ 8, 8
+    first = first + second & mask
+    second = second + first & mask
+    return final(first) + final(second) & 0xFFFF
+
+
+def counts_of(hashes, buckets, total, cells, hash=seed_hash(9001)):
+    """Returns the bytes of an image of a Count-Min sketch, as the format states them. It is marked empty if there is no total."""
+    head = struct.pack("<8BIBHB", 2, 1, 18, int(total is None), 0, 0, 0, 0, buckets, hashes, hash, 0)
+    return head + b"".join(struct.pack("<Q", number % 2**64) for number in ([] if total is None else [total, *cells]))
+
+
 class Tests:
     def __init__(self, program, work):
         self.program = os.path.abspath(program)
@@ -335,6 +358,53 @@ class Tests:
                 self.check(f"{which} {words}: some failed", n > 1, n)
         self.check("no other file is left", sorted(os.listdir(self.work)) == files, os.listdir(self.work))
 
+    def shown_counts(self):
+        """Shows images of Count-Min sketches, and images with a fault."""
+        empty = counts_of(2, 3, None, [])
+        signed = counts_of(2, 3, 9, [0, -9, 3, 9, 0, 0])
+        large = counts_of(1, 4, 2**64 - 1, [2**64 - 1, 2**63, 1, 0])
+        for name, image, hashes, buckets, total in [
+            ("no weight", empty, 2, 3, 0),
+            ("weights of both signs", signed, 2, 3, 9),
+            ("weights", counts_of(1, 3, 2**63 - 1, [2**63 - 1, 0, 5]), 1, 3, 2**63 - 1),
+            ("large weights", large, 1, 4, 2**64 - 1),
+            ("many hashes", counts_of(255, 3, 1, [1, 0, 0] * 255), 255, 3, 1),
+        ]:
+            wanted = b"kind\tCount-Min sketch\nhashes\t%d\nbuckets\t%d\ntotal\t%d\n" % (hashes, buckets, total)
+            self.file("image", image)
+            self.check(f"show {name}", self.run("show", "image") == (0, wanted, b""), self.run("show", "image"))
+            self.check(f"show {name} -", self.run("show", "-", data=image) == (0, wanted, b""))
+            for length in range(0, len(image), 1 if len(image) < 100 else 97):
+                self.file("image", image[:length])
+                self.fails(f"show {name} cut to {length}", self.run("show", "image"), b"sketches: image: InsufficientData: insufficient data\n")
+            self.file("image", image + b"\0")
+            self.fails(f"show {name} and a byte", self.run("show", "image"), b"sketches: image: bytes follow the image\n")
+        for name, image, fault in [
+            ("another version", signed[:1] + b"\2" + signed[2:], b"BadVersion: wrong serial version"),
+            ("another preamble", b"\3" + signed[1:], b"BadPreamble: wrong preamble longs"),
+            ("another seed", signed[:13] + b"\1" + signed[14:], b"SeedHashMismatch: seed hashes differ"),
+            ("no hashes", signed[:12] + b"\0" + signed[13:], b"BadNumHashes: num_hashes out of range"),
+            ("two buckets", signed[:8] + b"\2" + signed[9:], b"BadNumBuckets: num_buckets below 3"),
+            ("2^30 cells", signed[:8] + struct.pack("<I", 1 << 29) + signed[12:], b"TableTooLarge: table too large"),
+            ("a cell above the total", counts_of(1, 3, 5, [0, 6, 0]), b"CellAboveTotal: counter exceeds total weight"),
+            ("a cell below the total", counts_of(1, 3, 5, [0, -6, 0]), b"CellAboveTotal: counter exceeds total weight"),
+            ("a large cell above the total", counts_of(1, 3, 2**63, [0, 2**63 + 1, 0]), b"CellAboveTotal: counter exceeds total weight"),
+        ]:
+            self.file("image", image)
+            self.fails(f"show {name}", self.run("show", "image"), b"sketches: image: " + fault + b"\n")
+        wanted = b"kind\tCount-Min sketch\nhashes\t2\nbuckets\t3\ntotal\t9\n"
+        self.file("image", counts_of(2, 3, 9, [0, -9, 3, 9, 0, 0], 0xB2C3))
+        said = b"sketches: image: SeedHashMismatch: seed hashes differ\n"
+        self.fails("show the image of another seed", self.run("show", "image"), said)
+        # the seeds of which DataSketches' hash is 0xB2C3 and 0
+        seeds = {hash: next(n for n in range(1 << 22) if seed_hash(n) == hash) for hash in [0xB2C3, 0]}
+        self.check("show by a seed", self.run("show", "--seed", seeds[0xB2C3], "image") == (0, wanted, b""))
+        said = b"sketches: image: ZeroSeedHash: seed hash is zero\n"
+        self.fails("show by a seed without a hash", self.run("show", "--seed", seeds[0], "image"), said)
+        self.file("image", counts_of(3, 1000, None, []))
+        self.check("show at the limit", self.run("show", "--max-bytes", 24024, "image")[0] == 0)
+        self.fails("show above the limit", self.run("show", "--max-bytes", 24023, "image"), b"sketches: image: TableTooLarge: table too large\n")
+
     def shown(self):
         """Shows images of sketches and of filters, and images with a fault."""
         words = b"".join(struct.pack("<Q", word) for word in [5, 1 << 63, 0])
@@ -362,10 +432,11 @@ class Tests:
             ("no hashes", filled[:4] + b"\0" + filled[5:], b"BadNumHashes: num_hashes out of range"),
             ("no words", filled[:16] + b"\0" + filled[17:], b"BadNumWords: number of words below 1"),
             ("another number of set bits", filled[:24] + b"\2" + filled[25:], b"BadBitCount: wrong number of set bits"),
-            ("a Count-Min sketch", bytes([2, 1, 18, 1]) + bytes(20), b"BadFamily: wrong family"),
+            ("a theta sketch", bytes([2, 1, 3, 1]) + bytes(20), b"BadFamily: wrong family"),
         ]:
             self.file("image", image)
             self.fails(f"show {name}", self.run("show", "image"), b"sketches: image: " + fault + b"\n")
+        self.shown_counts()
         self.file("image", filled)
         said = b"sketches: image: TableTooLarge: table too large\n"
         self.file("large", bytes([3, 1, 21, 4]) + struct.pack("<2HQ2I", 5, 0, 9, 1000, 0))
@@ -383,7 +454,7 @@ class Tests:
         with open(os.path.join(os.path.dirname(TESTS), "crates", "sketches", "README.md")) as file:
             blocks = re.findall(r"(?ms)^```console\n(.*?)^```$", file.read())
         examples = [example for block in blocks for example in re.findall(r"(?m)^\$ (.*)\n((?:[^$\n].*\n)*)", block)]
-        self.check("number of examples", len(examples) == 4, examples)
+        self.check("number of examples", len(examples) >= 6, examples)
         os.mkdir(self.path("page"))
         env = {"PATH": f"{os.path.dirname(self.program)}:/usr/bin:/bin"}
         for command, output in examples:

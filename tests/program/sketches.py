@@ -1,4 +1,4 @@
-"""Runs `sketches top` and `sketches uniq` over generated files, and compares their outputs with exact counts and sets.
+"""Runs `sketches top`, `uniq`, `join` and `weigh` over generated files, and compares their outputs with exact counts and sets.
 
     python3 tests/program/sketches.py [--after 'N passed, M failed'] crates/sketches/out/sketches
 
@@ -12,6 +12,10 @@ import shutil
 import subprocess
 import sys
 import tempfile
+
+from joins import Joins
+from states import States
+from weights import Weights
 
 TESTS = os.path.dirname(os.path.dirname(os.path.abspath(__file__)))
 BLOCK = 1 << 18
@@ -201,8 +205,8 @@ class Tests:
         written, left_out = unseen_of(inputs, items_of, repeated)
         self.check(f"{name}: status", ran[0] == status, ran)
         self.check(f"{name}: lines", ran[1] == written, (ran[1][:200], written[:200]))
-        note = b"sketches: %d lines left out; about 1 in 1000000000000000000 new items is taken for a repeated one\n" % left_out
-        self.check(f"{name}: note", ran[2] == said + note, ran[2])
+        note = rb"sketches: %d lines left out; the filter is [0-3]%% full: about 1 in \d{10,} new items is taken for a repeated one\n" % left_out
+        self.check(f"{name}: note", re.fullmatch(re.escape(said) + note, ran[2]), ran[2])
 
     def uniq_worked(self):
         """Checks unseen lines that are written out by hand."""
@@ -270,9 +274,11 @@ class Tests:
             self.check(f"{name}: status", ran[0] == 0, ran[2])
             self.check(f"{name}: each once, in order", shown == [line for line in lines if line not in left])
             self.check(f"{name}: few are missing", len(left) * questions <= 50000, len(left))
-            found = re.fullmatch(rb"sketches: (\d+) lines left out; about 1 in (\d+) new items is taken for a repeated one\n", ran[2])
+            note = rb"sketches: (\d+) lines left out; the filter is (\d+)% full: about 1 in (\d+) new items is taken for a repeated one\n"
+            found = re.fullmatch(note, ran[2])
             self.check(f"{name}: note", found and int(found[1]) == 50000 + len(left), ran[2])
-            self.check(f"{name}: rate", 0.9 * questions <= int(found[2]) <= 2 * questions, ran[2])
+            self.check(f"{name}: full", 40 <= int(found[2]) <= (80 if questions == 2 else 60), ran[2])
+            self.check(f"{name}: rate", 0.9 * questions <= int(found[3]) <= 2 * questions, ran[2])
 
     def uniq_statuses(self):
         """Checks files that cannot be read, wrong use, and devices and calls that fail."""
@@ -282,7 +288,7 @@ class Tests:
         self.is_unseen("uniq of two files", self.run(["uniq", "one", "two"]), [b"a\nb", b"b\nc\n"], whole)
         absent = b"sketches: none: No such file or directory (os error 2)\n"
         self.is_unseen("uniq of an absent file", self.run(["uniq", "none", "two"]), [b"b\nc\n"], whole, status=1, said=absent)
-        bad = b"sketches: --items must be at least 1, --false-positives at least 2, and the filter at most 2^37 bits\n"
+        bad = b"sketches: --items must be at least 1, --false-positives at least 2, --bits from 1 to 2^37 - 64, and --hashes from 1 to 32767\n"
         for words in [["--items", "0"], ["--false-positives", "0"], ["--false-positives", "1"], ["--items", str(2**64 - 1)]]:
             ran = self.run(["uniq", *words], b"a\n")
             self.check(f"uniq {words}", ran[:3] == (2, b"", bad), ran)
@@ -486,6 +492,9 @@ def main():
         tests.uniq_cuts()
         tests.uniq_false_positives()
         tests.uniq_statuses()
+        Joins(tests, SELECTIONS, PIECES, raw_lines_of).run()
+        Weights(tests, SELECTIONS, PIECES, raw_lines_of).run()
+        States(tests, PIECES, raw_lines_of).run()
     print(f"{before[0] + tests.passed} passed, {before[1] + tests.failed} failed")
     sys.exit(1 if before[1] + tests.failed else 0)
 

@@ -7,6 +7,7 @@ use Rattle.std.specs.Str.Lines.{lines}
 use Rattle.sketch_base.specs.Strings.{strings_at}
 use Rattle.sketch_bloom.specs.State.{FilterState, all_inserted, answers_in_turn, contains_item, inserted}
 use Rattle.sketches.specs.Items.{part_of}
+use Rattle.sketches.specs.Joined.{joined_lines}
 use Rattle.sketches.specs.RawLines.{raw_lines}
 use Rattle.sketches.specs.Unseen.{AreNextLines, hashed, is_seen, item_of, unseen_lines, with_items, with_lines, written_by, written_of}
 use Rattle.sketches.specs.UnseenLaws.{items_both}
@@ -72,6 +73,18 @@ batch repeated part filter (raw ∷ raws) (item ∷ items) e =
       filter_is =
           items_both filter (item_of part raw) (flat_map (item_of part) raws) ∙ (ap (λ (s : FilterState). with_lines part s raws) next ∙ b.filter_is);
     }
+
+-- what is written of a batch if its items are only looked up
+pub joined_batch : (wanted : Bool) (part : Part) (filter : FilterState) (raws items : List (List ℕ)) → map (item_of part) raws ≡ map (λ (x : List ℕ). x ∷ []) items
+    → joined_lines wanted part filter raws ≡ written_by wanted (map (contains_item filter) (map hashed items)) raws
+joined_batch wanted part filter [] [] e = refl
+joined_batch wanted part filter [] (y ∷ items) e = cc
+joined_batch wanted part filter (raw ∷ raws) [] e = cc
+joined_batch wanted part filter (raw ∷ raws) (item ∷ items) e =
+    let one : item_of part raw ≡ item ∷ [] = same_head _ _ _ _ e in
+    let seen : is_seen filter (item_of part raw) ≡ contains_item filter (hashed item) = ap (is_seen filter) one ∙ or_false (contains_item filter (hashed item)) in
+    ap (λ (t : Bool). written_of wanted t raw ++ joined_lines wanted part filter raws) seen
+    ∙ ap (λ l. written_of wanted (contains_item filter (hashed item)) raw ++ l) (joined_batch wanted part filter raws items (same_tail _ _ _ _ e))
 
 -- ---- one line after another
 

@@ -1,16 +1,22 @@
 -- Lemmas.
 pub mod AddedItems
 pub mod Batching
+pub mod Begun
 pub mod Choosing
 pub mod Counted
-pub mod Fields
 pub mod ImageBytes
+pub mod JoinedInputs
+pub mod ItemWeights
+pub mod KeyWeights
 pub mod Merged
+pub mod Numbers
 pub mod RawSplits
-pub mod RawWords
 pub mod ReadInputs
 pub mod ReadLines
 pub mod Reported
+pub mod Results
 pub mod Saved
-pub mod Words
+pub mod TakenBatches
+pub mod WeighedLines
+pub mod Shares
 pub mod Written

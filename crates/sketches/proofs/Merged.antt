@@ -6,9 +6,11 @@ use Rattle.std.proofs.lemmas.List.{map-append}
 use Rattle.std.proofs.lemmas.List.Concat.{flat_map-append}
 use Rattle.std.proofs.lemmas.List.Sums.{sum_by-append, sum_by-cons}
 use Rattle.std.specs.List.{AllZip, Any}
+use Rattle.std.specs.Global.{Global}
 use Rattle.std.specs.Option.{IfSome}
 use Rattle.std.specs.Str.{bytes_eq}
 use Rattle.std.specs.String.{string_bytes, string_eq}
+use Rattle.std.specs.declared.string.String.{String}
 use Rattle.sketch_frequencies.specs.History.{true_weight, total_weight}
 use Rattle.sketch_frequencies.specs.History.FrequentHistory.{Merge, Restored}
 use Rattle.sketch_frequencies.specs.Image.{prefix_bytes}
@@ -21,13 +23,13 @@ use Rattle.sketch_frequencies.proofs.KeyedBatches.{all_zip_push}
 use Rattle.sketches.specs.Added.{Sketch}
 use Rattle.sketches.specs.ImageFailures.{EndsAdding, EndsMerge, IsBadImage, IsRejected, IsUnread, fault_within}
 use Rattle.sketches.specs.Images.{HasItems, IsImageOfItems, IsOpened, Loads, Merges, OpensImage, all_items, total_in}
-use Rattle.sketches.specs.Reports.{occurrences}
+use Rattle.sketches.specs.Weighed.{Weighed, weight_of}
 use Rattle.sketches.specs.declared.images.ImageFailure.{ImageFailure}
 use Rattle.sketches.specs.declared.images.ImageFailure.TheVariants.{Memory, NoImage, Read, TooLong, Rejected, TrailingBytes, TooManyItems, Write}
 
 -- ---- the items of a sketch
 
-loaded_items : (size limit : ℕ) (image : List ℕ) (items : List (List ℕ)) (s : Sketch) → Loads limit image s → IsImageOfItems size image items → HasItems size items s
+loaded_items : (size limit : ℕ) (image : List ℕ) (items : Weighed) (s : Sketch) → Loads limit image s → IsImageOfItems size image items → HasItems size items s
 loaded_items size limit image items s l of = record {
   strings = of.has.strings;
   are = of.has.are;
@@ -40,20 +42,23 @@ loaded_items size limit image items s l of = record {
   sample = of.has.sample;
 }
 
-occurrences_both : (a b : List (List ℕ)) (item : List ℕ) → occurrences (a ++ b) item ≡ occurrences a item + occurrences b item
-occurrences_both a b item = sum_by-append (λ (other : List ℕ). cond (bytes_eq other item) 1 0) a b
+weight_both : (a b : Weighed) (item : List ℕ) → weight_of (a ++ b) item ≡ weight_of a item + weight_of b item
+weight_both a b item = sum_by-append (λ (pair : List ℕ × ℕ). cond (bytes_eq pair.0 item) pair.1 0) a b
 
-merged_items : (size : ℕ) (a b : List (List ℕ)) (s t new : Sketch) → HasItems size a s → HasItems size b t → ExtendsBoth string_eq s t new Merge → ExtendsBothBudgets string_eq s t new Merge → HasItems size (a ++ b) new
+abbrev named : String Global × ℕ → List ℕ × ℕ
+named pair = (string_bytes pair.0, pair.1)
+
+merged_items : (size : ℕ) (a b : Weighed) (s t new : Sketch) → HasItems size a s → HasItems size b t → ExtendsBoth string_eq s t new Merge → ExtendsBothBudgets string_eq s t new Merge → HasItems size (a ++ b) new
 merged_items size a b s t new p q stands budget = record {
   strings = p.strings ++ q.strings;
-  are = map-append string_bytes p.strings q.strings ∙ (ap (λ l. l ++ map string_bytes q.strings) p.are ∙ ap (λ l. a ++ l) q.are);
+  are = map-append named p.strings q.strings ∙ (ap (λ (l : Weighed). l ++ map named q.strings) p.are ∙ ap (λ (l : Weighed). a ++ l) q.are);
   history = Merge p.history q.history;
   stands = stands p.history q.history p.stands q.stands;
   budget = budget p.history q.history p.stands q.stands p.budget q.budget;
   weights = λ x.
       let both : true_weight string_eq (Merge p.history q.history) x ≡ true_weight string_eq p.history x + true_weight string_eq q.history x = refl in
-      omega (arith, both, p.weights x, q.weights x, occurrences_both a b (string_bytes x));
-  total = let both : total_weight (Merge p.history q.history) ≡ total_weight p.history + total_weight q.history = refl in omega (arith, both, p.total, q.total, length-append a b);
+      omega (arith, both, p.weights x, q.weights x, weight_both a b (string_bytes x));
+  total = let both : total_weight (Merge p.history q.history) ≡ total_weight p.history + total_weight q.history = refl in omega (arith, both, p.total, q.total, sum_by-append (λ (pair : List ℕ × ℕ). pair.1) a b);
   table = omega (arith, p.table, q.table);
   sample = omega (arith, p.sample, q.sample);
 }
@@ -81,8 +86,8 @@ no_front : {A B : Type 0} (R : A → B → Type 0) (zs : List B) → AllZip R []
 no_front R [] all = refl
 no_front R (z ∷ zs) all = absurd all
 
-all_more : (lists : List (List (List ℕ))) (items : List (List ℕ)) → all_items (lists ++ items ∷ []) ≡ all_items lists ++ items
-all_more lists items = flat_map-append (λ (l : List (List ℕ)). l) lists (items ∷ []) ∙ ap (λ l. all_items lists ++ l) (append-nil items)
+all_more : (lists : List Weighed) (items : Weighed) → all_items (lists ++ items ∷ []) ≡ all_items lists ++ items
+all_more lists items = flat_map-append (λ (l : Weighed). l) lists (items ∷ []) ∙ ap (λ (l : Weighed). all_items lists ++ l) (append-nil items)
 
 total_both : (xs ys : List (List ℕ)) → sum_by total_in (xs ++ ys) ≡ sum_by total_in xs + sum_by total_in ys
 total_both xs ys = sum_by-append total_in xs ys
@@ -119,8 +124,8 @@ merges_one limit image s l = record {
   items = λ size lists all.
       let ends = ends_in (IsImageOfItems size) [] image lists all in
       let none : ends.front ≡ [] = no_front (IsImageOfItems size) ends.front ends.all in
-      let is : all_items lists ≡ ends.last = ap all_items ends.parts ∙ (all_more ends.front ends.last ∙ ap (λ l. all_items l ++ ends.last) none) in
-      subst (λ items. HasItems size items s) (sym is) (loaded_items size limit image ends.last s l ends.one);
+      let is : all_items lists ≡ ends.last = ap all_items ends.parts ∙ (all_more ends.front ends.last ∙ ap (λ (l : List Weighed). all_items l ++ ends.last) none) in
+      subst (λ (items : Weighed). HasItems size items s) (sym is) (loaded_items size limit image ends.last s l ends.one);
 }
 
 merges_more : (limit : ℕ) (done : List (List ℕ)) (image : List ℕ) (mid other new : Sketch) → Merges limit done mid → Loads limit image other → JoinsEqual string_eq mid other new → ExtendsBoth string_eq mid other new Merge → ExtendsBothBudgets string_eq mid other new Merge → IsState string_eq new → Merges limit (done ++ image ∷ []) new
@@ -134,7 +139,7 @@ merges_more limit done image mid other new so l join stands budget state = recor
   items = λ size lists all.
       let ends = ends_in (IsImageOfItems size) done image lists all in
       let is : all_items lists ≡ all_items ends.front ++ ends.last = ap all_items ends.parts ∙ all_more ends.front ends.last in
-      subst (λ items. HasItems size items new) (sym is)
+      subst (λ (items : Weighed). HasItems size items new) (sym is)
       (merged_items size (all_items ends.front) ends.last mid other new (so.items size ends.front ends.all) (loaded_items size limit image ends.last other l ends.one) stands budget);
 }
 

@@ -36,13 +36,13 @@ module _ {S : Type 0} (takes : S → List ℕ → S → Type 0) where
   inputs_none (Some inputs) old = (inputs, refl, record { done = []; read = []; parts = refl; are = record { fronts = tt; whole = λ _. refl }; taken = refl })
 
   -- what was read of one input
-  record IsTaken (bytes : List ℕ) (whole : Type 0) (mid new : S) : Type 0 where
-    got : List ℕ
-    front : AreFirstLines bytes got
-    same : whole → got ≡ bytes
-    taken : takes mid got new
+  pub record IsTaken (bytes : List ℕ) (whole : Type 0) (mid new : S) : Type 0 where
+    pub got : List ℕ
+    pub front : AreFirstLines bytes got
+    pub same : whole → got ≡ bytes
+    pub taken : takes mid got new
 
-  taken_one : {E : Type 0} (bytes : List ℕ) (failure : Option E) (mid new : S) → TakesInput takes (Some bytes) failure mid new → IsTaken bytes (failure ≡ None) mid new
+  pub taken_one : {E : Type 0} (bytes : List ℕ) (failure : Option E) (mid new : S) → TakesInput takes (Some bytes) failure mid new → IsTaken bytes (failure ≡ None) mid new
   taken_one bytes None mid new taken = record { got = bytes; front = ([], sym (append-nil bytes), λ some. absurd (omega arith)); same = λ _. refl; taken = taken }
   taken_one bytes (Some error) mid new taken = record { got = taken.0; front = taken.1; same = λ e. absurd (some_is_not_none error e); taken = taken.2 }
 

@@ -1,7 +1,7 @@
 -- What a report of a sketch shows of the items that were added to it.
-use Rattle.std.proofs.Common.{◌≡◌, ◌⊎◌, inl, inr, ⊎_elim, ℕ, zero, suc, ◌+◌, ◌*◌, ◌<◌, ◌≤◌, ◌||◌, max, min, Bool, true, false, cond, List, [], ◌∷◌, length, map, take, get_or, Option, None, Some, refl, sym, ◌∙◌, ap, subst, arith}
+use Rattle.std.proofs.Common.{◌≡◌, ◌⊎◌, ◌↔◌, inl, inr, ⊎_elim, ℕ, zero, suc, ◌+◌, ◌*◌, ◌<◌, ◌≤◌, ◌||◌, max, min, Bool, true, false, cond, List, [], ◌∷◌, length, map, take, get_or, Option, None, Some, refl, sym, ◌∙◌, ap, subst, arith}
 use Rattle.std.proofs.lemmas.Bool.{cases_lt, ltb-true}
-use Rattle.std.proofs.lemmas.List.{get_or-take, get_or_default, length-take, length-map}
+use Rattle.std.proofs.lemmas.List.{get_or-take, get_or_default, length-take}
 use Rattle.std.proofs.lemmas.List.Sums.{sum_by-cons}
 use Rattle.std.proofs.lemmas.List.Elements.{All-take}
 use Rattle.std.proofs.lemmas.List.Folds.{Any-from_list_any, list_any_at}
@@ -14,63 +14,65 @@ use Rattle.std.specs.Str.{bytes_eq}
 use Rattle.std.specs.String.{string_bytes, string_eq}
 use Rattle.std.specs.declared.string.String.{String}
 use Rattle.counter_table.specs.Tables.{count_of}
-use Rattle.sketch_frequencies.specs.Batches.{all_updated}
 use Rattle.sketch_frequencies.specs.History.{FrequentHistory, true_weight, total_weight, min_sample, min_size, budget_size}
 use Rattle.sketch_frequencies.specs.History.FrequentHistory.{New, Update}
 use Rattle.sketch_frequencies.specs.Rows.{Descends, MissesNone, Shows, ShowsExactly}
 use Rattle.sketch_frequencies.specs.Stands.{Encloses as Represents, KeepsTailBudget, StandsFor}
 use Rattle.sketch_frequencies.specs.State.{capacity, max_sample_size}
 use Rattle.sketch_frequencies.specs.SuggestedSizes.{usual_budget}
+use Rattle.sketch_frequencies.specs.WeightedBatches.{all_weighed}
 use Rattle.sketch_frequencies.specs.declared.error_type.ErrorType.TheVariants.{NoFalseNegatives}
 use Rattle.sketch_frequencies.proofs.SuggestedSizes.{error_by_budget}
-use Rattle.sketches.specs.Added.{Sketch, AddsStrings}
+use Rattle.sketches.specs.Added.{Sketch, AddsWeighed}
 use Rattle.sketches.specs.Images.{HasItems, KeepsItems, Merges, ReportsItems, WritesMerge, all_items}
 use Rattle.sketches.specs.Inputs.{AreRead}
-use Rattle.sketches.specs.Items.{items_of}
-use Rattle.sketches.specs.Reports.{Row, Encloses, HasAll, IsListed, Reports, ShowsTop, WritesReport, occurrences, report_text}
+use Rattle.sketches.specs.Reports.{Row, Encloses, HasAll, IsListed, Reports, ShowsTop, WritesReport, report_text}
+use Rattle.sketches.specs.Thresholds.{IsAbove}
+use Rattle.sketches.specs.Weighed.{Weighed, total_of, weight_of, weighed_of}
 use Rattle.sketches.specs.declared.merge.MergeOptions.{MergeOptions}
+use Rattle.sketches.specs.declared.threshold.Threshold.{Threshold}
 use Rattle.sketches.specs.declared.top.Options.{Options}
 use Rattle.sketches.proofs.Counted.{CountsInputs}
 
--- ---- weights are occurrences
+-- ---- the weights of a history
 
-one_more : (items : List (List ℕ)) (first item : List ℕ) → occurrences (first ∷ items) item ≡ cond (bytes_eq first item) 1 0 + occurrences items item
-one_more items first item = sum_by-cons (λ (other : List ℕ). cond (bytes_eq other item) 1 0) first items
+abbrev named : String Global × ℕ → List ℕ × ℕ
+named pair = (string_bytes pair.0, pair.1)
 
-weight_of : (h : FrequentHistory (String Global)) (items : List (String Global)) (x : String Global) → true_weight string_eq (all_updated h items) x ≡ true_weight string_eq h x + occurrences (map string_bytes items) (string_bytes x)
-weight_of h [] x = omega arith
-weight_of h (y ∷ ys) x = omega (arith, weight_of (Update h y 1) ys x, one_more (map string_bytes ys) (string_bytes y) (string_bytes x))
+one_more : (items : Weighed) (first : List ℕ × ℕ) (item : List ℕ) → weight_of (first ∷ items) item ≡ cond (bytes_eq first.0 item) first.1 0 + weight_of items item
+one_more items first item = sum_by-cons (λ (pair : List ℕ × ℕ). cond (bytes_eq pair.0 item) pair.1 0) first items
 
-total_of : (h : FrequentHistory (String Global)) (items : List (String Global)) → total_weight (all_updated h items) ≡ total_weight h + length items
-total_of h [] = omega arith
-total_of h (y ∷ ys) = omega (arith, total_of (Update h y 1) ys)
+weight_in_history : (h : FrequentHistory (String Global)) (items : List (String Global × ℕ)) (x : String Global) → true_weight string_eq (all_weighed h items) x ≡ true_weight string_eq h x + weight_of (map named items) (string_bytes x)
+weight_in_history h [] x = omega arith
+weight_in_history h (y ∷ ys) x = omega (arith, weight_in_history (Update h y.0 y.1) ys x, one_more (map named ys) (named y) (string_bytes x))
 
-sample_of : (h : FrequentHistory (String Global)) (items : List (String Global)) → min_sample (all_updated h items) ≡ min_sample h
+total_in_history : (h : FrequentHistory (String Global)) (items : List (String Global × ℕ)) → total_weight (all_weighed h items) ≡ total_weight h + total_of (map named items)
+total_in_history h [] = omega arith
+total_in_history h (y ∷ ys) = omega (arith, total_in_history (Update h y.0 y.1) ys, sum_by-cons (λ (pair : List ℕ × ℕ). pair.1) (named y) (map named ys))
+
+sample_of : (h : FrequentHistory (String Global)) (items : List (String Global × ℕ)) → min_sample (all_weighed h items) ≡ min_sample h
 sample_of h [] = refl
-sample_of h (y ∷ ys) = sample_of (Update h y 1) ys
+sample_of h (y ∷ ys) = sample_of (Update h y.0 y.1) ys
 
-size_of : (h : FrequentHistory (String Global)) (items : List (String Global)) → min_size (all_updated h items) ≡ min_size h
+size_of : (h : FrequentHistory (String Global)) (items : List (String Global × ℕ)) → min_size (all_weighed h items) ≡ min_size h
 size_of h [] = refl
-size_of h (y ∷ ys) = size_of (Update h y 1) ys
+size_of h (y ∷ ys) = size_of (Update h y.0 y.1) ys
 
-abbrev hit : Bool → ℕ
-hit b = cond b 1 0
+occurring_first : (y : String Global) (weight : ℕ) (item : List ℕ) (b : Bool) → bytes_eq (string_bytes y) item ≡ b → (cond (bytes_eq (string_bytes y) item) weight 0 ≡ 0 → (x : String Global) × (string_bytes x ≡ item)) → (x : String Global) × (string_bytes x ≡ item)
+occurring_first y weight item true e later = (y, (bytes_decides (string_bytes y) item).0 e)
+occurring_first y weight item false e later = later (ap (λ (b : Bool). cond b weight 0) e)
 
-occurring_first : (y : String Global) (item : List ℕ) (b : Bool) → bytes_eq (string_bytes y) item ≡ b → (hit (bytes_eq (string_bytes y) item) ≡ 0 → (x : String Global) × (string_bytes x ≡ item)) → (x : String Global) × (string_bytes x ≡ item)
-occurring_first y item true e later = (y, (bytes_decides (string_bytes y) item).0 e)
-occurring_first y item false e later = later (ap hit e)
-
--- an item that occurs is that of a string
-occurring : (items : List (String Global)) (item : List ℕ) → 0 < occurrences (map string_bytes items) item → (x : String Global) × (string_bytes x ≡ item)
+-- an item of a weight above 0 is that of a string
+occurring : (items : List (String Global × ℕ)) (item : List ℕ) → 0 < weight_of (map named items) item → (x : String Global) × (string_bytes x ≡ item)
 occurring [] item some = absurd (let none : 0 < 0 = some in omega (arith, none))
-occurring (y ∷ ys) item some = occurring_first y item (bytes_eq (string_bytes y) item) refl (λ none. occurring ys item (omega (arith, some, none, one_more (map string_bytes ys) (string_bytes y) item)))
+occurring (y ∷ ys) item some = occurring_first y.0 y.1 item (bytes_eq (string_bytes y.0) item) refl (λ none. occurring ys item (omega (arith, some, none, one_more (map named ys) (named y) item)))
 
 -- ---- few items
 
-record HasStrings (items : List (String Global)) (list : List (List ℕ)) : Type 0 where
+record HasStrings (items : List (String Global × ℕ)) (list : List (List ℕ)) : Type 0 where
   strings : List (String Global)
   few : length strings ≤ length list
-  cover : (x : String Global) → 0 < occurrences (map string_bytes items) (string_bytes x) → list_any (bytes_eq (string_bytes x)) list ≡ true → list_any (string_eq x) strings ≡ true
+  cover : (x : String Global) → 0 < weight_of (map named items) (string_bytes x) → list_any (bytes_eq (string_bytes x)) list ≡ true → list_any (string_eq x) strings ≡ true
 
 either_more : (t u v : Bool) → (u ≡ true → v ≡ true) → (t || u) ≡ true → (t || v) ≡ true
 either_more true u v f e = refl
@@ -80,8 +82,8 @@ second : (t u : Bool) → (t ≡ true → ⊥) → (t || u) ≡ true → u ≡ t
 second true u none e = absurd (none refl)
 second false u none e = e
 
--- the items of a list that occur, as strings
-strings_among : (items : List (String Global)) (list : List (List ℕ)) → HasStrings items list
+-- the items of a list that have a weight above 0, as strings
+strings_among : (items : List (String Global × ℕ)) (list : List (List ℕ)) → HasStrings items list
 strings_among items [] = record { strings = []; few = omega arith; cover = λ x some any. any }
 strings_among items (first ∷ list) =
     let r = strings_among items list in
@@ -101,9 +103,9 @@ strings_among items (first ∷ list) =
       cover = λ y here any.
           r.cover y here
           (second (bytes_eq (string_bytes y) first) (list_any (bytes_eq (string_bytes y)) list)
-          (λ t. omega (arith, here, none, ap (occurrences (map string_bytes items)) ((bytes_decides (string_bytes y) first).0 t))) any);
+          (λ t. omega (arith, here, none, ap (weight_of (map named items)) ((bytes_decides (string_bytes y) first).0 t))) any);
     })
-    (cases_lt 0 (occurrences (map string_bytes items) first))
+    (cases_lt 0 (weight_of (map named items) first))
 
 -- ---- the first rows
 
@@ -120,19 +122,19 @@ distinct_of_first (suc n) (row ∷ rows) d = (distinct_from n row rows d.0, dist
 
 -- ---- a report
 
-module _ (items : List (String Global)) (m : ℕ) (s : Sketch) (h : FrequentHistory (String Global)) (so : Represents string_eq s h)
-    (weight : (x : String Global) → true_weight string_eq h x ≡ occurrences (map string_bytes items) (string_bytes x))
-    (total : total_weight h ≡ length (map string_bytes items)) (table : m ≤ min_size h) (sample : max_sample_size m ≤ min_sample h) where
-  row_encloses : (row : Row) → Shows string_eq NoFalseNegatives 0 s row → Encloses (map string_bytes items) row
+module _ (items : List (String Global × ℕ)) (m : ℕ) (s : Sketch) (h : FrequentHistory (String Global)) (so : Represents string_eq s h)
+    (weight : (x : String Global) → true_weight string_eq h x ≡ weight_of (map named items) (string_bytes x))
+    (total : total_weight h ≡ total_of (map named items)) (table : m ≤ min_size h) (sample : max_sample_size m ≤ min_sample h) (threshold : Threshold) (floor : ℕ) (floor_is : (n : ℕ) → IsAbove threshold (total_of (map named items)) n ↔ (floor < n)) where
+  row_encloses : (row : Row) → Shows string_eq NoFalseNegatives floor s row → Encloses (map named items) row
   row_encloses row shows = (
     omega (arith, shows.lower_bound, so.at_least row.item, weight row.item),
     omega (arith, shows.upper_bound, so.at_most row.item, weight row.item),
   )
 
-  upper_is_estimate : (row : Row) → Shows string_eq NoFalseNegatives 0 s row → row.estimate ≡ row.upper_bound
+  upper_is_estimate : (row : Row) → Shows string_eq NoFalseNegatives floor s row → row.estimate ≡ row.upper_bound
   upper_is_estimate row shows = shows.estimate ∙ (ap (λ (b : Bool). cond b (count_of string_eq s.counters row.item + s.error) 0) shows.tracked ∙ sym shows.upper_bound)
 
-  descending : (n : ℕ) (rows : List Row) → ShowsExactly string_eq NoFalseNegatives 0 s rows → Descends rows → AllPairs (λ (earlier later : Row). later.upper_bound ≤ earlier.upper_bound) (take n rows)
+  descending : (n : ℕ) (rows : List Row) → ShowsExactly string_eq NoFalseNegatives floor s rows → Descends rows → AllPairs (λ (earlier later : Row). later.upper_bound ≤ earlier.upper_bound) (take n rows)
   descending n rows exact d i j none less within =
       let len : length (take n rows) ≡ min n (length rows) = length-take n rows in
       let a : get_or (take n rows) i none ≡ get_or rows i none = get_or-take n rows i none (omega (arith, len)) in
@@ -142,19 +144,22 @@ module _ (items : List (String Global)) (m : ℕ) (s : Sketch) (h : FrequentHist
       let later = upper_is_estimate (get_or rows j none) (exact.shown j none (omega (arith, len))) in
       rw (a, b) (omega (arith, order, earlier, later))
 
-  row_occurs : (row : Row) → Shows string_eq NoFalseNegatives 0 s row → 0 < row.lower_bound
+  row_occurs : (row : Row) → Shows string_eq NoFalseNegatives floor s row → 0 < row.lower_bound
   row_occurs row shows = omega (arith, ltb-true _ _ shows.passing, shows.lower_bound)
 
-  lighter : (x : String Global) (row row' above above' : Row) → row' ≡ row → above' ≡ above → string_bytes x ≡ string_bytes row.item → row'.estimate ≤ above.estimate → Shows string_eq NoFalseNegatives 0 s row → Shows string_eq NoFalseNegatives 0 s above
-      → occurrences (map string_bytes items) (string_bytes x) ≤ above'.upper_bound
+  row_above : (row : Row) → Shows string_eq NoFalseNegatives floor s row → IsAbove threshold (total_of (map named items)) row.upper_bound
+  row_above row shows = (floor_is row.upper_bound).1 (omega (arith, ltb-true _ _ shows.passing, shows.upper_bound))
+
+  lighter : (x : String Global) (row row' above above' : Row) → row' ≡ row → above' ≡ above → string_bytes x ≡ string_bytes row.item → row'.estimate ≤ above.estimate → Shows string_eq NoFalseNegatives floor s row → Shows string_eq NoFalseNegatives floor s above
+      → weight_of (map named items) (string_bytes x) ≤ above'.upper_bound
   lighter x row row' above above' e f bytes order shown shown_above =
       let a : row'.estimate ≡ row.estimate = ap (λ (r : Row). r.estimate) e in
       let b : above'.upper_bound ≡ above.upper_bound = ap (λ (r : Row). r.upper_bound) f in
-      let c : occurrences (map string_bytes items) (string_bytes x) ≡ occurrences (map string_bytes items) (string_bytes row.item) = ap (occurrences (map string_bytes items)) bytes in
+      let c : weight_of (map named items) (string_bytes x) ≡ weight_of (map named items) (string_bytes row.item) = ap (weight_of (map named items)) bytes in
       omega (arith, order, a, b, c, (row_encloses row shown).1, upper_is_estimate row shown, upper_is_estimate above shown_above)
 
-  listed_or_lighter : (top n : ℕ) (rows : List Row) → n ≡ min top (length rows) → ShowsExactly string_eq NoFalseNegatives 0 s rows → Descends rows → (x : String Global) → list_any (λ (row : Row). string_eq x row.item) rows ≡ true
-      → IsListed (take n rows) (string_bytes x) ⊎ ((length (take n rows) ≡ top) × All (λ (row : Row). occurrences (map string_bytes items) (string_bytes x) ≤ row.upper_bound) (take n rows))
+  listed_or_lighter : (top n : ℕ) (rows : List Row) → n ≡ min top (length rows) → ShowsExactly string_eq NoFalseNegatives floor s rows → Descends rows → (x : String Global) → list_any (λ (row : Row). string_eq x row.item) rows ≡ true
+      → IsListed (take n rows) (string_bytes x) ⊎ ((length (take n rows) ≡ top) × All (λ (row : Row). weight_of (map named items) (string_bytes x) ≤ row.upper_bound) (take n rows))
   listed_or_lighter top n rows is exact descends x any =
       let (k, row, less, here, same) = Any-from_list_any (λ (row : Row). string_eq x row.item) rows any in
       let len : length (take n rows) ≡ min n (length rows) = length-take n rows in
@@ -166,92 +171,94 @@ module _ (items : List (String Global)) (m : ℕ) (s : Sketch) (h : FrequentHist
         λ j none within.
             let at : get_or (take n rows) j none ≡ get_or rows j none = get_or-take n rows j none (omega (arith, len)) in
             let whole : get_or rows j none ≡ get_or rows j row = get_or_default rows j none row (omega (arith, len)) in
-            let shown_row : Shows string_eq NoFalseNegatives 0 s row = subst (Shows string_eq NoFalseNegatives 0 s) here (exact.shown k row less) in
-            let shown_at : Shows string_eq NoFalseNegatives 0 s (get_or rows j row) = exact.shown j row (omega (arith, len)) in
+            let shown_row : Shows string_eq NoFalseNegatives floor s row = subst (Shows string_eq NoFalseNegatives floor s) here (exact.shown k row less) in
+            let shown_at : Shows string_eq NoFalseNegatives floor s (get_or rows j row) = exact.shown j row (omega (arith, len)) in
             let order : (get_or rows k row).estimate ≤ (get_or rows j row).estimate = descends j k row (omega (arith, len)) less in
             let bytes : string_bytes x ≡ string_bytes row.item = (bytes_decides (string_bytes x) (string_bytes row.item)).0 same in
             lighter x row (get_or rows k row) (get_or rows j row) (get_or (take n rows) j none) here (at ∙ whole) bytes order shown_row shown_at,
       ))
       (cases_lt k n)
 
-  error_share : KeepsTailBudget string_eq s h → usual_budget m * s.error ≤ length (map string_bytes items)
+  error_share : KeepsTailBudget string_eq s h → usual_budget m * s.error ≤ total_of (map named items)
   error_share keeps =
       let few : usual_budget m ≤ budget_size h = omega (arith, sample) in
       let bound : usual_budget m * s.error ≤ total_weight h = error_by_budget string_eq s h (usual_budget m) so keeps few in
       omega (arith, bound, total)
 
-  error_exact : (distinct : List (List ℕ)) → length distinct ≤ capacity m → HasAll distinct (map string_bytes items) → s.error ≡ 0
+  error_exact : (distinct : List (List ℕ)) → length distinct ≤ capacity m → HasAll distinct (map named items) → s.error ≡ 0
   error_exact distinct fit all =
       let r = strings_among items distinct in
       so.exact (record {
         items = r.strings;
         fit = omega (arith, r.few, fit, table);
         cover = λ x some.
-            let here : 0 < occurrences (map string_bytes items) (string_bytes x) = omega (arith, some, weight x) in
+            let here : 0 < weight_of (map named items) (string_bytes x) = omega (arith, some, weight x) in
             r.cover x here (all (string_bytes x) here);
       })
 
-  pub reports : KeepsTailBudget string_eq s h → (top n : ℕ) (rows : List Row) → n ≡ min top (length rows) → ShowsExactly string_eq NoFalseNegatives 0 s rows → Descends rows → MissesNone string_eq 0 s rows → Reports (map string_bytes items) m top s.error (take n rows)
+  pub reports : KeepsTailBudget string_eq s h → (top n : ℕ) (rows : List Row) → n ≡ min top (length rows) → ShowsExactly string_eq NoFalseNegatives floor s rows → Descends rows → MissesNone string_eq floor s rows → Reports (map named items) m threshold top s.error (take n rows)
   reports keeps top n rows is exact descends misses = record {
     few = let len : length (take n rows) ≡ min n (length rows) = length-take n rows in omega (arith, len, is);
-    enclosed = All-take (Encloses (map string_bytes items)) n rows (λ k d less. row_encloses _ (exact.shown k d less));
+    enclosed = All-take (Encloses (map named items)) n rows (λ k d less. row_encloses _ (exact.shown k d less));
     width = All-take (λ (row : Row). row.upper_bound ≡ row.lower_bound + s.error) n rows (λ k d less. omega (arith, (exact.shown k d less).upper_bound, (exact.shown k d less).lower_bound));
+    above = All-take (λ (row : Row). IsAbove threshold (total_of (map named items)) row.upper_bound) n rows (λ k d less. row_above _ (exact.shown k d less));
     once = distinct_of_first n rows exact.once;
     occurring = All-take (λ (row : Row). 0 < row.lower_bound) n rows (λ k d less. row_occurs _ (exact.shown k d less));
     descends = descending n rows exact descends;
-    missing = λ item more.
+    missing = λ item more above.
         let (x, is_item) = occurring items item (omega (arith, more)) in
-        let heavy : max 0 s.error < true_weight string_eq h x = (let c : occurrences (map string_bytes items) (string_bytes x) ≡ occurrences (map string_bytes items) item = ap (occurrences (map string_bytes items)) is_item in omega (arith, more, c, weight x)) in
-        subst (λ (t : List ℕ). IsListed (take n rows) t ⊎ ((length (take n rows) ≡ top) × All (λ (row : Row). occurrences (map string_bytes items) t ≤ row.upper_bound) (take n rows))) is_item
+        let heavy : max floor s.error < true_weight string_eq h x = (let c : weight_of (map named items) (string_bytes x) ≡ weight_of (map named items) item = ap (weight_of (map named items)) is_item in omega (arith, more, (floor_is (weight_of (map named items) item)).0 above, c, weight x)) in
+        subst (λ (t : List ℕ). IsListed (take n rows) t ⊎ ((length (take n rows) ≡ top) × All (λ (row : Row). weight_of (map named items) t ≤ row.upper_bound) (take n rows))) is_item
         (listed_or_lighter top n rows is exact descends x (misses _ so x heavy));
     share = error_share keeps;
     exact = error_exact;
   }
 
 -- a report on a sketch of items
-pub reported_items : (size : ℕ) (items : List (List ℕ)) (header : Bool) (top : ℕ) (s : Sketch) (text : List ℕ) → HasItems size items s → ShowsTop s header top text → ReportsItems size items header top text
-reported_items size items header top s text has shows =
+pub reported_items : (size : ℕ) (items : Weighed) (header : Bool) (threshold : Threshold) (top : ℕ) (s : Sketch) (text : List ℕ) → HasItems size items s → ShowsTop s header threshold top text → ReportsItems size items header threshold top text
+reported_items size items header threshold top s text has shows =
     let so : Represents string_eq s has.history = has.stands.encloses in
     let n : ℕ = min top (length shows.rows) in
-    let total : s.total ≡ length items = so.total ∙ has.total in
+    let total : s.total ≡ total_of items = so.total ∙ has.total in
     record {
       error = s.error;
       rows = take n shows.rows;
       written = shows.written ∙ ap (λ (t : ℕ). report_text header s.error t (take n shows.rows)) total;
       reports =
-          subst (λ (t : List (List ℕ)). Reports t size top s.error (take n shows.rows)) has.are
-          (reports has.strings size s has.history so (λ x. has.weights x ∙ ap (λ l. occurrences l (string_bytes x)) (sym has.are)) (has.total ∙ ap (λ (l : List (List ℕ)). length l) (sym has.are)) has.table has.sample
+          subst (λ (t : Weighed). Reports t size threshold top s.error (take n shows.rows)) has.are
+          (reports has.strings size s has.history so (λ x. has.weights x ∙ ap (λ (l : Weighed). weight_of l (string_bytes x)) (sym has.are)) (has.total ∙ ap total_of (sym has.are)) has.table has.sample threshold shows.floor
+          (subst (λ (t : ℕ). (n : ℕ) → IsAbove threshold t n ↔ (shows.floor < n)) (total ∙ ap total_of (sym has.are)) shows.above)
           has.budget top n shows.rows refl shows.exact shows.descends shows.misses);
     }
 
 -- a sketch has the items that were added to a new one
-pub added_items : (m : ℕ) (start s : Sketch) (items : List (List ℕ)) → StandsFor string_eq start (New m (max_sample_size m)) → KeepsTailBudget string_eq start (New m (max_sample_size m)) → AddsStrings start items s → HasItems m items s
+pub added_items : (m : ℕ) (start s : Sketch) (items : Weighed) → StandsFor string_eq start (New m (max_sample_size m)) → KeepsTailBudget string_eq start (New m (max_sample_size m)) → AddsWeighed start items s → HasItems m items s
 added_items m start s items new keeps added =
     let zero : FrequentHistory (String Global) = New m (max_sample_size m) in
     record {
       strings = added.items;
       are = added.are;
-      history = all_updated zero added.items;
+      history = all_weighed zero added.items;
       stands = added.stands zero new;
       budget = added.budget zero new keeps;
-      weights = λ x. let e = weight_of zero added.items x in let none : true_weight string_eq zero x ≡ 0 = refl in omega (arith, e, none, ap (λ l. occurrences l (string_bytes x)) added.are);
-      total = let none : total_weight zero ≡ 0 = refl in omega (arith, total_of zero added.items, none, length-map added.items string_bytes, ap (λ (l : List (List ℕ)). length l) added.are);
+      weights = λ x. let e = weight_in_history zero added.items x in let none : true_weight string_eq zero x ≡ 0 = refl in omega (arith, e, none, ap (λ (l : Weighed). weight_of l (string_bytes x)) added.are);
+      total = let none : total_weight zero ≡ 0 = refl in omega (arith, total_in_history zero added.items, none, ap total_of added.are);
       table = omega (arith, size_of zero added.items);
       sample = omega (arith, sample_of zero added.items);
     }
 
 pub reported : (options : Options) (inputs : Option (List (List ℕ))) (complete : Bool) (held holds : Option (List ℕ)) (start s : Sketch) (text : List ℕ)
     → StandsFor string_eq start (New options.size (max_sample_size options.size)) → KeepsTailBudget string_eq start (New options.size (max_sample_size options.size))
-    → CountsInputs options.selection inputs complete start s → ShowsTop s options.header options.rows text → Appends held holds text → WritesReport options inputs complete held holds
+    → CountsInputs options.weighing inputs complete start s → ShowsTop s options.header options.threshold options.rows text → Appends held holds text → WritesReport options inputs complete held holds
 reported options None complete held holds start s text new keeps counted shows wrote = tt
 reported options (Some all) complete held holds start s text new keeps (read, are, added) shows wrote =
-    let items : List (List ℕ) = flat_map (items_of options.selection) read in
-    let r = reported_items options.size items options.header options.rows s text (added_items options.size start s items new keeps added) shows in
-    (read, r.error, r.rows, are, subst (Appends held holds) r.written wrote, r.reports)
+    let items : Weighed = flat_map (weighed_of options.weighing) read in
+    let r = reported_items options.size items options.header options.threshold options.rows s text (added_items options.size start s items new keeps added.0) shows in
+    (read, r.error, r.rows, are, added.1, subst (Appends held holds) r.written wrote, r.reports)
 
 -- a report on a merged sketch
 pub merge_reported : (options : MergeOptions) (was : Option (List (List ℕ))) (s : Sketch) (held holds : Option (List ℕ)) (text : List ℕ)
-    → IfSome was (λ all. Merges options.images.max_bytes all s) → ShowsTop s options.header options.rows text → Appends held holds text → IfSome was (λ all. WritesMerge options all held holds)
+    → IfSome was (λ all. Merges options.images.max_bytes all s) → ShowsTop s options.header options.threshold options.rows text → Appends held holds text → IfSome was (λ all. WritesMerge options all held holds)
 merge_reported options None s held holds text merges shows wrote = tt
 merge_reported options (Some all) s held holds text merges shows wrote = record {
   sketch = s;
@@ -259,7 +266,7 @@ merge_reported options (Some all) s held holds text merges shows wrote = record 
   text = text;
   wrote = wrote;
   shows = shows;
-  items = λ size lists are. reported_items size (all_items lists) options.header options.rows s text (merges.items size lists are) shows;
+  items = λ size lists are. reported_items size (all_items lists) options.header options.threshold options.rows s text (merges.items size lists are) shows;
 }
 
 -- ---- a sketch that is kept
@@ -274,8 +281,8 @@ merge_kept limit (Some all) kept s merges is = same_kept (Merges limit all) kept
 
 pub items_kept : (options : Options) (inputs : Option (List (List ℕ))) (complete : Bool) (kept : Option Sketch) (start s : Sketch)
     → StandsFor string_eq start (New options.size (max_sample_size options.size)) → KeepsTailBudget string_eq start (New options.size (max_sample_size options.size))
-    → CountsInputs options.selection inputs complete start s → IfSome kept (λ t. t ≡ s) → KeepsItems options inputs complete kept
+    → CountsInputs options.weighing inputs complete start s → IfSome kept (λ t. t ≡ s) → KeepsItems options inputs complete kept
 items_kept options None complete kept start s new keeps counted is = tt
 items_kept options (Some all) complete kept start s new keeps (read, are, added) is =
-    same_kept (λ t. (read : List (List ℕ)) × AreRead complete all read × HasItems options.size (flat_map (items_of options.selection) read) t) kept s is
-    (read, are, added_items options.size start s (flat_map (items_of options.selection) read) new keeps added)
+    same_kept (λ t. (read : List (List ℕ)) × AreRead complete all read × HasItems options.size (flat_map (weighed_of options.weighing) read) t) kept s is
+    (read, are, added_items options.size start s (flat_map (weighed_of options.weighing) read) new keeps added.0)

@@ -1,20 +1,16 @@
 -- The lines of inputs that are written.
-use Rattle.std.proofs.Common.{◌≡◌, ⊎_elim, ℕ, zero, suc, ◌+◌, ◌<◌, Bool, true, List, [], ◌∷◌, ◌++◌, length, get_or, map, Option, None, Some, IfSome, sym, ◌∙◌, ap, subst, arith}
+use Rattle.std.proofs.Common.{◌≡◌, ℕ, zero, suc, ◌<◌, Bool, true, List, [], ◌∷◌, ◌++◌, length, get_or, map, Option, None, Some, IfSome, sym, ◌∙◌, ap, subst, arith}
 use Rattle.std.proofs.lemmas.Bool.{false≢true}
 use Rattle.std.proofs.lemmas.List.Folds.{list_any_at}
 use Rattle.std.specs.Io.KnownBytes.{Appends}
 use Rattle.std.specs.List.{flat_map}
 use Rattle.sketch_bloom.specs.State.{FilterState, all_inserted, contains_item, inserted, item_positions}
 use Rattle.sketch_bloom.proofs.SetAlgebra.{inserted_is_contained, union_keeps}
-use Rattle.sketches.specs.Failures.{FailsUniq, FailsWriting}
-use Rattle.sketches.specs.Inputs.{FailsInputs, TakesEach, TakesInputs}
+use Rattle.sketches.specs.Inputs.{TakesEach, TakesInputs}
 use Rattle.sketches.specs.RawLines.{raw_lines}
 use Rattle.sketches.specs.Unseen.{AreFirst, WritesUnseen, hashed, is_seen, item_of, unseen_lines, with_items, with_lines}
-use Rattle.sketches.specs.UnseenLaws.{appends_none, appends_both, unseen_both}
-use Rattle.sketches.specs.declared.failure.Failure.{Failure}
-use Rattle.sketches.specs.declared.failure.Failure.TheVariants.{Memory, LineTooLong, TooManyItems, BadSize, Write}
+use Rattle.sketches.specs.UnseenLaws.{appends_none, appends_both, unseen_both, with_both}
 use Rattle.sketches.specs.declared.selection.Part.{Part}
-use Rattle.sketches.specs.declared.uniq.UniqOptions.{UniqOptions}
 use Rattle.sketches.specs.declared.unseen.UnseenLines.{UnseenLines}
 
 -- ---- a line whose item is not seen is the first with its item
@@ -28,7 +24,7 @@ kept_all filter item [] has = has
 kept_all filter item (other ∷ others) has = kept_all (inserted filter other) item others (kept_one filter item other has)
 
 -- an item that was inserted is contained
-inserted_is_seen : (filter : FilterState) (items : List (List ℕ)) (k : ℕ) (item : List ℕ) → k < length items → get_or items k item ≡ item → contains_item (with_items filter items) (hashed item) ≡ true
+pub inserted_is_seen : (filter : FilterState) (items : List (List ℕ)) (k : ℕ) (item : List ℕ) → k < length items → get_or items k item ≡ item → contains_item (with_items filter items) (hashed item) ≡ true
 inserted_is_seen filter [] k item less here = absurd (omega arith)
 inserted_is_seen filter (first ∷ items) zero item less here =
     kept_all (inserted filter (hashed first)) (hashed item) (map hashed items)
@@ -36,19 +32,12 @@ inserted_is_seen filter (first ∷ items) zero item less here =
 inserted_is_seen filter (first ∷ items) (suc k) item less here = inserted_is_seen (inserted filter (hashed first)) items k item (omega (arith, less)) here
 
 -- a list that has an element that passes the test
-seen_at : (filter : FilterState) (items : List (List ℕ)) (k : ℕ) (item : List ℕ) → k < length items → get_or items k item ≡ item → contains_item filter (hashed item) ≡ true → is_seen filter items ≡ true
+pub seen_at : (filter : FilterState) (items : List (List ℕ)) (k : ℕ) (item : List ℕ) → k < length items → get_or items k item ≡ item → contains_item filter (hashed item) ≡ true → is_seen filter items ≡ true
 seen_at filter items k item less here has = list_any_at (λ (x : List ℕ). contains_item filter (hashed x)) items k item less (ap (λ (x : List ℕ). contains_item filter (hashed x)) here ∙ has)
 
 are_first : (part : Part) (filter : FilterState) (raws : List (List ℕ)) → AreFirst part filter raws
 are_first part filter raws before after raw item parts unseen here earlier =
     absurd (false≢true (sym unseen ∙ seen_at (with_lines part filter before) (item_of part raw) here.0 item here.1 here.2 (inserted_is_seen filter (flat_map (item_of part) before) earlier.0 item earlier.1 earlier.2)))
-
-taken_failed : (options : UniqOptions) (was : Option (List (List ℕ))) (e : Failure) → FailsWriting e → FailsUniq options was e
-taken_failed options was Memory f = tt
-taken_failed options was LineTooLong f = absurd f
-taken_failed options was TooManyItems f = f
-taken_failed options was BadSize f = absurd f
-taken_failed options was (Write error) f = tt
 
 module _ {W : Type 0} (contents : W → Option (List ℕ)) where
   -- what the sink does with bytes of lines
@@ -57,9 +46,6 @@ module _ {W : Type 0} (contents : W → Option (List ℕ)) where
       (new.0.filter ≡ with_lines old.0.part old.0.filter (raw_lines bytes))
       × Appends (contents old.1) (contents new.1) (unseen_lines old.0.repeated old.0.part old.0.filter (raw_lines bytes))
       × (new.0.part ≡ old.0.part) × (new.0.repeated ≡ old.0.repeated)
-
-  abbrev pub FailsChoosing : UnseenLines × W → List ℕ → Failure → Type 0
-  FailsChoosing old bytes failure = FailsWriting failure
 
   -- the unseen lines of all lists were written
   each_written : (old new : UnseenLines × W) (read : List (List ℕ)) → TakesEach Chooses old read new
@@ -76,18 +62,21 @@ module _ {W : Type 0} (contents : W → Option (List ℕ)) where
       (ap (λ l. unseen_lines r p old.0.filter (raw_lines bytes) ++ l) more ∙ sym (unseen_both r p old.0.filter (raw_lines bytes) (flat_map raw_lines read)))
       (appends_both (contents old.1) (contents mid.1) (contents new.1) _ _ text later)
 
+  -- and their items inserted
+  each_inserted : (old new : UnseenLines × W) (read : List (List ℕ)) → TakesEach Chooses old read new → new.0.filter ≡ with_lines old.0.part old.0.filter (flat_map raw_lines read)
+  each_inserted old new [] same = ap (λ (s : UnseenLines × W). s.0.filter) same
+  each_inserted old new (bytes ∷ read) (mid, (filter, text, same_part, same_repeated), rest) =
+      each_inserted mid new read rest
+      ∙ (ap (λ (q : Part). with_lines q mid.0.filter (flat_map raw_lines read)) same_part
+      ∙ (ap (λ (s : FilterState). with_lines old.0.part s (flat_map raw_lines read)) filter ∙ sym (with_both old.0.part old.0.filter (raw_lines bytes) (flat_map raw_lines read))))
+
   pub written : (was : Option (List (List ℕ))) (complete : Bool) (old new : UnseenLines × W) → TakesInputs Chooses was complete old new
-      → IfSome was (λ inputs. WritesUnseen old.0.repeated old.0.part old.0.filter inputs complete (contents old.1) (contents new.1))
+      → IfSome was (λ inputs. WritesUnseen old.0.repeated old.0.part old.0.filter new.0.filter inputs complete (contents old.1) (contents new.1))
   written None complete old new taken = tt
   written (Some inputs) complete old new (read, are, each) = record {
     read = read;
     are = are;
     written = each_written old new read each;
     first = are_first old.0.part old.0.filter (flat_map raw_lines read);
+    kept = each_inserted old new read each;
   }
-
-  pub choosing_failed : (options : UniqOptions) (was : Option (List (List ℕ))) (old : UnseenLines × W) (e : Failure) → FailsInputs Chooses FailsChoosing (options.max_line + 1) was old e → FailsUniq options was e
-  choosing_failed options was old e failed = ⊎_elim
-      (λ memory. rw memory tt)
-      (λ other. ⊎_elim (λ long. rw long.0 long.1) (λ taking. taken_failed options was e taking.some.2) other)
-      failed

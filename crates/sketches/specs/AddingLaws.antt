@@ -1,10 +1,8 @@
--- The laws of strings that are added one after another, and of the items of lines.
+-- The laws of strings that are added one after another, and of lines.
 use Rattle.std.proofs.Common.{◌≡◌, ℕ, List, [], ◌∷◌, ◌++◌, length, map, drop, refl, sym, ◌∙◌, ap, subst, arith, length-append}
 use Rattle.std.proofs.lemmas.Bool.{eq-eqb}
 use Rattle.std.proofs.lemmas.List.{map-append, take_all, drop_all}
-use Rattle.std.proofs.lemmas.List.Concat.{flat_map-append}
 use Rattle.std.specs.Global.{Global}
-use Rattle.std.specs.List.{flat_map}
 use Rattle.std.specs.Str.Lines.{lines}
 use Rattle.std.specs.String.{string_bytes, string_eq}
 use Rattle.std.specs.declared.string.String.{String}
@@ -17,11 +15,9 @@ use Rattle.sketch_frequencies.specs.History.FrequentHistory.{Update}
 use Rattle.sketch_frequencies.specs.Stands.{StandsFor, KeepsTailBudget}
 use Rattle.sketches.specs.Added.{Sketch, AddsStrings}
 use Rattle.sketches.specs.Failures.{FailsAdding}
-use Rattle.sketches.specs.Items.{items_of, items_of_raw_line}
 use Rattle.sketches.specs.Reading.{AreWholeLines}
 use Rattle.sketches.specs.declared.failure.Failure.{Failure}
-use Rattle.sketches.specs.declared.failure.Failure.TheVariants.{Memory, LineTooLong, TooManyItems, BadSize, Write}
-use Rattle.sketches.specs.declared.selection.Selection.{Selection}
+use Rattle.sketches.specs.declared.failure.Failure.TheVariants.{Memory, LineTooLong, TooManyItems, BadSize, BadWeight, Write}
 
 updated_both : {T : Type 0} (h : FrequentHistory T) (xs ys : List T) → all_updated h (xs ++ ys) ≡ all_updated (all_updated h xs) ys
 updated_both h [] ys = refl
@@ -45,6 +41,7 @@ fails_more a xs ys Memory f = tt
 fails_more a xs ys LineTooLong f = f
 fails_more a xs ys TooManyItems f = omega (arith, f, length-append xs ys)
 fails_more a xs ys BadSize f = f
+fails_more a xs ys (BadWeight found) f = f
 fails_more a xs ys (Write error) f = f
 
 -- a failure may come if more strings are added before
@@ -53,9 +50,10 @@ fails_after a b xs ys Memory s f = tt
 fails_after a b xs ys LineTooLong s f = f
 fails_after a b xs ys TooManyItems s f = omega (arith, f, s.total, length-append xs ys)
 fails_after a b xs ys BadSize s f = f
+fails_after a b xs ys (BadWeight found) s f = f
 fails_after a b xs ys (Write error) s f = f
 
--- ---- the items of lines
+-- ---- lines
 
 pub ends_behind_feed : (bytes : List ℕ) → AreWholeLines bytes → IsBehindLast (separates LineFeed) bytes (length bytes)
 ends_behind_feed bytes whole = (λ some. eq-eqb _ 10 (whole some), none_behind_end (separates LineFeed) bytes)
@@ -66,23 +64,3 @@ lines_both read more whole =
     lines_split read (length read) (omega arith) (ends_behind_feed read whole) more
     ∙ (ap (λ l. lines l ++ lines (drop (length read) read ++ more)) (take_all (length read) read (omega arith))
     ∙ ap (λ l. lines read ++ lines (l ++ more)) (drop_all (length read) read (omega arith)))
-
--- the items of whole lines and of the bytes after them
-pub items_append : (chosen : Selection) (read more : List ℕ) → AreWholeLines read → items_of chosen (read ++ more) ≡ items_of chosen read ++ items_of chosen more
-items_append chosen read more whole = ap (flat_map (items_of_raw_line chosen)) (lines_both read more whole) ∙ flat_map-append (items_of_raw_line chosen) (lines read) (lines more)
-
-module _ (p : Selection) (xs ys : List ℕ) (whole : AreWholeLines xs) where
-  pub items_both : (a b c : Sketch) (q r : Selection) → AddsStrings a (items_of p xs) b × (q ≡ p) → AddsStrings b (items_of q ys) c × (r ≡ q) → AddsStrings a (items_of p (xs ++ ys)) c × (r ≡ p)
-  items_both a b c q r (first, same) (second, same') = (
-    subst (λ l. AddsStrings a l c) (sym (items_append p xs ys whole))
-        (strings_both a b c (items_of p xs) (items_of p ys) first (subst (λ (s : Selection). AddsStrings b (items_of s ys) c) same second)),
-    same' ∙ same,
-  )
-
-  pub items_sooner : (a : Sketch) (e : Failure) → FailsAdding a (items_of p xs) e → FailsAdding a (items_of p (xs ++ ys)) e
-  items_sooner a e f = subst (λ l. FailsAdding a l e) (sym (items_append p xs ys whole)) (fails_more a (items_of p xs) (items_of p ys) e f)
-
-  pub items_later : (a b : Sketch) (q : Selection) (e : Failure) → AddsStrings a (items_of p xs) b × (q ≡ p) → FailsAdding b (items_of q ys) e → FailsAdding a (items_of p (xs ++ ys)) e
-  items_later a b q e (first, same) f =
-      subst (λ l. FailsAdding a l e) (sym (items_append p xs ys whole))
-      (fails_after a b (items_of p xs) (items_of p ys) e first (subst (λ (s : Selection). FailsAdding b (items_of s ys) e) same f))

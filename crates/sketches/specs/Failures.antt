@@ -5,11 +5,15 @@ use Rattle.sketch_bloom.specs.Sizes.{AreEnoughBitsRounded, IsLn2TimesWithin}
 use Rattle.sketch_frequencies.specs.Sizes.{size_fault}
 use Rattle.sketches.specs.Added.{Sketch}
 use Rattle.sketches.specs.Inputs.{HaveLongLine}
-use Rattle.sketches.specs.Items.{items_of}
+use Rattle.sketches.specs.Weighed.{Weighed, total_of, unweighed_of, unweighed_of_line, weighed_of, weighed_of_line}
 use Rattle.sketches.specs.declared.failure.Failure.{Failure}
-use Rattle.sketches.specs.declared.failure.Failure.TheVariants.{Memory, LineTooLong, TooManyItems, BadSize, Write}
+use Rattle.sketches.specs.declared.failure.Failure.TheVariants.{Memory, LineTooLong, TooManyItems, BadSize, BadWeight, Write}
+use Rattle.sketches.specs.declared.filter_size.FilterSize.{FilterSize}
+use Rattle.sketches.specs.declared.filter_size.FilterSize.TheVariants.{Target, Shape}
+use Rattle.sketches.specs.FilterSizes.{HasNoSize}
 use Rattle.sketches.specs.declared.top.Options.{Options}
 use Rattle.sketches.specs.declared.uniq.UniqOptions.{UniqOptions}
+use Rattle.sketches.specs.declared.weighing.Weighing.{Weighing}
 
 -- the output could not be written
 abbrev pub IsOfOutput : Failure → Type 0
@@ -22,12 +26,33 @@ FailsAdding old strings Memory = Unit {0}
 FailsAdding old strings TooManyItems = 2 ^ 64 ≤ old.total + length strings
 FailsAdding old strings _ = ⊥
 
+-- while items are added with their weights, the memory is exhausted, the total would exceed `u64::MAX`, or an item has no weight
+abbrev pub FailsWeighing : Sketch → Weighed → (unweighed : List (List ℕ)) → Failure → Type 0
+FailsWeighing old pairs unweighed Memory = Unit {0}
+FailsWeighing old pairs unweighed TooManyItems = 2 ^ 64 ≤ old.total + total_of pairs
+FailsWeighing old pairs unweighed (BadWeight found) = 0 < length unweighed
+FailsWeighing old pairs unweighed _ = ⊥
+
+-- the memory is exhausted, or an item has no weight
+abbrev pub IsBadWeight : Failure → Type 0
+IsBadWeight Memory = Unit {0}
+IsBadWeight (BadWeight found) = Unit {0}
+IsBadWeight _ = ⊥
+
+-- why the items of lines are not added, and those of one line
+abbrev pub FailsLines : Weighing → Sketch → List ℕ → Failure → Type 0
+FailsLines chosen old bytes failure = FailsWeighing old (weighed_of chosen bytes) (unweighed_of chosen bytes) failure
+
+abbrev pub FailsLine : Weighing → Sketch → List ℕ → Failure → Type 0
+FailsLine chosen old line failure = FailsWeighing old (weighed_of_line chosen line) (unweighed_of_line chosen line) failure
+
 -- A report is not written. Memory may be exhausted at any time, and a write may fail. Otherwise a line has more bytes than the
--- limit, there are at least 2^64 items, or the size is not allowed.
+-- limit, the weights of all items are at least 2^64, a line with an item has no weight, or the size is not allowed.
 abbrev pub FailsTop : Options → Option (List (List ℕ)) → Failure → Type 0
 FailsTop options was Memory = Unit {0}
 FailsTop options was LineTooLong = IfSome was (HaveLongLine (options.max_line + 1))
-FailsTop options was TooManyItems = IfSome was (λ inputs. 2 ^ 64 ≤ length (flat_map (items_of options.selection) inputs))
+FailsTop options was TooManyItems = IfSome was (λ inputs. 2 ^ 64 ≤ total_of (flat_map (weighed_of options.weighing) inputs))
+FailsTop options was (BadWeight found) = IfSome was (λ inputs. 0 < length (flat_map (unweighed_of options.weighing) inputs))
 FailsTop options was BadSize = IsSome (size_fault options.size)
 FailsTop options was (Write error) = Unit {0}
 
@@ -38,19 +63,28 @@ FailsWriting (Write error) = Unit {0}
 FailsWriting _ = ⊥
 
 -- Memory is exhausted while a filter is made, or a filter of this size is not allowed: for no items, for fewer than 2 questions,
--- with more than 137438953152 bits, or with more than 32767 hashes.
-abbrev pub FailsFilter : (items questions : ℕ) → Failure → Type 0
-FailsFilter items questions Memory = Unit {0}
-FailsFilter items questions BadSize =
-    (items ≡ 0) ⊎ ((questions ≤ 1) ⊎ (((bits : ℕ) → AreEnoughBitsRounded items questions bits → 137438953152 < bits)
-    ⊎ ((bits : ℕ) × AreEnoughBitsRounded items questions bits × ((hashes : ℕ) → IsLn2TimesWithin bits (hashes * items) → 32767 < hashes))))
-FailsFilter items questions _ = ⊥
+-- without bits or hashes, with more than 137438953152 bits, or with more than 32767 hashes.
+abbrev pub FailsFilter : FilterSize → Failure → Type 0
+FailsFilter size Memory = Unit {0}
+FailsFilter (Target target) BadSize =
+    (target.items ≡ 0) ⊎ ((target.questions ≤ 1)
+    ⊎ (((bits : ℕ) → AreEnoughBitsRounded target.items target.questions bits → 137438953152 < bits)
+    ⊎ ((bits : ℕ) × AreEnoughBitsRounded target.items target.questions bits
+    × ((hashes : ℕ) → IsLn2TimesWithin bits (hashes * target.items) → 32767 < hashes))))
+FailsFilter (Shape shape) BadSize = HasNoSize (Shape shape)
+FailsFilter size _ = ⊥
 
--- A run that writes unseen lines ends. Memory may be exhausted at any time, and a write may fail. Otherwise a line has more bytes
--- than the limit, or a filter of this size is not allowed.
-abbrev pub FailsUniq : UniqOptions → Option (List (List ℕ)) → Failure → Type 0
-FailsUniq options was Memory = Unit {0}
-FailsUniq options was LineTooLong = IfSome was (HaveLongLine (options.max_line + 1))
-FailsUniq options was TooManyItems = ⊥
-FailsUniq options was BadSize = FailsFilter options.items options.questions BadSize
-FailsUniq options was (Write error) = Unit {0}
+-- The lines of inputs are not all written. Memory may be exhausted at any time, and a write may fail. Otherwise a line has at least
+-- `limit` bytes.
+abbrev pub FailsWrittenLines : (limit : ℕ) → Option (List (List ℕ)) → Failure → Type 0
+FailsWrittenLines limit was Memory = Unit {0}
+FailsWrittenLines limit was LineTooLong = IfSome was (HaveLongLine limit)
+FailsWrittenLines limit was TooManyItems = ⊥
+FailsWrittenLines limit was BadSize = ⊥
+FailsWrittenLines limit was (BadWeight found) = ⊥
+FailsWrittenLines limit was (Write error) = Unit {0}
+
+-- a run that writes unseen lines ends as any that writes lines, or a filter of this size is not allowed
+abbrev pub FailsUniq : UniqOptions → FilterSize → Option (List (List ℕ)) → Failure → Type 0
+FailsUniq options size was BadSize = FailsFilter size BadSize
+FailsUniq options size was failure = FailsWrittenLines (options.max_line + 1) was failure

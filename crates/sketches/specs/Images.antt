@@ -14,9 +14,10 @@ use Rattle.sketch_frequencies.specs.Stands.{StandsFor, KeepsTailBudget}
 use Rattle.sketch_frequencies.specs.State.{IsState, max_sample_size}
 use Rattle.sketches.specs.Added.{Sketch}
 use Rattle.sketches.specs.Inputs.{AreRead}
-use Rattle.sketches.specs.Items.{items_of}
-use Rattle.sketches.specs.Reports.{Row, Reports, ShowsTop, occurrences, report_text}
+use Rattle.sketches.specs.Reports.{Row, Reports, ShowsTop, report_text}
+use Rattle.sketches.specs.Weighed.{Weighed, total_of, weight_of, weighed_of}
 use Rattle.sketches.specs.declared.merge.MergeOptions.{MergeOptions}
+use Rattle.sketches.specs.declared.threshold.Threshold.{Threshold}
 use Rattle.sketches.specs.declared.top.Options.{Options}
 
 -- a reader of the image, if it could be opened
@@ -28,20 +29,20 @@ abbrev pub OpensImage : {R E : Type 0} → (R → Option (List ℕ)) → Option 
 OpensImage remaining was is next = IfSome was (λ images. MatchOption next (images ≡ []) (λ opened.
     (image : List ℕ) × (later : List (List ℕ)) × (images ≡ image ∷ later) × (is ≡ Some later) × IsOpened remaining image opened))
 
--- The sketch represents a history of these items, each with a weight of 1, in tables of a maximum size of at least `size`.
-pub record HasItems (size : ℕ) (items : List (List ℕ)) (s : Sketch) : Type 0 where
-  pub strings : List (String Global)
-  pub are : map string_bytes strings ≡ items
+-- The sketch represents a history of these items with their weights, in tables of a maximum size of at least `size`.
+pub record HasItems (size : ℕ) (items : Weighed) (s : Sketch) : Type 0 where
+  pub strings : List (String Global × ℕ)
+  pub are : map (λ pair. (string_bytes pair.0, pair.1)) strings ≡ items
   pub history : FrequentHistory (String Global)
   pub stands : StandsFor string_eq s history
   pub budget : KeepsTailBudget string_eq s history
-  pub weights : (x : String Global) → true_weight string_eq history x ≡ occurrences items (string_bytes x)
-  pub total : total_weight history ≡ length items
+  pub weights : (x : String Global) → true_weight string_eq history x ≡ weight_of items (string_bytes x)
+  pub total : total_weight history ≡ total_of items
   pub table : size ≤ min_size history
   pub sample : max_sample_size size ≤ min_sample history
 
 -- the bytes are an image of a sketch of these items
-pub record IsImageOfItems (size : ℕ) (image : List ℕ) (items : List (List ℕ)) : Type 0 where
+pub record IsImageOfItems (size : ℕ) (image : List ℕ) (items : Weighed) : Type 0 where
   pub sketch : Sketch
   pub image_of : IsImageOf text_codec string_bytes image sketch
   pub has : HasItems size items sketch
@@ -57,7 +58,7 @@ pub record Loads (limit : ℕ) (image : List ℕ) (s : Sketch) : Type 0 where
   pub budget : RestoresBudget text_codec string_bytes string_eq image s
 
 -- all items of these lists
-abbrev pub all_items : List (List (List ℕ)) → List (List ℕ)
+abbrev pub all_items : List Weighed → Weighed
 all_items lists = flat_map (λ items. items) lists
 
 -- the total weight in an image
@@ -75,14 +76,14 @@ pub record Merges (limit : ℕ) (images : List (List ℕ)) (s : Sketch) : Type 0
   pub total : s.total ≡ sum_by total_in images
   pub within : sum_of s.counters + s.error ≤ s.total
   pub items :
-      (size : ℕ) (lists : List (List (List ℕ))) → AllZip (IsImageOfItems size) images lists → HasItems size (all_items lists) s
+      (size : ℕ) (lists : List Weighed) → AllZip (IsImageOfItems size) images lists → HasItems size (all_items lists) s
 
 -- the text is a report on these items
-pub record ReportsItems (size : ℕ) (items : List (List ℕ)) (header : Bool) (count : ℕ) (text : List ℕ) : Type 0 where
+pub record ReportsItems (size : ℕ) (items : Weighed) (header : Bool) (threshold : Threshold) (count : ℕ) (text : List ℕ) : Type 0 where
   pub error : ℕ
   pub rows : List Row
-  pub written : text ≡ report_text header error (length items) rows
-  pub reports : Reports items size count error rows
+  pub written : text ≡ report_text header error (total_of items) rows
+  pub reports : Reports items size threshold count error rows
 
 -- The writer received the text of a report on the merged sketch. If each image is an image of a sketch of items, the report is on
 -- all these items.
@@ -91,10 +92,10 @@ pub record WritesMerge (options : MergeOptions) (images : List (List ℕ)) (held
   pub merges : Merges options.images.max_bytes images sketch
   pub text : List ℕ
   pub wrote : Appends held holds text
-  pub shows : ShowsTop sketch options.header options.rows text
+  pub shows : ShowsTop sketch options.header options.threshold options.rows text
   pub items :
-      (size : ℕ) (lists : List (List (List ℕ))) → AllZip (IsImageOfItems size) images lists →
-      ReportsItems size (all_items lists) options.header options.rows text
+      (size : ℕ) (lists : List Weighed) → AllZip (IsImageOfItems size) images lists →
+      ReportsItems size (all_items lists) options.header options.threshold options.rows text
 
 -- The writer received an image of the sketch, as `serialize` writes it. If the sketch has items, the bytes are an image of a sketch
 -- of these items.
@@ -102,10 +103,10 @@ pub record WritesImage (s : Sketch) (held holds : Option (List ℕ)) : Type 0 wh
   pub image : List ℕ
   pub spelled : IsSpelledFor text_codec string_bytes image s
   pub wrote : Appends held holds image
-  pub items : (size : ℕ) (items : List (List ℕ)) → HasItems size items s → IsImageOfItems size image items
+  pub items : (size : ℕ) (items : Weighed) → HasItems size items s → IsImageOfItems size image items
 
 -- the sketch that was kept has the items of what was read of the inputs
 abbrev pub KeepsItems : Options → Option (List (List ℕ)) → Bool → Option Sketch → Type 0
 KeepsItems options inputs complete kept = IfSome inputs (λ all. IfSome kept (λ s.
     (read : List (List ℕ)) × AreRead complete all read
-    × HasItems options.size (flat_map (items_of options.selection) read) s))
+    × HasItems options.size (flat_map (weighed_of options.weighing) read) s))

@@ -10,3 +10,8 @@ abbrev pub IsNotSaved : Sketch → SaveFailure → Type 0
 IsNotSaved s Memory = Unit {0}
 IsNotSaved s ItemTooLong = Any (λ counter. 2 ^ 32 ≤ length (string_bytes counter.0)) s.counters
 IsNotSaved s (Write error) = Unit {0}
+
+-- the image could not be written
+abbrev pub IsWriteFailure : SaveFailure → Type 0
+IsWriteFailure (Write error) = Unit {0}
+IsWriteFailure _ = ⊥

@@ -1,11 +1,14 @@
 -- What is shown of an image.
-use Rattle.std.specs.Prelude.{◌≡◌, ◌⊎◌, ℕ, ◌*◌, ◌<◌, ◌==◌, Bool, true, false, List, ◌++◌, length, Option, Some, codes}
+use Rattle.std.specs.Prelude.{◌≡◌, ◌≢◌, ◌⊎◌, ℕ, ℤ, pos, negsuc, ◌-◌, ◌*◌, ◌^◌, ◌<◌, ◌==◌, Bool, true, false, List, ◌++◌, length, Option, Some, codes}
 use Rattle.std.specs.FinSet as set
 use Rattle.std.specs.Fmt.{decimal}
 use Rattle.std.specs.Io.KnownBytes.{Appends}
 use Rattle.sketch_base.specs.Fields.{byte_at}
 use Rattle.sketch_bloom.specs.Image as filters
 use Rattle.sketch_bloom.specs.State.{FilterState}
+use Rattle.sketch_base.specs.declared.fault.Fault.TheVariants.{NegativeTotal}
+use Rattle.sketch_countmin.specs.Image as counts
+use Rattle.sketch_countmin.specs.State.{CountState}
 use Rattle.sketches.specs.Added.{Sketch}
 use Rattle.sketches.specs.ImageFailures.{IsBadImage, IsUnread, IsWriteFailure}
 use Rattle.sketches.specs.Images.{Loads}
@@ -32,15 +35,34 @@ filter_text f =
     ++ value_line (codes "seed") f.seed)
     ++ value_line (codes "set_bits") (set.len f.set)
 
+-- the lines of a Count-Min sketch
+abbrev pub counts_text : CountState → List ℕ
+counts_text s =
+    ((codes "kind\tCount-Min sketch\n" ++ value_line (codes "hashes") s.hashes)
+    ++ value_line (codes "buckets") s.buckets)
+    ++ value_line (codes "total") s.total
+
 -- whether the family of the image is that of filters
 abbrev pub is_of_filter : List ℕ → Bool
 is_of_filter image = byte_at image 2 == 21
 
--- the bytes are an image of the filter or the sketch of these lines, and nothing more
-abbrev pub StatesAs : (filter : Bool) → ℕ → List ℕ → List ℕ → Type 0
-StatesAs true limit image text =
+-- whether the family of the image is that of Count-Min sketches
+abbrev pub is_of_counts : List ℕ → Bool
+is_of_counts image = byte_at image 2 == 18
+
+-- the bytes are an image of the Count-Min sketch of these lines and this seed, over this range of numbers, and nothing more
+abbrev pub StatesCounts : ℤ → (greatest seed : ℕ) → List ℕ → List ℕ → Type 0
+StatesCounts least greatest seed image text =
+    (s : CountState) × counts.IsImage least greatest seed image s × (counts.prefix_bytes image ≡ length image) × (text ≡ counts_text s)
+
+-- the bytes are an image of the sketch or the filter of these lines, and nothing more. Numbers of a Count-Min sketch have 64 bits,
+-- with or without a sign
+abbrev pub StatesAs : (filter counts : Bool) → (limit seed : ℕ) → List ℕ → List ℕ → Type 0
+StatesAs true _ limit seed image text =
     (f : FilterState) × filters.IsImage image f × (filters.prefix_bytes image ≡ length image) × (text ≡ filter_text f)
-StatesAs false limit image text = (s : Sketch) × Loads limit image s × (text ≡ items_text s)
+StatesAs false true limit seed image text =
+    StatesCounts (negsuc (2 ^ 63 - 1)) (2 ^ 63 - 1) seed image text ⊎ StatesCounts (pos 0) (2 ^ 64 - 1) seed image text
+StatesAs false false limit seed image text = (s : Sketch) × Loads limit image s × (text ≡ items_text s)
 
 -- why the bytes are not an image of a filter. An allocation can fail at any image
 abbrev pub IsBadFilter : ℕ → List ℕ → ImageFailure → Type 0
@@ -53,17 +75,33 @@ IsBadFilter limit image TrailingBytes = filters.prefix_bytes image < length imag
 IsBadFilter limit image TooManyItems = ⊥
 IsBadFilter limit image (Write error) = ⊥
 
+-- why the bytes are not an image of a Count-Min sketch of this seed, over this range of numbers. An allocation can fail at any image
+abbrev pub IsBadCells : ℤ → (greatest limit seed : ℕ) → List ℕ → ImageFailure → Type 0
+IsBadCells least greatest limit seed image Memory = Unit {0}
+IsBadCells least greatest limit seed image (Rejected fault) = counts.first_fault_within least greatest 8 limit seed image ≡ Some fault
+IsBadCells least greatest limit seed image TrailingBytes = counts.prefix_bytes image < length image
+IsBadCells least greatest limit seed image _ = ⊥
+
+-- why the bytes are no such image with signed numbers, nor, if the total is negative, with unsigned ones
+abbrev pub IsBadCounts : (limit seed : ℕ) → List ℕ → ImageFailure → Type 0
+IsBadCounts limit seed image failure =
+    (IsBadCells (negsuc (2 ^ 63 - 1)) (2 ^ 63 - 1) limit seed image failure × (failure ≢ Rejected NegativeTotal))
+    ⊎ (IsBadCells (negsuc (2 ^ 63 - 1)) (2 ^ 63 - 1) limit seed image (Rejected NegativeTotal)
+    × IsBadCells (pos 0) (2 ^ 64 - 1) limit seed image failure)
+
 -- why the lines of an image are not known
-abbrev pub IsBadAs : (filter : Bool) → ℕ → List ℕ → ImageFailure → Type 0
-IsBadAs true limit image failure = IsBadFilter limit image failure
-IsBadAs false limit image failure = IsBadImage limit image failure
+abbrev pub IsBadAs : (filter counts : Bool) → (limit seed : ℕ) → List ℕ → ImageFailure → Type 0
+IsBadAs true _ limit seed image failure = IsBadFilter limit image failure
+IsBadAs false true limit seed image failure = IsBadCounts limit seed image failure
+IsBadAs false false limit seed image failure = IsBadImage limit image failure
 
 -- the writer received the lines of the image
-abbrev pub ShowsImage : ℕ → List ℕ → Option (List ℕ) → Option (List ℕ) → Type 0
-ShowsImage limit image held holds =
-    (text : List ℕ) × StatesAs (is_of_filter image) limit image text × Appends held holds text
+abbrev pub ShowsImage : (limit seed : ℕ) → List ℕ → Option (List ℕ) → Option (List ℕ) → Type 0
+ShowsImage limit seed image held holds =
+    (text : List ℕ) × StatesAs (is_of_filter image) (is_of_counts image) limit seed image text × Appends held holds text
 
 -- why the image is not shown
-abbrev pub IsNotShown : ℕ → List ℕ → ImageFailure → Type 0
-IsNotShown limit image failure =
-    IsUnread limit image failure ⊎ (IsBadAs (is_of_filter image) limit image failure ⊎ IsWriteFailure failure)
+abbrev pub IsNotShown : (limit seed : ℕ) → List ℕ → ImageFailure → Type 0
+IsNotShown limit seed image failure =
+    IsUnread limit image failure
+    ⊎ (IsBadAs (is_of_filter image) (is_of_counts image) limit seed image failure ⊎ IsWriteFailure failure)

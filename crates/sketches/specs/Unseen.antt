@@ -31,18 +31,18 @@ with_items filter items = all_inserted filter (map hashed items)
 abbrev pub with_lines : Part → FilterState → List (List ℕ) → FilterState
 with_lines part filter raws = with_items filter (flat_map (item_of part) raws)
 
--- whether a line is written: with `repeated` if its item seems to have been seen, else if it has not
+-- whether a line is written: if the filter contains its item and `wanted` is true, or it does not and `wanted` is false
 abbrev pub is_written : Bool → Bool → Bool
-is_written repeated seen = if repeated then seen else not seen
+is_written wanted seen = if wanted then seen else not seen
 
 -- what is written of a line
 abbrev pub written_of : Bool → Bool → List ℕ → List ℕ
-written_of repeated seen raw = if is_written repeated seen then raw else []
+written_of wanted seen raw = if is_written wanted seen then raw else []
 
--- what is written of lines, given for each whether its item seems to have been seen
+-- what is written of lines, given for each whether the filter contains its item
 abbrev pub written_by : Bool → List Bool → List (List ℕ) → List ℕ
-written_by repeated (seen ∷ seens) (raw ∷ raws) = written_of repeated seen raw ++ written_by repeated seens raws
-written_by repeated _ _ = []
+written_by wanted (seen ∷ seens) (raw ∷ raws) = written_of wanted seen raw ++ written_by wanted seens raws
+written_by wanted _ _ = []
 
 -- the first lines of bytes and the bytes after them. Each of these lines has an item
 pub record AreNextLines (part : Part) (bytes rest : List ℕ) (raws items : List (List ℕ)) : Type 0 where
@@ -63,9 +63,11 @@ AreFirst part filter raws =
     is_seen (with_lines part filter before) (item_of part raw) ≡ false →
     Contains (item_of part raw) item → Contains (flat_map (item_of part) before) item → ⊥
 
--- the writer received the lines of what was read of each input whose items were not seen before, or, with `repeated`, the others
-pub record WritesUnseen (repeated : Bool) (part : Part) (filter : FilterState) (inputs : List (List ℕ)) (complete : Bool) (held holds : Option (List ℕ)) : Type 0 where
+-- The writer received the lines of what was read of each input whose items were not seen before, or, with `repeated`, the others.
+-- The filter has taken the items of all lines that were read.
+pub record WritesUnseen (repeated : Bool) (part : Part) (filter filter' : FilterState) (inputs : List (List ℕ)) (complete : Bool) (held holds : Option (List ℕ)) : Type 0 where
   pub read : List (List ℕ)
   pub are : AreRead complete inputs read
   pub written : Appends held holds (unseen_lines repeated part filter (flat_map raw_lines read))
   pub first : AreFirst part filter (flat_map raw_lines read)
+  pub kept : filter' ≡ with_lines part filter (flat_map raw_lines read)

@@ -115,3 +115,26 @@ takes_lines xs ys whole r p r' p' r'' p'' a b c held mid holds (filter, text, sa
       same_part' ∙ same_part,
       same_repeated' ∙ same_repeated,
     )
+
+-- ---- the same of lines that are taken apart
+
+pub takes_no_lines : (filter : FilterState) (part : Part) (repeated : Bool) (own : Part) (held : List ℕ)
+    → (filter ≡ with_lines part filter []) × (held ≡ held ++ unseen_lines repeated part filter []) × (own ≡ own) × (repeated ≡ repeated)
+takes_no_lines filter part repeated own held = (refl, sym (append-nil held), refl, refl)
+
+abbrev TakesParted : (part : Part) (repeated : Bool) (own : Part) (filter filter' : FilterState) (held holds : List ℕ) → List (List ℕ) → (own' : Part) (repeated' : Bool) → Type 0
+TakesParted part repeated own filter filter' held holds raws own' repeated' =
+    (filter' ≡ with_lines part filter raws) × (holds ≡ held ++ unseen_lines repeated part filter raws) × (own' ≡ own) × (repeated' ≡ repeated)
+
+pub takes_more_lines : (xs ys : List (List ℕ)) (part : Part) (r : Bool) (p : Part) (r' : Bool) (p' : Part) (r'' : Bool) (p'' : Part) (a b c : FilterState) (held mid holds : List ℕ)
+    → TakesParted part r p a b held mid xs p' r' → TakesParted part r' p' b c mid holds ys p'' r'' → TakesParted part r p a c held holds (xs ++ ys) p'' r''
+takes_more_lines xs ys part r p r' p' r'' p'' a b c held mid holds (filter, text, same_part, same_repeated) (filter', text', same_part', same_repeated') =
+    let more : unseen_lines r' part b ys ≡ unseen_lines r part (with_lines part a xs) ys =
+    ap (λ (q : Bool). unseen_lines q part b ys) same_repeated ∙ ap (λ (s : FilterState). unseen_lines r part s ys) filter in (
+      filter' ∙ (ap (λ (s : FilterState). with_lines part s ys) filter ∙ sym (with_both part a xs ys)),
+      text' ∙ (ap (λ l. l ++ unseen_lines r' part b ys) text
+          ∙ (append_assoc held (unseen_lines r part a xs) (unseen_lines r' part b ys)
+          ∙ ap (λ l. held ++ l) (ap (λ l. unseen_lines r part a xs ++ l) more ∙ sym (unseen_both r part a xs ys)))),
+      same_part' ∙ same_part,
+      same_repeated' ∙ same_repeated,
+    )

@@ -1,24 +1,24 @@
-//! The next lines with items, and what is written of them.
-ghost use Rattle.std.specs.Prelude.{◌≡◌, ◌≤◌, ◌<◌, ◌++◌, IfErr, OnOk, length, map, take};
+//! Passes lines and their items to a sink, many at once, and writes some of them.
+ghost use Rattle.std.specs.Prelude.{◌≡◌, ◌≤◌, ◌<◌, ◌++◌, IfErr, OnOk, length, take};
 ghost use Rattle.sketch_base.specs.Strings.{strings_at};
-ghost use Rattle.sketch_bloom.specs.State.{all_inserted, answers_in_turn};
-ghost use Rattle.sketches.specs.Unseen.{AreNextLines, hashed, written_by};
+ghost use Rattle.sketches.specs.RawLines.{raw_lines};
+ghost use Rattle.sketches.specs.Unseen.{AreNextLines, written_by};
 
+use crate::batch_sink::BatchSink;
 use crate::failure::Failure;
 use crate::raw_lines::next_line_with_end;
 use crate::raw_parts::raw_part_of;
 use crate::selection::Part;
-use sketch_base::{Strs, from_utf8};
-use sketch_bloom::BloomFilter;
+use sketch_base::from_utf8;
 
-/// The maximum number of lines whose items are inserted in one call.
+/// The maximum number of lines that a sink takes at once.
 pub const BATCH: usize = 16;
 
 /// Writes the first lines to `raws`, with their ends, and their items to `items`. Returns their number and the bytes after them.
 ///
 /// It stops at a line without an item, at an item that is not UTF-8, and after as many lines as `raws` has elements.
 #[inline(always)]
-pub fn next_lines<'a>(
+fn next_lines<'a>(
     part: Part,
     bytes: &'a [u8],
     raws: &mut [&'a [u8]],
@@ -51,52 +51,53 @@ pub fn next_lines<'a>(
     (count, rest)
 }
 
-/// Inserts items into the filter. Appends the lines of those that it had not taken, or, if `repeated`, the others. Returns the
-/// number of other lines.
+/// Passes lines to a sink, in order. Lines that have items in UTF-8 are passed many at once.
 ///
 /// # Errors
 ///
 /// Returns `Memory` if an allocation fails.
 #[inline(always)]
-pub fn choose_batch(
-    filter: &mut BloomFilter,
-    repeated: bool,
-    raws: &[&[u8]],
-    items: &[&str],
-    written: &mut Vec<u8>,
-) -> Result<u64, Failure>
-    requires few { length raws.now ≤ BATCH }
-    requires same { length items.now ≡ length raws.now }
-    ensures written { OnOk result (written.new.items ≡ written.old.items
-        ++ written_by repeated (answers_in_turn filter.old (map hashed (strings_at items.now))) (strings_at raws.now)) }
-    ensures filter { filter.new ≡ all_inserted filter.old (map hashed (strings_at items.now)) }
+pub fn take_batches<S: BatchSink>(sink: &mut S, part: Part, bytes: &[u8]) -> Result<(), Failure>
+    ensures taken { OnOk result (S.takes part sink.old (raw_lines bytes.now) sink.new) }
     ensures failed { IfErr result (λ failure. failure ≡ Failure.Memory) }
 {
-    let mut answers = [false; BATCH];
-    let seens = &mut answers[..raws.len()];
-    filter.contains_and_insert_all(Strs(items), seens);
-    write_batch(repeated, raws, seens, written)
+    let mut rest = bytes;
+    let mut raws = [b"".as_slice(); BATCH];
+    let mut items = [""; BATCH];
+    'each: loop {
+        let (count, after) = next_lines(part, rest, &mut raws, &mut items);
+        if count > 0 {
+            sink.take_batch(part, &raws[..count], &items[..count])?;
+            rest = after;
+            continue;
+        }
+        let Some((raw, line, after)) = next_line_with_end(rest) else {
+            return Ok(());
+        };
+        sink.take_line(part, raw, line)?;
+        rest = after;
+    }
 }
 
-/// Appends the lines that were not seen, or, if `repeated`, the others. Returns the number of other lines.
+/// Appends the lines whose answer is `wanted`. Returns the number of other lines.
 ///
 /// # Errors
 ///
 /// Returns `Memory` if an allocation fails.
 #[inline(always)]
-fn write_batch(
-    repeated: bool,
+pub fn write_batch(
+    wanted: bool,
     raws: &[&[u8]],
-    seens: &[bool],
+    answers: &[bool],
     written: &mut Vec<u8>,
 ) -> Result<u64, Failure>
-    requires { length seens.now ≡ length raws.now }
-    ensures written { OnOk result (written.new.items ≡ written.old.items ++ written_by repeated seens.now (strings_at raws.now)) }
+    requires { length answers.now ≡ length raws.now }
+    ensures written { OnOk result (written.new.items ≡ written.old.items ++ written_by wanted answers.now (strings_at raws.now)) }
     ensures failed { IfErr result (λ failure. failure ≡ Failure.Memory) }
 {
     let mut left_out: u64 = 0;
     'each: for i in 0..raws.len() {
-        if seens[i] != repeated {
+        if answers[i] != wanted {
             left_out = left_out.saturating_add(1);
             continue;
         }

@@ -2,45 +2,71 @@
 ghost use Rattle.std.specs.Prelude.{◌≡◌, refl, [], ◌∷◌, IfErr, OnOk};
 ghost use Rattle.std.specs.Str.{IsUtf8};
 ghost use Rattle.sketch_base.specs.Split.{words_of};
-ghost use Rattle.sketches.specs.Added.{AddsStrings};
-ghost use Rattle.sketches.specs.Failures.{FailsAdding};
+ghost use Rattle.sketches.specs.Added.{AddsLines, AddsStrings};
+ghost use Rattle.sketches.specs.Failures.{FailsAdding, FailsLines};
 ghost use Rattle.sketches.specs.Items.{items_of, items_of_line, items_of_raw_line};
 
 use crate::failure::Failure;
 use crate::line_sink::LineSink;
 use crate::raw_lines::next_raw_line;
 use crate::selection::{Selection, part_of};
+use crate::weighed_lines::add_weighed_lines;
+use crate::weighing::Weighing;
 use sketch_base::{Lines, Strings, Words, from_utf8};
 use sketch_frequencies::FrequentItemsSketch;
 use std::alloc::{AllocError, Global};
 
-/// Adds 1 to the weight of each item of the lines that it takes.
+/// Adds the items of the lines that it takes, with their weights.
 #[derive(Drop)]
 pub struct ItemCounter {
     pub sketch: FrequentItemsSketch<String>,
-    pub selection: Selection,
+    pub weighing: Weighing,
+    /// The number of lines of this input that were taken, if weights stand in the lines.
+    pub count: u64,
 }
 
 impl LineSink<()> for ItemCounter {
-    ghost use Rattle.sketches.specs.AddingLaws.{strings_none, items_both, items_sooner, items_later};
+    ghost use Rattle.sketches.specs.WeighingLaws.{weighed_none, lines_added_both, lines_fail_sooner, lines_fail_later};
 
-    ghost takes = { λ old bytes new. AddsStrings old.0.sketch (items_of old.0.selection bytes) new.0.sketch
-        × (new.0.selection ≡ old.0.selection) };
+    ghost takes = { λ old bytes new. AddsLines old.0.weighing old.0.sketch bytes new.0.sketch
+        × (new.0.weighing ≡ old.0.weighing) };
 
-    ghost fails = { λ old bytes failure. FailsAdding old.0.sketch (items_of old.0.selection bytes) failure };
+    ghost fails = { λ old bytes failure. FailsLines old.0.weighing old.0.sketch bytes failure };
 
-    ghost takes_none = { λ s. (strings_none s.0.sketch, refl) };
+    ghost takes_none = { λ s. ((weighed_none s.0.sketch, refl), refl) };
 
-    ghost takes_both = { λ r s t xs ys whole. items_both r.0.selection xs ys whole
-        r.0.sketch s.0.sketch t.0.sketch s.0.selection t.0.selection };
+    ghost takes_both = { λ r s t xs ys whole. lines_added_both r.0.weighing xs ys whole
+        r.0.sketch s.0.sketch t.0.sketch s.0.weighing t.0.weighing };
 
-    ghost fails_sooner = { λ r xs ys e whole. items_sooner r.0.selection xs ys whole r.0.sketch e };
+    ghost fails_sooner = { λ r xs ys e whole. lines_fail_sooner r.0.weighing xs ys whole r.0.sketch e };
 
-    ghost fails_later = { λ r s xs ys e whole. items_later r.0.selection xs ys whole r.0.sketch s.0.sketch s.0.selection e };
+    ghost fails_later = { λ r s xs ys e whole. lines_fail_later r.0.weighing xs ys whole r.0.sketch s.0.sketch s.0.weighing e };
+
+    fn begin(&mut self) {
+        self.count = 0;
+    }
 
     fn take(&mut self, alloc: Global, _output: &mut (), bytes: &[u8]) -> Result<(), Failure> {
-        add_items(alloc, &mut self.sketch, self.selection, bytes)
+        match self.weighing {
+            Weighing::Once(selection) => add_once(alloc, &mut self.sketch, selection, bytes),
+            Weighing::Field(part) => {
+                add_weighed_lines(alloc, &mut self.sketch, part, bytes, &mut self.count)
+            }
+        }
     }
+}
+
+/// Adds 1 to the weight of each item of the lines of bytes.
+fn add_once(
+    alloc: Global,
+    sketch: &mut FrequentItemsSketch<String>,
+    selection: Selection,
+    bytes: &[u8],
+) -> Result<(), Failure>
+    ensures added { OnOk result (AddsLines (Weighing.Once selection) sketch.old bytes.now sketch.new) }
+    ensures failed { IfErr result (FailsLines (Weighing.Once selection) sketch.old bytes.now) }
+{
+    add_items(alloc, sketch, selection, bytes)
 }
 
 /// Adds 1 to the weight of each item of the lines of bytes.

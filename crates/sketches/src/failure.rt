@@ -14,8 +14,19 @@ pub enum Failure {
     TooManyItems,
     /// The size is not allowed.
     BadSize,
+    /// A line has no weight.
+    BadWeight(BadWeight),
     /// The output could not be written.
     Write(io::Error),
+}
+
+/// A line that has no weight.
+#[derive(Debug, Drop)]
+pub struct BadWeight {
+    /// The number of the line in its input, counted from 1.
+    pub line: u64,
+    /// What stands in place of the weight, cut and without control characters.
+    pub text: String,
 }
 
 impl From<Error> for Failure {

@@ -29,6 +29,7 @@ pub struct Files<'a> {
     names: &'a [&'a str],
     next: usize,
     failed: bool,
+    done: bool,
 }
 
 impl<'a> Files<'a> {
@@ -39,6 +40,7 @@ impl<'a> Files<'a> {
             names,
             next: 0,
             failed: false,
+            done: false,
         }
     }
 
@@ -48,6 +50,11 @@ impl<'a> Files<'a> {
             Some(name) => *name,
             None => "-",
         }
+    }
+
+    /// Returns whether no file is left.
+    pub fn is_done(&self) -> bool {
+        self.done
     }
 
     /// Returns whether a file could not be read.
@@ -76,6 +83,7 @@ impl<'a> Inputs for Files<'a> {
                 Err(error) => self.report(error),
             }
         }
+        self.done = true;
         None
     }
 

@@ -5,6 +5,7 @@ use crate::image_files::ImageFiles;
 use crate::images::ImageFailure;
 use crate::keys::key_of;
 use crate::merge::{MergeOptions, merge};
+use crate::shared_options::{BAD_THRESHOLD, rows_of, threshold_of};
 use crate::show::show;
 use crate::{ERROR, end_of_output, fail, fail_at, message_of, number_of};
 use clap::ArgMatches;
@@ -12,6 +13,9 @@ use sketch_frequencies::{FrequentItemsImageOptions, TableKey};
 
 /// Runs `sketches merge`. Returns the status.
 pub fn run_merge(rt: &HostRuntime, matches: &ArgMatches<'_>) -> u8 {
+    let Some(threshold) = threshold_of(matches) else {
+        return fail(rt, BAD_THRESHOLD);
+    };
     let key = match key_of(rt, matches.get_str("key")) {
         Ok(key) => key,
         Err(fault) => return fail(rt, message_of(fault)),
@@ -21,7 +25,8 @@ pub fn run_merge(rt: &HostRuntime, matches: &ArgMatches<'_>) -> u8 {
             max_bytes: number_of(matches, "max-bytes"),
             key,
         },
-        rows: number_of(matches, "rows"),
+        threshold,
+        rows: rows_of(matches),
         header: !matches.get_flag("no-header"),
     };
     let names = matches.get_strs("images").unwrap_or(&[]);
@@ -49,7 +54,8 @@ pub fn run_show(rt: &HostRuntime, matches: &ArgMatches<'_>) -> u8 {
         key: TableKey::Plain,
     };
     let name = matches.get_str("image").unwrap_or("-");
-    match show(rt.alloc(), &options, open(rt, name), &mut rt.stdout()) {
+    let seed = matches.get_one::<u64>("seed").unwrap_or(0);
+    match show(rt.alloc(), &options, seed, open(rt, name), &mut rt.stdout()) {
         Ok(()) => 0,
         Err(failure) => end(rt, failure, name),
     }
@@ -67,7 +73,7 @@ pub fn image_file<'r, 'n>(
 }
 
 /// Prints why a run ended. Returns the status.
-fn end(rt: &HostRuntime, failure: ImageFailure, file: &str) -> u8 {
+pub fn end(rt: &HostRuntime, failure: ImageFailure, file: &str) -> u8 {
     match failure {
         ImageFailure::Memory => fail(rt, "no memory"),
         ImageFailure::NoImage => fail(rt, "no image"),

@@ -1,11 +1,31 @@
 //! The file that keeps the image of a run's sketch.
 ghost use Rattle.std.specs.Prelude.{◌≡◌, IfSome};
 
-use crate::save::{Keeper, SaveFailure, write_image};
+use crate::save::{Keeper, SaveFailure, write_filter, write_image};
+use sketch_bloom::BloomFilter;
 use sketch_frequencies::FrequentItemsSketch;
 use std::fs;
 use std::fs::File;
+use std::io::Write;
 use std::rt::Files;
+
+/// A value that is saved as an image.
+pub trait Saved {
+    /// Writes an image of the value.
+    fn write<W: Write>(&self, writer: &mut W) -> Result<(), SaveFailure>;
+}
+
+impl Saved for FrequentItemsSketch<String> {
+    fn write<W: Write>(&self, writer: &mut W) -> Result<(), SaveFailure> {
+        write_image(self, writer)
+    }
+}
+
+impl Saved for BloomFilter {
+    fn write<W: Write>(&self, writer: &mut W) -> Result<(), SaveFailure> {
+        write_filter(self, writer)
+    }
+}
 
 /// The file that keeps the image of a sketch, if it has a name. If it cannot be written, this is reported on standard error.
 #[derive(Drop)]
@@ -43,21 +63,17 @@ impl<'r, 'n> Keeper for ImageFile<'r, 'n> {
     }
 }
 
-/// Writes an image of the sketch to the file of a name.
+/// Writes an image of the value to the file of a name.
 ///
 /// A regular file is written beside, under the name with `.tmp` after it, and renamed. So after an error the file is as it was.
-fn save(
-    rt: &HostRuntime,
-    sketch: &FrequentItemsSketch<String>,
-    name: &str,
-) -> Result<(), SaveFailure> {
+pub fn save<S: Saved>(rt: &HostRuntime, value: &S, name: &str) -> Result<(), SaveFailure> {
     if is_special(rt, name) {
         let mut file = File::options().write(true).open(rt, name)?;
-        return write_image(sketch, &mut file);
+        return value.write(&mut file);
     }
     let beside = format!(in rt.alloc(); "{name}.tmp")?;
     let file = File::create(rt, beside.as_str())?;
-    let saved = fill(rt, sketch, file, beside.as_str(), name);
+    let saved = fill(rt, value, file, beside.as_str(), name);
     if saved.is_err() {
         let _ = fs::remove_file(rt, beside.as_str());
     }
@@ -72,22 +88,22 @@ fn is_special(rt: &HostRuntime, name: &str) -> bool {
     }
 }
 
-/// Writes an image of the sketch to a file, and renames it.
-fn fill(
+/// Writes an image of the value to a file, and renames it.
+fn fill<S: Saved>(
     rt: &HostRuntime,
-    sketch: &FrequentItemsSketch<String>,
+    value: &S,
     mut file: File,
     from: &str,
     to: &str,
 ) -> Result<(), SaveFailure> {
-    write_image(sketch, &mut file)?;
+    value.write(&mut file)?;
     file.sync_all()?;
     fs::rename(rt, from, to)?;
     Ok(())
 }
 
 /// Reports that the image could not be written.
-fn report(rt: &HostRuntime, name: &str, failure: SaveFailure) {
+pub fn report(rt: &HostRuntime, name: &str, failure: SaveFailure) {
     let _ = match failure {
         SaveFailure::Memory => eprintln!(rt; "sketches: {name}: no memory"),
         SaveFailure::ItemTooLong => eprintln!(rt;

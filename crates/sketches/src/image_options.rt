@@ -1,5 +1,5 @@
 //! The command line of the commands over images.
-use crate::shared_options::{key, no_header, rows, save};
+use crate::shared_options::{above, key, no_header, rows, save};
 use clap::{Arg, Command, value_parser};
 use std::alloc::{AllocError, Global};
 
@@ -9,6 +9,7 @@ pub fn merge_command<'a>(alloc: Global) -> Result<Command<'a>, AllocError> {
         Command::new(alloc, "merge")
             .about("Prints the most frequent items of saved images, with bounds of their numbers")
             .arg(rows(alloc))?
+            .arg(above(alloc))?
             .arg(save(alloc))?
             .arg(max_bytes(alloc))?
             .arg(key(alloc))?
@@ -28,6 +29,16 @@ pub fn show_command<'a>(alloc: Global) -> Result<Command<'a>, AllocError> {
     Ok(
         Command::new(alloc, "show")
             .about("Prints what an image states: its kind, sizes, total and error")
+            .arg(
+                Arg::new(alloc, "seed")
+                    .long("seed")
+                    .value_name("N")
+                    .value_parser(value_parser!(u64))
+                    .default_value("9001")
+                    .help(
+                        "Takes N for the seed of a Count-Min sketch, of which its image has a hash",
+                    ),
+            )?
             .arg(max_bytes(alloc))?
             .arg(
                 Arg::new(alloc, "image")

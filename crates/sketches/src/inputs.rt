@@ -1,6 +1,7 @@
 //! Reads the lines of inputs that are opened one after another.
 ghost use Rattle.std.specs.Prelude.{◌≡◌, ℕ, true, List, Option, None, IfErr, IfOk};
 ghost use Rattle.sketches.specs.Inputs.{FailsInputs, OpensNext, TakesInputs};
+ghost use Rattle.sketches.specs.Reading.{FailsInput, TakesInput};
 
 use crate::failure::Failure;
 use crate::line_sink::LineSink;
@@ -49,10 +50,27 @@ pub fn read_inputs<I: Inputs, O, S: LineSink<O>>(
         let Some(mut reader) = inputs.next() else {
             return Ok(complete);
         };
-        let failure = read_lines(alloc, sink, output, &mut reader, buffer, limit)?;
+        let failure = read_input(alloc, sink, output, &mut reader, buffer, limit)?;
         complete = is_complete(inputs, failure, complete);
     }
     Err(Failure::Memory)
+}
+
+/// Passes the lines of an input to a sink, which begins with them. Returns the error of a read, if any.
+fn read_input<R: Read, O, S: LineSink<O>>(
+    alloc: Global,
+    sink: &mut S,
+    output: &mut O,
+    reader: &mut R,
+    buffer: &mut Vec<u8>,
+    limit: usize,
+) -> Result<Option<io::Error>, Failure>
+    ensures taken { IfOk result (λ failure.
+        TakesInput S.takes (R.remaining reader.old) failure (sink.old, output.old) (sink.new, output.new)) }
+    ensures failed { IfErr result (FailsInput S.fails limit (R.remaining reader.old) (sink.old, output.old)) }
+{
+    sink.begin();
+    read_lines(alloc, sink, output, reader, buffer, limit)
 }
 
 /// Reports the error of a read, if any. Returns whether there is none and `complete` was true.

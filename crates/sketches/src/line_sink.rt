@@ -14,6 +14,11 @@ pub trait LineSink<O> {
     // The failure may come while these bytes of lines are taken.
     ghost fails: { Self × O → List ℕ → Failure → Type 0 };
 
+    /// Begins with the lines of an input. Changes nothing that later lines depend on.
+    fn begin(&mut self)
+        ensures { (o : O) → takes (self.old, o) [] (self.new, o) }
+    {}
+
     /// Takes whole lines, or lines of which the last ends with its input.
     fn take(&mut self, alloc: Global, output: &mut O, bytes: &[u8]) -> Result<(), Failure>
         ensures taken { OnOk result (takes (self.old, output.old) bytes.now (self.new, output.new)) }

@@ -2,9 +2,11 @@
 //!
 //! `sketches top [-f N [-d C] | --words] [-n K] [--size M] [FILE..]` prints the most frequent lines, fields or words of files,
 //! with bounds of how often each occurs. `--save IMAGE` saves the sketch. `sketches uniq [-f N [-d C]] [--items N] [--repeated]
-//! [FILE..]` prints each line whose item was not seen before. `sketches merge [-n K] [--save IMAGE] IMAGE..` prints the report of
-//! `top` for all lines that saved sketches counted. `sketches show IMAGE` prints what an image states. `--help` after a command
-//! lists all its options.
+//! [FILE..]` prints each line whose item was not seen before. `sketches join [-f N [-d C]] [-v] --keys FILE [FILE..]` prints the
+//! lines whose items may be in a file of keys, or with `-v` the others. `sketches weigh [-f N [-d C]] --keys FILE [FILE..]` prints
+//! how often each key of a file occurs, or a little more. `sketches merge [-n K] [--save IMAGE] IMAGE..` prints the report of `top`
+//! for all lines that saved sketches counted. `sketches show IMAGE` prints what an image states. `--help` after a command lists all
+//! its options.
 //!
 //! The status is 0, or 1 if a file could not be read and the others were. It is 2 after wrong arguments, if the output or an image
 //! could not be written, if memory ran out, if a line was too long, or if an image could not be read. Messages are on standard
@@ -13,21 +15,38 @@
 //! Tables and filters hash under a random key. The option `--key` and the environment variable `DATASKETCHES_TABLE_KEY` fix it.
 #![tactic(auto)]
 
+mod batch_sink;
 mod batches;
 mod counting;
 mod failure;
 mod field;
+mod file_sizes;
 mod files;
+mod filter_commands;
+mod filter_image;
+mod filter_options;
+mod filter_size;
 mod image_commands;
 mod image_file;
 mod image_files;
 mod image_options;
 mod images;
 mod inputs;
+mod item_weigher;
+mod join;
+mod join_options;
+mod joined;
+mod key_lines;
+mod key_weights;
+mod keyed_options;
 mod keys;
+mod line_count;
+mod line_items;
 mod line_sink;
 mod merge;
 mod options;
+mod percent;
+mod raw_item;
 mod raw_lines;
 mod raw_parts;
 mod reading;
@@ -36,21 +55,32 @@ mod save;
 mod selection;
 mod shared_options;
 mod show;
+mod state_file;
+mod table_size;
+mod threshold;
 mod top;
 mod uniq;
 mod unseen;
+mod weigh;
+mod weigh_commands;
+mod weigh_options;
+mod weighed_lines;
+mod weighing;
+mod weights;
 
 use clap::ArgMatches;
 use failure::Failure;
 use files::Files;
+use filter_commands::{run_join, run_uniq};
 use image_commands::{image_file, run_merge, run_show};
-use keys::{KeyFault, key_of, seed_of};
-use options::{command, part_of, selection_of};
+use keys::{KeyFault, key_of};
+use options::{BAD_ERROR, command, size_of, weighing_of};
+use shared_options::{BAD_THRESHOLD, rows_of, threshold_of};
 use std::io::ErrorKind;
 use std::process::ExitCode;
 use std::{env, io};
 use top::{Options, top};
-use uniq::{Summary, UniqOptions, uniq};
+use weigh_commands::run_weigh;
 
 /// The status after an error.
 const ERROR: u8 = 2;
@@ -60,10 +90,6 @@ const BAD_DELIMITER: &str = "the delimiter must be one character of ASCII";
 
 /// The message of a table's size that is not allowed.
 const BAD_TABLE: &str = "--size must be a power of two from 8 to 2^30";
-
-/// The message of a filter's size that is not allowed.
-const BAD_FILTER: &str =
-    "--items must be at least 1, --false-positives at least 2, and the filter at most 2^37 bits";
 
 /// The files if none is named.
 static STANDARD_INPUT: [&str; 1] = ["-"];
@@ -89,6 +115,8 @@ fn run(rt: &HostRuntime) -> u8 {
         Ok(matches) => match matches.subcommand() {
             Some(("top", matches)) => run_top(rt, matches),
             Some(("uniq", matches)) => run_uniq(rt, matches),
+            Some(("join", matches)) => run_join(rt, matches),
+            Some(("weigh", matches)) => run_weigh(rt, matches),
             Some(("merge", matches)) => run_merge(rt, matches),
             Some(("show", matches)) => run_show(rt, matches),
             _ => fail(rt, "no command"),
@@ -102,17 +130,24 @@ fn run(rt: &HostRuntime) -> u8 {
 
 /// Runs `sketches top`. Returns the status.
 fn run_top(rt: &HostRuntime, matches: &ArgMatches<'_>) -> u8 {
-    let Some(selection) = selection_of(matches) else {
+    let Some(weighing) = weighing_of(matches) else {
         return fail(rt, BAD_DELIMITER);
+    };
+    let Some(threshold) = threshold_of(matches) else {
+        return fail(rt, BAD_THRESHOLD);
+    };
+    let Some(size) = size_of(matches) else {
+        return fail(rt, BAD_ERROR);
     };
     let key = match key_of(rt, matches.get_str("key")) {
         Ok(key) => key,
         Err(fault) => return fail(rt, message_of(fault)),
     };
     let options = Options {
-        selection,
-        rows: number_of(matches, "rows"),
-        size: number_of(matches, "size"),
+        weighing,
+        threshold,
+        rows: rows_of(matches),
+        size,
         max_line: max_line_of(matches),
         header: !matches.get_flag("no-header"),
         key,
@@ -137,47 +172,6 @@ fn run_top(rt: &HostRuntime, matches: &ArgMatches<'_>) -> u8 {
     if image.has_failed() { ERROR } else { status }
 }
 
-/// Runs `sketches uniq`. Returns the status.
-fn run_uniq(rt: &HostRuntime, matches: &ArgMatches<'_>) -> u8 {
-    let Some(part) = part_of(matches) else {
-        return fail(rt, BAD_DELIMITER);
-    };
-    let key = match key_of(rt, matches.get_str("key")) {
-        Ok(key) => key,
-        Err(fault) => return fail(rt, message_of(fault)),
-    };
-    let options = UniqOptions {
-        part,
-        repeated: matches.get_flag("repeated"),
-        items: matches.get_one::<u64>("items").unwrap_or(0),
-        questions: matches.get_one::<u64>("false-positives").unwrap_or(0),
-        seed: seed_of(key),
-        max_line: max_line_of(matches),
-    };
-    let names = matches
-        .get_strs("files")
-        .unwrap_or(STANDARD_INPUT.as_slice());
-    let mut files = Files::new(rt, names);
-    match uniq(rt.alloc(), options, &mut files, &mut rt.stdout()) {
-        Ok(summary) => {
-            if !matches.get_flag("no-note") {
-                note(rt, &summary);
-            }
-            u8::from(!summary.complete || files.has_failed())
-        }
-        Err(failure) => end(rt, failure, files.current(), BAD_FILTER),
-    }
-}
-
-/// Prints how many lines were left out, and how many new items are taken for repeated ones, under ideal hashes.
-fn note(rt: &HostRuntime, summary: &Summary) {
-    let _ = eprintln!(rt;
-        "sketches: {} lines left out; about 1 in {} new items is taken for a repeated one",
-        summary.left_out,
-        summary.questions()
-    );
-}
-
 /// Returns the maximum number of bytes of a line.
 fn max_line_of(matches: &ArgMatches<'_>) -> u32 {
     matches.get_one::<u32>("max-line").unwrap_or(0)
@@ -192,8 +186,15 @@ fn number_of(matches: &ArgMatches<'_>, name: &str) -> usize {
 fn end(rt: &HostRuntime, failure: Failure, file: &str, bad_size: &str) -> u8 {
     match failure {
         Failure::Memory => fail(rt, "no memory"),
-        Failure::TooManyItems => fail(rt, "more than 2^64 - 1 items"),
+        Failure::TooManyItems => fail(rt, "the total weight exceeds 2^64 - 1"),
         Failure::BadSize => fail(rt, bad_size),
+        Failure::BadWeight(found) => {
+            let _ = eprintln!(rt;
+                "sketches: {file}: line {}: bad weight '{}'",
+                found.line, found.text
+            );
+            ERROR
+        }
         Failure::LineTooLong => fail_at(rt, file, "a line is longer than --max-line"),
         Failure::Write(error) => end_of_output(rt, error),
     }

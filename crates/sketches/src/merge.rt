@@ -11,6 +11,7 @@ ghost use Rattle.sketches.specs.Images.{Merges, WritesMerge};
 use crate::images::{ImageFailure, Images, read_image};
 use crate::report::report;
 use crate::save::Keeper;
+use crate::threshold::Threshold;
 use sketch_base::Fault;
 use sketch_frequencies::{FrequentItemsImageOptions, FrequentItemsSketch};
 use std::alloc::Global;
@@ -21,9 +22,11 @@ use std::io::Write;
 pub struct MergeOptions {
     /// The maximum number of bytes of an image, and of its table and strings, and the key under which tables hash.
     pub images: FrequentItemsImageOptions,
+    /// Which rows are printed.
+    pub threshold: Threshold,
     /// The maximum number of rows.
     pub rows: usize,
-    /// Whether the first line shows the error and the number of all items.
+    /// Whether the first line shows the error and the weight of all items.
     pub header: bool,
 }
 
@@ -50,7 +53,13 @@ pub fn merge<I: Images, K: Keeper, W: Write>(
 {
     let sketch = merge_images(alloc, &options.images, images)?;
     keeper.keep(&sketch);
-    let Ok(text) = report(alloc, &sketch, options.header, options.rows) else {
+    let Ok(text) = report(
+        alloc,
+        &sketch,
+        options.header,
+        options.threshold,
+        options.rows,
+    ) else {
         return Err(ImageFailure::Memory);
     };
     match writer.write_all(text.as_bytes()) {

@@ -1,10 +1,20 @@
 //! The command line.
 use crate::field::Field;
+use crate::filter_options::{no_note, with_size, with_state};
 use crate::image_options::{merge_command, show_command};
+use crate::join_options::join_command;
+use crate::percent::percent_of;
 use crate::selection::{Part, Selection};
-use crate::shared_options::{key, no_header, rows, save};
+use crate::shared_options::{above, key, no_header, rows, save};
+use crate::table_size::size_for;
+use crate::weigh_options::weigh_command;
+use crate::weighing::{WeighedPart, Weighing};
 use clap::{Arg, ArgAction, ArgMatches, Command, value_parser};
 use std::alloc::{AllocError, Global};
+
+/// The message of an error that is not allowed.
+pub const BAD_ERROR: &str =
+    "--error must be a percentage from 0.195313% to 100% with at most 6 decimals";
 
 /// Returns the description of the command line.
 pub fn command<'a>(alloc: Global) -> Result<Command<'a>, AllocError> {
@@ -16,6 +26,8 @@ pub fn command<'a>(alloc: Global) -> Result<Command<'a>, AllocError> {
             .arg_required_else_help(true)
             .subcommand(top_command(alloc)?)?
             .subcommand(uniq_command(alloc)?)?
+            .subcommand(join_command(alloc)?)?
+            .subcommand(weigh_command(alloc)?)?
             .subcommand(merge_command(alloc)?)?
             .subcommand(show_command(alloc)?)?,
     )
@@ -25,13 +37,15 @@ pub fn command<'a>(alloc: Global) -> Result<Command<'a>, AllocError> {
 fn top_command<'a>(alloc: Global) -> Result<Command<'a>, AllocError> {
     let command = Command::new(alloc, "top")
         .about("Prints the most frequent lines, fields or words, with bounds of their numbers")
-        .arg(rows(alloc))?;
-    let command = with_part(alloc, command)?
+        .arg(rows(alloc))?
+        .arg(above(alloc))?;
+    let command = with_weight(alloc, with_part(alloc, command)?)?
         .arg(
             Arg::new(alloc, "words")
                 .long("words")
                 .action(ArgAction::SetTrue)
                 .conflicts_with("field")?
+                .conflicts_with("weight")?
                 .help("Takes each word of each line"),
         )?
         .arg(
@@ -41,6 +55,13 @@ fn top_command<'a>(alloc: Global) -> Result<Command<'a>, AllocError> {
                 .value_parser(value_parser!(u32))
                 .default_value("4096")
                 .help("Uses at most M slots: a power of two from 8 to 2^30"),
+        )?
+        .arg(
+            Arg::new(alloc, "error")
+                .long("error")
+                .value_name("P")
+                .conflicts_with("size")?
+                .help("Chooses the slots for an error of at most P, as 0.5%, of the total"),
         )?;
     let command = with_max_line(alloc, command)?
         .arg(save(alloc))?
@@ -54,35 +75,20 @@ fn uniq_command<'a>(alloc: Global) -> Result<Command<'a>, AllocError> {
     let command = Command::new(alloc, "uniq").about(
         "Prints each line whose item was not seen before, in the order of the input",
     );
-    let command = with_part(alloc, command)?
-        .arg(
-            Arg::new(alloc, "repeated")
-                .long("repeated")
-                .action(ArgAction::SetTrue)
-                .help("Prints the lines whose items were seen before, in place of the others"),
-        )?
-        .arg(
-            Arg::new(alloc, "items")
-                .long("items")
-                .value_name("N")
-                .value_parser(value_parser!(u64))
-                .default_value("10000000")
-                .help("Makes the filter for N distinct items"),
-        )?
-        .arg(
-            Arg::new(alloc, "false-positives")
-                .long("false-positives")
-                .value_name("N")
-                .value_parser(value_parser!(u64))
-                .default_value("1000")
-                .help("Takes about 1 in N new items for a repeated one, once the filter is full"),
-        )?;
-    let command = with_max_line(alloc, command)?.arg(key(alloc))?.arg(
-        Arg::new(alloc, "no-note")
-            .long("no-note")
+    let command = with_part(alloc, command)?.arg(
+        Arg::new(alloc, "repeated")
+            .long("repeated")
             .action(ArgAction::SetTrue)
-            .help("Omits the note at the end, which has the number of lines left out"),
+            .help("Prints the lines whose items were seen before, in place of the others"),
     )?;
+    let command = with_size(
+        alloc,
+        command,
+        "Makes the filter for N distinct items; by default one for 16 bytes of regular files, else 10000000",
+    )?;
+    let command = with_state(alloc, with_max_line(alloc, command)?)?
+        .arg(key(alloc))?
+        .arg(no_note(alloc))?;
     with_files(alloc, command)
 }
 
@@ -109,8 +115,20 @@ fn with_part<'a>(alloc: Global, command: Command<'a>) -> Result<Command<'a>, All
     )
 }
 
+/// Adds the option that chooses the weight of a line.
+pub fn with_weight<'a>(alloc: Global, command: Command<'a>) -> Result<Command<'a>, AllocError> {
+    Ok(command.arg(
+        Arg::new(alloc, "weight")
+            .short('w')
+            .long("weight")
+            .value_name("N")
+            .value_parser(value_parser!(u32).range(1..))
+            .help("Weighs the item of each line by the whole number in field N"),
+    )?)
+}
+
 /// Adds the option of the maximum number of bytes of a line.
-fn with_max_line<'a>(alloc: Global, command: Command<'a>) -> Result<Command<'a>, AllocError> {
+pub fn with_max_line<'a>(alloc: Global, command: Command<'a>) -> Result<Command<'a>, AllocError> {
     Ok(command.arg(
         Arg::new(alloc, "max-line")
             .long("max-line")
@@ -122,7 +140,7 @@ fn with_max_line<'a>(alloc: Global, command: Command<'a>) -> Result<Command<'a>,
 }
 
 /// Adds the names of files.
-fn with_files<'a>(alloc: Global, command: Command<'a>) -> Result<Command<'a>, AllocError> {
+pub fn with_files<'a>(alloc: Global, command: Command<'a>) -> Result<Command<'a>, AllocError> {
     Ok(command.arg(
         Arg::new(alloc, "files")
             .value_name("FILE")
@@ -131,8 +149,28 @@ fn with_files<'a>(alloc: Global, command: Command<'a>) -> Result<Command<'a>, Al
     )?)
 }
 
+/// Returns the size of a table that the options choose, or `None` if no size has the error.
+pub fn size_of(matches: &ArgMatches<'_>) -> Option<usize> {
+    let Some(text) = matches.get_str("error") else {
+        return Some(matches.get_one::<u32>("size").unwrap_or(0) as usize);
+    };
+    size_for(percent_of(text)?).ok()
+}
+
+/// Returns the items of a line and their weights, as the options choose, or `None` if the delimiter is not one character of ASCII.
+pub fn weighing_of(matches: &ArgMatches<'_>) -> Option<Weighing> {
+    let Some(number) = matches.get_one::<u32>("weight") else {
+        return selection_of(matches).map(|selection| Weighing::Once(selection));
+    };
+    let weight = part_at(Some(number), matches.get_str("delimiter"));
+    match (part_of(matches), weight) {
+        (Some(item), Some(weight)) => Some(Weighing::Field(WeighedPart { item, weight })),
+        _ => None,
+    }
+}
+
 /// Returns the items of a line that the options choose, or `None` if the delimiter is not one character of ASCII.
-pub fn selection_of(matches: &ArgMatches<'_>) -> Option<Selection> {
+fn selection_of(matches: &ArgMatches<'_>) -> Option<Selection> {
     if matches.get_flag("words") {
         return Some(Selection::Words);
     }
@@ -141,11 +179,19 @@ pub fn selection_of(matches: &ArgMatches<'_>) -> Option<Selection> {
 
 /// Returns the part of a line that the options choose, or `None` if the delimiter is not one character of ASCII.
 pub fn part_of(matches: &ArgMatches<'_>) -> Option<Part> {
-    let Some(number) = matches.get_one::<u32>("field") else {
+    part_at(
+        matches.get_one::<u32>("field"),
+        matches.get_str("delimiter"),
+    )
+}
+
+/// Returns the part of a line that a number and a delimiter choose, or `None` if the delimiter is not one character of ASCII.
+pub fn part_at(number: Option<u32>, delimiter: Option<&str>) -> Option<Part> {
+    let Some(number) = number else {
         return Some(Part::Line);
     };
     let index = number.saturating_sub(1);
-    let Some(delimiter) = matches.get_str("delimiter") else {
+    let Some(delimiter) = delimiter else {
         return Some(Part::Word(index));
     };
     field_between(delimiter, index).map(|field| Part::Field(field))

@@ -4,11 +4,14 @@ ghost use Rattle.std.specs.List.{flat_map};
 ghost use Rattle.sketches.specs.Reports.{ShowsTop, header_line, row_line};
 
 use crate::failure::Failure;
+use crate::threshold::Threshold;
 use sketch_frequencies::{ErrorType, FrequentItemsSketch, Row};
 use std::alloc::{AllocError, Global};
 use std::fmt::Write as _;
 
-/// Returns the header, if it is wanted, and the lines of the first rows, at most `count`, in descending order of estimates.
+/// Returns the header, if it is wanted, and the lines of the first rows above a threshold, at most `count`.
+///
+/// The rows are in descending order of estimates.
 ///
 /// # Errors
 ///
@@ -17,12 +20,14 @@ pub fn report(
     alloc: Global,
     sketch: &FrequentItemsSketch<String>,
     header: bool,
+    threshold: Threshold,
     count: usize,
 ) -> Result<String, Failure>
-    ensures shown { IfOk result (λ text. ShowsTop sketch.now header count (string_bytes text)) }
+    ensures shown { IfOk result (λ text. ShowsTop sketch.now header threshold count (string_bytes text)) }
     ensures failed { IfErr result (λ failure. failure ≡ Failure.Memory) }
 {
-    let rows = sketch.frequent_items_with_threshold(ErrorType::NoFalseNegatives, 0)?;
+    let least = threshold.weight(sketch.total_weight());
+    let rows = sketch.frequent_items_with_threshold(ErrorType::NoFalseNegatives, least)?;
     let mut text = String::new(alloc);
     write_header(
         &mut text,

@@ -1,12 +1,14 @@
-//! Sketches that are saved as images.
+//! Sketches and filters that are saved as images.
 ghost use Rattle.std.specs.Prelude.{◌≡◌, ◌⊎◌, Option, None, IfErr, IfSome, OnOk};
 ghost use Rattle.sketch_base.specs.declared.fault.Fault.TheVariants.{NoMemory};
 ghost use Rattle.sketches.specs.Added.{Sketch};
 ghost use Rattle.sketches.specs.Images.{WritesImage};
-ghost use Rattle.sketches.specs.SaveFailures.{IsNotSaved};
+ghost use Rattle.sketches.specs.FilterImages.{WritesFilter};
+ghost use Rattle.sketches.specs.SaveFailures.{IsNotSaved, IsWriteFailure};
 ghost use Rattle.sketches.specs.declared.save.SaveFailure.TheVariants.{Memory, ItemTooLong};
 
 use sketch_base::{Error, Fault};
+use sketch_bloom::BloomFilter;
 use sketch_frequencies::FrequentItemsSketch;
 use std::alloc::AllocError;
 use std::io;
@@ -63,6 +65,25 @@ pub fn write_image<W: Write>(
         Err(error) => return Err(failure_of(error)),
     };
     match writer.write_all(&image) {
+        Ok(()) => Ok(()),
+        Err(error) => Err(SaveFailure::Write(error)),
+    }
+}
+
+/// Writes an image of the filter.
+///
+/// # Errors
+///
+/// Returns `Memory` if the image cannot be allocated. The writer is not called then. Returns `Write` if it fails.
+pub fn write_filter<W: Write>(filter: &BloomFilter, writer: &mut W) -> Result<(), SaveFailure>
+    ensures image { OnOk result (WritesFilter filter.now (W.contents writer.old) (W.contents writer.new)) }
+    ensures err { IfErr result (λ failure. IsWriteFailure failure ⊎ ((failure ≡ Memory) × (writer.new ≡ writer.old))) }
+{
+    let bytes = match filter.serialize() {
+        Ok(bytes) => bytes,
+        Err(_) => return Err(SaveFailure::Memory),
+    };
+    match writer.write_all(&bytes) {
         Ok(()) => Ok(()),
         Err(error) => Err(SaveFailure::Write(error)),
     }

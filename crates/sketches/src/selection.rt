@@ -3,8 +3,8 @@ ghost use Rattle.std.specs.Prelude.{◌≡◌, ◌∷◌, [], MatchOption, drop,
 ghost use Rattle.sketch_base.specs.Split.{words_of};
 ghost use Rattle.sketches.specs.Items.{part_of};
 
-use crate::field::{Field, field_at};
-use sketch_base::{Separator, nth_word};
+use crate::field::Field;
+use sketch_base::{Separator, nth_field, nth_word};
 
 /// The items of a line.
 #[derive(Clone, Copy)]
@@ -34,6 +34,6 @@ pub fn part_of(part: Part, line: &str) -> Option<&str>
     match part {
         Part::Line => Some(line),
         Part::Word(index) => nth_word(line, Separator::AsciiWhitespace, index),
-        Part::Field(field) => field_at(line, field),
+        Part::Field(field) => nth_field(line, field.delimiter, field.index),
     }
 }

@@ -1,6 +1,16 @@
 //! Options of several commands.
-use clap::{Arg, ArgAction, value_parser};
+use crate::percent::percent_of;
+use crate::threshold::Threshold;
+use crate::weights::number_of;
+use clap::{Arg, ArgAction, ArgMatches, value_parser};
 use std::alloc::Global;
+
+/// The maximum number of rows if no option chooses them.
+const USUAL_ROWS: usize = 10;
+
+/// The message of a threshold that is not allowed.
+pub const BAD_THRESHOLD: &str =
+    "--above must be a number below 2^64, or a percentage up to 100% with at most 6 decimals";
 
 /// Returns the option of the number of rows.
 pub fn rows<'a>(alloc: Global) -> Arg<'a> {
@@ -9,8 +19,34 @@ pub fn rows<'a>(alloc: Global) -> Arg<'a> {
         .long("rows")
         .value_name("K")
         .value_parser(value_parser!(u32))
-        .default_value("10")
-        .help("Prints at most K items")
+        .help("Prints at most K items; by default 10, or all with --above")
+}
+
+/// Returns the option of the threshold of rows.
+pub fn above<'a>(alloc: Global) -> Arg<'a> {
+    Arg::new(alloc, "above").long("above").value_name("N").help(
+        "Prints the items whose upper bounds are above N, or above N% of the total",
+    )
+}
+
+/// Returns the maximum number of rows that the options choose.
+pub fn rows_of(matches: &ArgMatches<'_>) -> usize {
+    match matches.get_one::<u32>("rows") {
+        Some(rows) => rows as usize,
+        None if matches.get_str("above").is_some() => usize::MAX,
+        None => USUAL_ROWS,
+    }
+}
+
+/// Returns the threshold that the options choose, or `None` if it is neither a number nor a percentage.
+pub fn threshold_of(matches: &ArgMatches<'_>) -> Option<Threshold> {
+    let Some(text) = matches.get_str("above") else {
+        return Some(Threshold::Weight(0));
+    };
+    match percent_of(text) {
+        Some(percent) => Some(Threshold::Share(percent)),
+        None => number_of(text.as_bytes()).map(|weight| Threshold::Weight(weight)),
+    }
 }
 
 /// Returns the option that omits the first line of a report.
@@ -18,7 +54,7 @@ pub fn no_header<'a>(alloc: Global) -> Arg<'a> {
     Arg::new(alloc, "no-header")
         .long("no-header")
         .action(ArgAction::SetTrue)
-        .help("Omits the first line, which has the error and the number of items")
+        .help("Omits the first line, which has the error and the total weight")
 }
 
 /// Returns the option that fixes the key.

@@ -11,7 +11,8 @@ use crate::inputs::{Inputs, read_inputs};
 use crate::reading::BLOCK;
 use crate::report::report;
 use crate::save::Keeper;
-use crate::selection::Selection;
+use crate::threshold::Threshold;
+use crate::weighing::Weighing;
 use sketch_frequencies::{FrequentItemsSketch, TableKey};
 use std::alloc::Global;
 use std::io::Write;
@@ -19,15 +20,17 @@ use std::io::Write;
 /// What is counted and printed.
 #[derive(Clone, Copy)]
 pub struct Options {
-    /// The items of a line.
-    pub selection: Selection,
+    /// The items of a line and their weights.
+    pub weighing: Weighing,
+    /// Which rows are printed.
+    pub threshold: Threshold,
     /// The maximum number of rows.
     pub rows: usize,
     /// The maximum number of slots of the table.
     pub size: usize,
     /// The maximum number of bytes of a line before its line feed.
     pub max_line: u32,
-    /// Whether the first line shows the error and the number of all items.
+    /// Whether the first line shows the error and the weight of all items.
     pub header: bool,
     /// How the table hashes.
     pub key: TableKey,
@@ -40,8 +43,8 @@ pub struct Options {
 /// # Errors
 ///
 /// Returns `BadSize` if the size is not a power of two from 8 to 2^30, and then reads nothing. Returns `LineTooLong` if a line
-/// exceeds the limit, `TooManyItems` if there are 2^64 items, and `Memory` if an allocation fails. The writer is not called
-/// then. Returns `Write` if it fails.
+/// exceeds the limit, `BadWeight` if a line with an item has no weight, `TooManyItems` if the weights of all items are at least
+/// 2^64, and `Memory` if an allocation fails. The writer is not called then. Returns `Write` if it fails.
 pub fn top<I: Inputs, K: Keeper, W: Write>(
     alloc: Global,
     options: Options,
@@ -62,13 +65,20 @@ pub fn top<I: Inputs, K: Keeper, W: Write>(
     let sketch = FrequentItemsSketch::with_key(alloc, options.size, options.key)?;
     let mut counter = ItemCounter {
         sketch,
-        selection: options.selection,
+        weighing: options.weighing,
+        count: 0,
     };
     let limit = options.max_line as usize + 1;
     let mut buffer = vec![in alloc; 0; limit.min(BLOCK)]?;
     let complete = read_inputs(alloc, &mut counter, &mut (), inputs, &mut buffer, limit)?;
     keeper.keep(&counter.sketch);
-    let text = report(alloc, &counter.sketch, options.header, options.rows)?;
+    let text = report(
+        alloc,
+        &counter.sketch,
+        options.header,
+        options.threshold,
+        options.rows,
+    )?;
     match writer.write_all(text.as_bytes()) {
         Ok(()) => Ok(complete),
         Err(e) => Err(Failure::Write(e)),

@@ -1,22 +1,20 @@
 //! Writes the lines whose items were not seen before.
-ghost use Rattle.std.specs.Hash as fed;
-ghost use Rattle.std.specs.Prelude.{◌≡◌, ◌++◌, IfErr, OnOk};
-ghost use Rattle.sketch_bloom.specs.State.{contains_item, inserted};
-ghost use Rattle.sketches.specs.Items.{part_of};
-ghost use Rattle.sketches.specs.RawLines.{raw_lines};
-ghost use Rattle.sketches.specs.Unseen.{hashed, is_seen, unseen_lines, with_items, with_lines};
 ghost use Rattle.std.specs.Io.KnownBytes.{Appends};
+ghost use Rattle.std.specs.Prelude.{◌≡◌, ◌≤◌, ◌++◌, IfErr, OnOk, length, map};
+ghost use Rattle.sketch_base.specs.Strings.{strings_at};
+ghost use Rattle.sketch_bloom.specs.State.{all_inserted, answers_in_turn};
+ghost use Rattle.sketches.specs.RawLines.{raw_lines};
+ghost use Rattle.sketches.specs.Unseen.{hashed, unseen_lines, with_lines, written_by};
 
-use crate::batches::{BATCH, choose_batch, next_lines};
+use crate::batch_sink::BatchSink;
+use crate::batches::{BATCH, take_batches, write_batch};
 use crate::failure::Failure;
+use crate::line_items::insert_line;
 use crate::line_sink::LineSink;
-use crate::raw_lines::next_line_with_end;
-use crate::raw_parts::raw_part_of;
 use crate::selection::Part;
-use sketch_base::from_utf8;
+use sketch_base::Strs;
 use sketch_bloom::BloomFilter;
 use std::alloc::Global;
-use std::hash::{Hash, Hasher};
 use std::io::Write;
 
 /// Writes the lines whose items were not seen before, or, if `repeated`, the others.
@@ -52,14 +50,8 @@ impl<W: Write> LineSink<W> for UnseenLines {
 
     fn take(&mut self, _alloc: Global, output: &mut W, bytes: &[u8]) -> Result<(), Failure> {
         self.written.clear();
-        let left_out = choose_lines(
-            &mut self.filter,
-            self.part,
-            self.repeated,
-            bytes,
-            &mut self.written,
-        )?;
-        self.left_out = self.left_out.saturating_add(left_out);
+        let part = self.part;
+        take_batches(self, part, bytes)?;
         match output.write_all(&self.written) {
             Ok(()) => Ok(()),
             Err(e) => Err(Failure::Write(e)),
@@ -67,86 +59,65 @@ impl<W: Write> LineSink<W> for UnseenLines {
     }
 }
 
-/// Appends the lines whose items the filter has not taken, or, if `repeated`, the others. Inserts the items into the filter.
-/// Returns the number of other lines.
+impl BatchSink for UnseenLines {
+    ghost use Rattle.sketches.specs.UnseenLaws.{takes_no_lines, takes_more_lines};
+
+    ghost takes = { λ part old raws new. (new.filter ≡ with_lines part old.filter raws)
+        × (new.written.items ≡ old.written.items ++ unseen_lines old.repeated part old.filter raws)
+        × (new.part ≡ old.part) × (new.repeated ≡ old.repeated) };
+
+    ghost takes_none = { λ part s. takes_no_lines s.filter part s.repeated s.part s.written.items };
+
+    ghost takes_both = { λ part r s t xs ys. takes_more_lines xs ys part r.repeated r.part s.repeated s.part t.repeated t.part
+        r.filter s.filter t.filter r.written.items s.written.items t.written.items };
+
+    #[inline(always)]
+    fn take_batch(&mut self, _part: Part, raws: &[&[u8]], items: &[&str]) -> Result<(), Failure> {
+        let others = choose_batch(
+            &mut self.filter,
+            self.repeated,
+            raws,
+            items,
+            &mut self.written,
+        )?;
+        self.left_out = self.left_out.saturating_add(others);
+        Ok(())
+    }
+
+    #[inline(always)]
+    fn take_line(&mut self, part: Part, raw: &[u8], line: &[u8]) -> Result<(), Failure> {
+        if insert_line(&mut self.filter, part, line) == self.repeated {
+            self.written.extend_from_slice(raw)?;
+        } else {
+            self.left_out = self.left_out.saturating_add(1);
+        }
+        Ok(())
+    }
+}
+
+/// Inserts items into the filter. Appends the lines of those that it had not taken, or, if `repeated`, the others. Returns the
+/// number of other lines.
 ///
 /// # Errors
 ///
 /// Returns `Memory` if an allocation fails.
-fn choose_lines(
+#[inline(always)]
+fn choose_batch(
     filter: &mut BloomFilter,
-    part: Part,
     repeated: bool,
-    bytes: &[u8],
+    raws: &[&[u8]],
+    items: &[&str],
     written: &mut Vec<u8>,
 ) -> Result<u64, Failure>
-    ensures written { OnOk result (written.new.items ≡ written.old.items ++ unseen_lines repeated part filter.old (raw_lines bytes.now)) }
-    ensures filter { OnOk result (filter.new ≡ with_lines part filter.old (raw_lines bytes.now)) }
+    requires few { length raws.now ≤ BATCH }
+    requires same { length items.now ≡ length raws.now }
+    ensures written { OnOk result (written.new.items ≡ written.old.items
+        ++ written_by repeated (answers_in_turn filter.old (map hashed (strings_at items.now))) (strings_at raws.now)) }
+    ensures filter { filter.new ≡ all_inserted filter.old (map hashed (strings_at items.now)) }
     ensures failed { IfErr result (λ failure. failure ≡ Failure.Memory) }
 {
-    let mut left_out: u64 = 0;
-    let mut rest = bytes;
-    let mut raws = [b"".as_slice(); BATCH];
-    let mut items = [""; BATCH];
-    'each: loop {
-        let (count, after) = next_lines(part, rest, &mut raws, &mut items);
-        if count > 0 {
-            let others = choose_batch(filter, repeated, &raws[..count], &items[..count], written)?;
-            left_out = left_out.saturating_add(others);
-            rest = after;
-            continue;
-        }
-        let Some((raw, line, after)) = next_line_with_end(rest) else {
-            return Ok(left_out);
-        };
-        if insert_line(filter, part, line) == repeated {
-            written.extend_from_slice(raw)?;
-        } else {
-            left_out = left_out.saturating_add(1);
-        }
-        rest = after;
-    }
-}
-
-/// Inserts the item of a line, if it has one, into a filter. Returns whether the filter contained it before.
-#[inline(always)]
-fn insert_line(filter: &mut BloomFilter, part: Part, line: &[u8]) -> bool
-    ensures seen { result ≡ is_seen filter.old (part_of part line.now) }
-    ensures filter { filter.new ≡ with_items filter.old (part_of part line.now) }
-{
-    match raw_part_of(part, line) {
-        Some(item) => insert_item(filter, item),
-        None => false,
-    }
-}
-
-/// Inserts an item into a filter. Returns whether the filter contained it before.
-#[inline(always)]
-fn insert_item(filter: &mut BloomFilter, item: &[u8]) -> bool
-    ensures seen { result ≡ contains_item filter.old (hashed item.now) }
-    ensures filter { filter.new ≡ inserted filter.old (hashed item.now) }
-{
-    match from_utf8(item) {
-        Ok(text) => filter.contains_and_insert_item(text),
-        Err(_) => filter.contains_and_insert_item(&RawItem { bytes: item }),
-    }
-}
-
-/// An item that may not be UTF-8. It is hashed as a string is.
-#[derive(Clone, Copy, PartialEq, Eq)]
-struct RawItem<'a> {
-    bytes: &'a [u8],
-}
-
-impl<'a> Hash for RawItem<'a> {
-    ghost use Rattle.std.proofs.Common.{rules};
-
-    ghost hash_input = { λ item. fed.str item.bytes.now };
-
-    ghost respects_eq = { Prim.search rules };
-
-    fn hash<H: Hasher>(&self, state: &mut H) {
-        state.write(self.bytes);
-        state.write_u8(255);
-    }
+    let mut answers = [false; BATCH];
+    let seens = &mut answers[..raws.len()];
+    filter.contains_and_insert_all(Strs(items), seens);
+    write_batch(repeated, raws, seens, written)
 }

@@ -3,16 +3,16 @@ use Rattle.sketches.proofs.Batching.{write_step, write_skip, not_true, not_false
 use Rattle.sketches.proofs.Choosing.{skips_it, writes_it}
 use Rattle.sketches.proofs.batches.write_batch.Goals as goal
 
-pub each-preserved-then-seens-i : goal.each-preserved-then-seens-i
-each-preserved-then-seens-i c =
-    let less : c.each.i < length c.args.seens.now = omega (arith, c.each-test.true, c.requires) in
-    let seen = get_or c.args.seens.now c.each.i false in
-    write_skip c.args.repeated c.args.seens.now c.args.raws.now c.each.i false _ c.each.written.items less c.each-test.true c.each.invariant
-    (λ raw. skips_it c.args.repeated seen raw (not_true _ c.if-seens-i.true))
+pub each-preserved-then-answers-i : goal.each-preserved-then-answers-i
+each-preserved-then-answers-i c =
+    let less : c.each.i < length c.args.answers.now = omega (arith, c.each-test.true, c.requires) in
+    let answer = get_or c.args.answers.now c.each.i false in
+    write_skip c.args.wanted c.args.answers.now c.args.raws.now c.each.i false _ c.each.written.items less c.each-test.true c.each.invariant
+    (λ raw. skips_it c.args.wanted answer raw (not_true _ c.if-answers-i.true))
 
 pub each-preserved : goal.each-preserved
 each-preserved c =
-    let less : c.each.i < length c.args.seens.now = omega (arith, c.each-test.true, c.requires) in
-    let seen = get_or c.args.seens.now c.each.i false in
-    write_step c.args.repeated c.args.seens.now c.args.raws.now c.each.i false _ _ c.each.written.items c.extend_from_slice.new.self.items less c.each-test.true c.each.invariant
-    (c.in_ok-extend_from_slice.ensures.items ∙ ap (λ l. c.each.written.items ++ l) (sym (writes_it c.args.repeated seen _ (not_false _ c.if-seens-i.false))))
+    let less : c.each.i < length c.args.answers.now = omega (arith, c.each-test.true, c.requires) in
+    let answer = get_or c.args.answers.now c.each.i false in
+    write_step c.args.wanted c.args.answers.now c.args.raws.now c.each.i false _ _ c.each.written.items c.extend_from_slice.new.self.items less c.each-test.true c.each.invariant
+    (c.in_ok-extend_from_slice.ensures.items ∙ ap (λ l. c.each.written.items ++ l) (sym (writes_it c.args.wanted answer _ (not_false _ c.if-answers-i.false))))

@@ -9,7 +9,7 @@ pub each-preserved : goal.each-preserved
 each-preserved g c =
     inputs_more g.S.LineSink.takes g.I.Reader.Read.remaining c.each.complete c.is_complete-complete.result
     (g.I.Inputs.inputs c.args.inputs.now) (g.I.Inputs.inputs c.each.inputs) (g.I.Inputs.inputs c.next.new.self) (g.I.Inputs.inputs c.is_complete-complete.new.inputs)
-    (c.args.sink.now, c.args.output.now) (c.each.sink, c.each.output) (c.read_lines.new.sink, c.read_lines.new.output) c.next.result c.in-Some.reader c.in_ok-failure.failure
+    (c.args.sink.now, c.args.output.now) (c.each.sink, c.each.output) (c.read_input.new.sink, c.read_input.new.output) c.next.result c.in-Some.reader c.in_ok-failure.failure
     c.each.invariant c.next.ensures c.in-Some.is c.in_ok-failure.ensures.taken c.is_complete-complete.ensures.kept c.is_complete-complete.ensures.whole
 
 pub returns-in_err-failure-clause-failed : goal.returns-in_err-failure-clause-failed

@@ -25,4 +25,4 @@ pub returns-in_err-complete-clause-failed : goal.returns-in_err-complete-clause-
 returns-in_err-complete-clause-failed g c =
     let e = err_from_is_err_and c.from_residual-in_err-complete.result c.from_residual-in_err-complete.ensures.1 in
     let empty = ap (λ (s : Sketch). s.total) c.in_ok-sketch.ensures.ok in
-    rw (e.1, e.2) (count_failed c.args.options (g.I.Inputs.inputs c.args.inputs.now) (record { sketch = c.in_ok-sketch.sketch; selection = c.args.options.selection }, tt) _ empty refl c.in_err-complete.ensures.failed)
+    rw (e.1, e.2) (count_failed c.args.options (g.I.Inputs.inputs c.args.inputs.now) (record { sketch = c.in_ok-sketch.sketch; weighing = c.args.options.weighing; count = 0 }, tt) _ empty refl c.in_err-complete.ensures.failed)

@@ -1,0 +1,133 @@
+-- Items with weights that are added one after another, lines of keys that are written, and the table.
+use Rattle.std.proofs.Common.{◌≡◌, ◌≢◌, ⊎_elim, inl, inr, ◌⊎◌, ℕ, zero, suc, ◌*◌, ◌^◌, ◌<◌, ◌≤◌, true, false, eqb, List, [], ◌∷◌, ◌++◌, None, Some, pos, append_assoc, append-nil, refl, sym, ◌∙◌, ap, subst, arith}
+use Rattle.std.proofs.lemmas.Bool.{cases_lt, eq-eqb}
+use Rattle.std.proofs.lemmas.Bool.Decides.{nat_tests}
+use Rattle.std.proofs.lemmas.List.Concat.{flat_map-append}
+use Rattle.std.proofs.lemmas.List.Elements.{All-cons, All-nil}
+use Rattle.std.specs.Hash.{le_bytes}
+use Rattle.std.specs.List.{flat_map}
+use Rattle.std.specs.Prelude.{◌==◌, nat_le, nat_lt}
+use Rattle.sketch_base.specs.Errors.{ErrorValue, refusal_of}
+use Rattle.sketch_base.specs.Hashes.{seed_hash}
+use Rattle.sketch_base.specs.Murmur3.{body, finalization, finish_words, fmix64, mix_k1, mix_k2, murmur3_x64_128}
+use Rattle.sketch_base.specs.declared.fault.Fault.TheVariants.{TableTooLarge}
+use Rattle.sketch_countmin.specs.Shapes.{shape_fault}
+use Rattle.sketch_countmin.specs.History.CountHistory.{New}
+use Rattle.sketch_countmin.specs.Stands.{StandsFor}
+use Rattle.sketch_countmin.specs.State.{CountState, IsMinCell, empty_state}
+use Rattle.sketches.specs.Faults.{failure_of}
+use Rattle.sketches.specs.Items.{part_of}
+use Rattle.sketches.specs.KeyWeightLaws.{all_lines, estimates_both, estimates_none, lines_later, lines_sooner, no_lines, one_fails, one_line}
+use Rattle.sketches.specs.KeyWeights.{CountsLines, CountsWeighed, IsEmptyTable, IsTableFor, Row, WritesEstimates, row_line, unweighed_line, usable_seed, weighed_line}
+use Rattle.sketches.specs.Unseen.{hashed}
+use Rattle.sketches.specs.WeighFailures.{FailsCounting, FailsLines, FailsTable}
+use Rattle.sketches.specs.declared.failure.Failure.{Failure}
+use Rattle.sketches.specs.declared.item_weigher.WeighedLine.{WeighedLine}
+use Rattle.sketches.specs.declared.selection.Part.{Part}
+
+-- ---- the items of lines
+
+-- the items of the lines before those that are left were added
+pub record HasCountedLines (chosen : WeighedLine) (old : CountState) (all left : List (List ℕ)) (new : CountState) : Type 0 where
+  pub done : List (List ℕ)
+  pub parts : all ≡ done ++ left
+  pub counts : CountsLines chosen old done new
+
+pub lines_none : (chosen : WeighedLine) (old : CountState) (all : List (List ℕ)) → HasCountedLines chosen old all all old
+lines_none chosen old all = record { done = []; parts = refl; counts = no_lines chosen old }
+
+-- one more line
+pub lines_more : (chosen : WeighedLine) (old mid new : CountState) (all left later : List (List ℕ)) (line : List ℕ) → HasCountedLines chosen old all left mid → left ≡ line ∷ later → CountsWeighed mid (weighed_line chosen line) new × (unweighed_line chosen line ≡ []) → HasCountedLines chosen old all later new
+lines_more chosen old mid new all left later line so next more = record {
+  done = so.done ++ line ∷ [];
+  parts = so.parts ∙ (ap (λ l. so.done ++ l) next ∙ sym (append_assoc so.done (line ∷ []) later));
+  counts = all_lines chosen old mid new so.done (line ∷ []) so.counts (one_line chosen mid new line more);
+}
+
+-- all lines
+pub lines_all : (chosen : WeighedLine) (old new : CountState) (all left : List (List ℕ)) → HasCountedLines chosen old all left new → left ≡ [] → CountsLines chosen old all new
+lines_all chosen old new all left so none = subst (λ l. CountsLines chosen old l new) (sym (so.parts ∙ (ap (λ l. so.done ++ l) none ∙ append-nil so.done))) so.counts
+
+-- a failure at one more line
+pub lines_failed : (chosen : WeighedLine) (old mid : CountState) (all left later : List (List ℕ)) (line : List ℕ) (e : Failure) → HasCountedLines chosen old all left mid → left ≡ line ∷ later → FailsCounting mid (weighed_line chosen line) (unweighed_line chosen line) e → FailsLines chosen old all e
+lines_failed chosen old mid all left later line e so next f =
+    subst (λ l. FailsLines chosen old l e) (sym (so.parts ∙ ap (λ l. so.done ++ l) next))
+    (lines_later chosen old mid so.done (line ∷ later) e so.counts (lines_sooner chosen mid (line ∷ []) later e (one_fails chosen mid line e f)))
+
+-- ---- the keys of lines
+
+-- a line for one key
+pub one_written : (s : CountState) (key : List ℕ) (number : ℕ) (held holds : List ℕ) → IsMinCell s (hashed key) (pos number) → holds ≡ held ++ row_line (number, key) → WritesEstimates s (key ∷ []) (Some held) (Some holds)
+one_written s key number held holds least wrote = record {
+  rows = (number, key) ∷ [];
+  keys_are = refl;
+  estimates = All-cons (λ (row : Row). IsMinCell s (hashed row.1) (pos row.0)) (number, key) [] least (All-nil (λ (row : Row). IsMinCell s (hashed row.1) (pos row.0)));
+  wrote = wrote ∙ ap (λ l. held ++ l) (sym (append-nil (row_line (number, key))));
+}
+
+-- the lines of the keys of the lines before those that are left were written
+pub record HasWrittenKeys (part : Part) (s : CountState) (all left : List (List ℕ)) (held holds : List ℕ) : Type 0 where
+  pub done : List (List ℕ)
+  pub parts : all ≡ done ++ left
+  pub wrote : WritesEstimates s (flat_map (part_of part) done) (Some held) (Some holds)
+
+pub keys_none : (part : Part) (s : CountState) (all : List (List ℕ)) (held : List ℕ) → HasWrittenKeys part s all all held held
+keys_none part s all held = record { done = []; parts = refl; wrote = estimates_none s (Some held) }
+
+-- one more line
+pub keys_more : (part : Part) (s : CountState) (all left later : List (List ℕ)) (line held holds now : List ℕ) → HasWrittenKeys part s all left held holds → left ≡ line ∷ later → WritesEstimates s (part_of part line) (Some holds) (Some now) → HasWrittenKeys part s all later held now
+keys_more part s all left later line held holds now so next more = record {
+  done = so.done ++ line ∷ [];
+  parts = so.parts ∙ (ap (λ l. so.done ++ l) next ∙ sym (append_assoc so.done (line ∷ []) later));
+  wrote =
+      subst (λ l. WritesEstimates s l (Some held) (Some now)) (sym (flat_map-append (part_of part) so.done (line ∷ []) ∙ ap (λ l. flat_map (part_of part) so.done ++ l) (append-nil (part_of part line))))
+      (estimates_both s (flat_map (part_of part) so.done) (part_of part line) (Some held) (Some holds) (Some now) so.wrote more);
+}
+
+-- all lines
+pub keys_all : (part : Part) (s : CountState) (all left : List (List ℕ)) (held holds : List ℕ) → HasWrittenKeys part s all left held holds → left ≡ [] → WritesEstimates s (flat_map (part_of part) all) (Some held) (Some holds)
+keys_all part s all left held holds so none =
+    subst (λ l. WritesEstimates s (flat_map (part_of part) l) (Some held) (Some holds)) (sym (so.parts ∙ (ap (λ l. so.done ++ l) none ∙ append-nil so.done))) so.wrote
+
+-- ---- the table
+
+-- the seeds of the published formats have a hash that is not 0
+default_seeded : seed_hash 9001 ≡ 37836
+unfolding seed_hash le_bytes murmur3_x64_128 body finish_words finalization mix_k1 mix_k2 fmix64
+default_seeded = refl
+
+zero_or_more : (n : ℕ) → (n ≡ 0) ⊎ (0 < n)
+zero_or_more zero = inl refl
+zero_or_more (suc n) = inr (omega arith)
+
+seeded : (seed : ℕ) → seed_hash (usable_seed seed) ≢ 0
+seeded seed e =
+    ⊎_elim
+    (λ zero. let is : usable_seed seed ≡ 9001 = rw (eq-eqb (seed_hash seed) 0 zero) refl in absurd (omega (arith, sym (ap seed_hash is) ∙ e, default_seeded)))
+    (λ some. let test : eqb (seed_hash seed) 0 ≡ false = grind (arith, nat_tests) in let is : usable_seed seed ≡ seed = rw test refl in absurd (omega (arith, sym (ap seed_hash is) ∙ e, some)))
+    (zero_or_more (seed_hash seed))
+
+no_fault : (hashes buckets seed : ℕ) → 1 ≤ hashes → 3 ≤ buckets → hashes * buckets < 2 ^ 30 → seed_hash seed ≢ 0 → shape_fault hashes buckets seed ≡ None
+no_fault hashes buckets seed some wide small good = let t : (hashes == 0) ≡ false = grind (arith, nat_tests) in let u : nat_lt buckets 3 ≡ false = grind (arith, nat_tests) in let v : nat_le (2 ^ 30) (hashes * buckets) ≡ false = grind (arith, nat_tests) in let w : (seed_hash seed == 0) ≡ false = grind (arith, nat_tests) in rw (t, u, v, w) refl
+
+too_large : (hashes buckets seed : ℕ) → 1 ≤ hashes → 3 ≤ buckets → 2 ^ 30 ≤ hashes * buckets → shape_fault hashes buckets seed ≡ Some TableTooLarge
+too_large hashes buckets seed some wide large = let t : (hashes == 0) ≡ false = grind (arith, nat_tests) in let u : nat_lt buckets 3 ≡ false = grind (arith, nat_tests) in let v : nat_le (2 ^ 30) (hashes * buckets) ≡ true = grind (arith, nat_tests) in rw (t, u, v) refl
+
+-- a sketch of suggested sizes is not made
+pub table_failed : (parts questions hashes buckets seed : ℕ) (e : ErrorValue) → IsTableFor parts questions hashes buckets → 1 ≤ hashes → 3 ≤ buckets → e ≡ refusal_of (shape_fault hashes buckets (usable_seed seed)) → FailsTable parts questions (failure_of e.fault)
+table_failed parts questions hashes buckets seed e sizes some wide refused = ⊎_elim
+    (λ small. rw (refused ∙ ap refusal_of (no_fault hashes buckets (usable_seed seed) some wide small (seeded seed))) tt)
+    (λ large. rw (refused ∙ ap refusal_of (too_large hashes buckets (usable_seed seed) some wide large)) (inr (inr (inr (hashes, buckets, sizes, large)))))
+    (cases_lt (hashes * buckets) (2 ^ 30))
+
+-- a sketch of suggested sizes is made
+pub table_made : (parts questions seed hashes buckets : ℕ) (s : CountState) → IsTableFor parts questions hashes buckets → 3 ≤ buckets → s ≡ empty_state hashes buckets (usable_seed seed) → StandsFor s (New hashes buckets (usable_seed seed)) → IsEmptyTable parts questions seed s
+table_made parts questions seed hashes buckets s sizes wide is stands =
+    let h : hashes ≡ s.hashes = ap (λ (t : CountState). t.hashes) (sym is) in
+    let b : buckets ≡ s.buckets = ap (λ (t : CountState). t.buckets) (sym is) in
+    record {
+      sizes = subst (λ (n : ℕ). IsTableFor parts questions n s.buckets) h (subst (λ (n : ℕ). IsTableFor parts questions hashes n) b sizes);
+      some_buckets = omega (arith, b, wide);
+      is = subst (λ (n : ℕ). s ≡ empty_state n s.buckets (usable_seed seed)) h (subst (λ (n : ℕ). s ≡ empty_state hashes n (usable_seed seed)) b is);
+      stands = subst (λ (n : ℕ). StandsFor s (New n s.buckets (usable_seed seed))) h (subst (λ (n : ℕ). StandsFor s (New hashes n (usable_seed seed))) b stands);
+    }

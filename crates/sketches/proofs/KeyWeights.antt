@@ -1,0 +1,289 @@
+-- The weights of keys that are printed, and why a run ended without.
+use Rattle.std.proofs.Common.{◌≡◌, ⊎_elim, inl, inr, ℕ, ◌+◌, ◌^◌, ◌<◌, ◌≤◌, Bool, true, false, cond, List, [], ◌∷◌, ◌++◌, get_or, length, map, Option, None, Some, IfSome, pos, ◌+ℤ◌, append-nil, refl, sym, ◌∙◌, ap, subst, arith, length-append}
+use Rattle.std.proofs.lemmas.Bool.{eq-eqb, false≢true}
+use Rattle.std.proofs.lemmas.Int.{ints}
+use Rattle.std.proofs.lemmas.List.Concat.{flat_map-append}
+use Rattle.std.proofs.lemmas.List.Sums.{sum_by-cons}
+use Rattle.std.proofs.lemmas.Slice.Eq.{bytes_eq-Decides}
+use Rattle.std.specs.Io.KnownBytes.{Appends}
+use Rattle.std.specs.List.{AllZip, flat_map}
+use Rattle.std.specs.Prelude.{◌==◌, All, sum_by}
+use Rattle.std.specs.Str.{bytes_eq}
+use Rattle.std.specs.Str.Lines.{lines}
+use Rattle.sketch_countmin.specs.Buckets.{bucket_of}
+use Rattle.sketch_countmin.specs.History.{CountHistory, each_updated, of_first, value_over}
+use Rattle.sketch_countmin.specs.History.CountHistory.{New, Update}
+use Rattle.sketch_countmin.specs.Stands.{StandsFor}
+use Rattle.sketch_countmin.specs.State.{CountState, IsMinCell, item_cell}
+use Rattle.sketch_countmin.proofs.Estimates.{bucket_below}
+use Rattle.sketches.specs.AddingLaws.{lines_both}
+use Rattle.sketches.specs.Failures.{FailsWriting}
+use Rattle.sketches.specs.Inputs.{FailsAmong, FailsInputs, FailsTakingInputs, TakesEach, TakesInputs}
+use Rattle.sketches.specs.KeyWeightLaws.{all_lines, no_lines}
+use Rattle.sketches.specs.KeyWeights.{CountsLines, CountsWeighed, IsEmptyTable, IsWeightOf, Row, WritesEstimates, WritesWeights, bucket_weight, counted, parts_in, total_line, unweighed_in, unweighed_line, unweighed_lines, usable_seed, weighed_in, weighed_line, weighed_lines}
+use Rattle.sketches.specs.Reading.{AreFirstLines, FailsInput, TakesInput}
+use Rattle.sketches.specs.Unseen.{hashed}
+use Rattle.sketches.specs.UnseenLaws.{appends_both}
+use Rattle.sketches.specs.WeighFailures.{ComesLate, FailsLines, FailsWeigh}
+use Rattle.sketches.specs.Weighed.{Weighed, total_of}
+use Rattle.sketches.specs.WeighingLaws.{total_both}
+use Rattle.sketches.specs.declared.failure.BadWeight.{BadWeight as BadWeightValue}
+use Rattle.sketches.specs.declared.failure.Failure.{Failure}
+use Rattle.sketches.specs.declared.failure.Failure.TheVariants.{Memory, LineTooLong, TooManyItems, BadSize, BadWeight, Write}
+use Rattle.sketches.specs.declared.item_weigher.ItemWeigher.{ItemWeigher}
+use Rattle.sketches.specs.declared.item_weigher.WeighedLine.{WeighedLine}
+use Rattle.sketches.specs.declared.key_weights.KeyWeights.{KeyWeights}
+use Rattle.sketches.specs.declared.selection.Part.{Part}
+use Rattle.sketches.specs.declared.weigh.WeighOptions.{WeighOptions}
+use Rattle.sketches.proofs.ReadInputs.{IsTaken, taken_one}
+
+-- ---- the weight in a bucket
+
+-- the weight of the items that pass a test
+abbrev weight_where : (List ℕ → Bool) → Weighed → ℕ
+weight_where test items = sum_by (λ pair. cond (test pair.0) pair.1 0) items
+
+kept_weight : (t : Bool) (w : ℕ) → cond t (pos w) (pos 0) ≡ pos (cond t w 0)
+kept_weight true w = refl
+kept_weight false w = refl
+
+-- what a history with more items gives to those that pass a test
+value_each : (h : CountHistory) (test : List ℕ → Bool) (items : Weighed) → value_over (each_updated h (map counted items)) test ≡ value_over h test +ℤ pos (weight_where (λ item. test (hashed item)) items)
+value_each h test [] = omega (arith, ints)
+value_each h test (x ∷ items) =
+    let weight : List ℕ × ℕ → ℕ = λ pair. cond (test (hashed pair.0)) pair.1 0 in
+    omega (arith, ints, value_each (Update h (hashed x.0) (pos x.1)) test items, kept_weight (test (hashed x.0)) x.1, sum_by-cons weight x items)
+
+-- more items weigh no less
+one_mono : (s t : Bool) (w : ℕ) → (s ≡ true → t ≡ true) → cond s w 0 ≤ cond t w 0
+one_mono true true w more = omega arith
+one_mono true false w more = absurd (false≢true (more refl))
+one_mono false t w more = omega arith
+
+one_within : (t : Bool) (w : ℕ) → cond t w 0 ≤ w
+one_within true w = omega arith
+one_within false w = omega arith
+
+weight_mono : (f g : List ℕ → Bool) (items : Weighed) → ((x : List ℕ) → f x ≡ true → g x ≡ true) → weight_where f items ≤ weight_where g items
+weight_mono f g [] more = omega arith
+weight_mono f g (x ∷ items) more =
+    let first : List ℕ × ℕ → ℕ = λ pair. cond (f pair.0) pair.1 0 in
+    let second : List ℕ × ℕ → ℕ = λ pair. cond (g pair.0) pair.1 0 in
+    omega (arith, weight_mono f g items more, one_mono (f x.0) (g x.0) x.1 (more x.0), sum_by-cons first x items, sum_by-cons second x items)
+
+weight_within : (f : List ℕ → Bool) (items : Weighed) → weight_where f items ≤ total_of items
+weight_within f [] = omega arith
+weight_within f (x ∷ items) =
+    let weight : List ℕ × ℕ → ℕ = λ pair. cond (f pair.0) pair.1 0 in
+    let all : List ℕ × ℕ → ℕ = λ pair. pair.1 in
+    omega (arith, weight_within f items, one_within (f x.0) x.1, sum_by-cons weight x items, sum_by-cons all x items)
+
+-- a key is in its own bucket
+own_bucket : (d seed r : ℕ) (key other : List ℕ) → bytes_eq other key ≡ true → (bucket_of d seed r (hashed other) == bucket_of d seed r (hashed key)) ≡ true
+own_bucket d seed r key other same = eq-eqb (bucket_of d seed r (hashed other)) (bucket_of d seed r (hashed key)) (ap (λ (x : List ℕ). bucket_of d seed r (hashed x)) ((bytes_eq-Decides other key).0 same))
+
+plus_none : (n : ℕ) → pos 0 +ℤ pos n ≡ pos n
+plus_none n = omega (arith, ints)
+
+-- the least cell of a key, where all its cells are known
+module _ (s : CountState) (items : Weighed) (row : Row) where
+  abbrev cell_weight : ℕ → ℕ
+  cell_weight r = bucket_weight s.buckets s.seed items row.1 r
+
+  is_weight : ((r : ℕ) → r < s.hashes → item_cell s (hashed row.1) r ≡ pos (cell_weight r)) → IsMinCell s (hashed row.1) (pos row.0) → IsWeightOf s.hashes s.buckets s.seed items row
+  is_weight cell least =
+      let found = least.reached in
+      let here : row.0 ≡ cell_weight found.0 = omega (arith, ints, found.2, cell found.0 found.1) in
+      let same : List ℕ → Bool = λ item. bytes_eq item row.1 in
+      let near : List ℕ → Bool = λ item. bucket_of s.buckets s.seed found.0 (hashed item) == bucket_of s.buckets s.seed found.0 (hashed row.1) in
+      record {
+        enough = omega (arith, here, weight_mono same near items (own_bucket s.buckets s.seed found.0 row.1));
+        within = omega (arith, here, weight_within near items);
+        below = λ r less. omega (arith, ints, least.below r less, cell r less);
+        reached = (found.0, found.1, here);
+      }
+
+cells_are : (hashes buckets seed : ℕ) (s : CountState) (items : Weighed) (key : List ℕ) → 0 < s.buckets → StandsFor s (each_updated (New hashes buckets seed) (map counted items)) → (r : ℕ) → r < s.hashes
+    → item_cell s (hashed key) r ≡ pos (bucket_weight s.buckets s.seed items key r)
+cells_are hashes buckets seed s items key some stands r less =
+    let b : ℕ = bucket_of s.buckets s.seed r (hashed key) in
+    stands.cells r less b (bucket_below s.buckets s.seed r (hashed key) some)
+    ∙ (value_each (New hashes buckets seed) (λ bytes. bucket_of s.buckets s.seed r bytes == b) items
+    ∙ plus_none (bucket_weight s.buckets s.seed items key r))
+
+first_each : (f : ℕ → ℕ → ℕ → ℕ) (h : CountHistory) (items : Weighed) → of_first f (each_updated h (map counted items)) ≡ of_first f h
+first_each f h [] = refl
+first_each f h (x ∷ items) = first_each f (Update h (hashed x.0) (pos x.1)) items
+
+-- the numbers of a sketch that has these items
+are_weights : (made s : CountState) (seed : ℕ) (items : Weighed) (rows : List Row) → 0 < made.buckets → StandsFor made (New made.hashes made.buckets seed) → CountsWeighed made items s → All (λ row. IsMinCell s (hashed row.1) (pos row.0)) rows
+    → All (IsWeightOf made.hashes made.buckets seed items) rows
+are_weights made s seed items rows some new adds estimates =
+    let stands = adds.stands (New made.hashes made.buckets seed) new in
+    let hashes : s.hashes ≡ made.hashes = stands.hashes ∙ first_each (λ hashes buckets seed. hashes) (New made.hashes made.buckets seed) items in
+    let buckets : s.buckets ≡ made.buckets = stands.buckets ∙ first_each (λ hashes buckets seed. buckets) (New made.hashes made.buckets seed) items in
+    let seeds : s.seed ≡ seed = stands.seed ∙ first_each (λ hashes buckets seed. seed) (New made.hashes made.buckets seed) items in
+    let enough : 0 < s.buckets = omega (arith, buckets, some) in
+    λ k d less.
+    subst (λ (n : ℕ). IsWeightOf made.hashes made.buckets n items (get_or rows k d)) seeds
+    (subst (λ (n : ℕ). IsWeightOf made.hashes n s.seed items (get_or rows k d)) buckets
+    (subst (λ (n : ℕ). IsWeightOf n s.buckets s.seed items (get_or rows k d)) hashes
+    (is_weight s items (get_or rows k d) (cells_are made.hashes made.buckets seed s items (get_or rows k d).1 enough stands) (estimates k d less))))
+
+-- ---- what was weighed of inputs
+
+abbrev Weigher : Type 0
+Weigher = ItemWeigher × Unit {0}
+
+-- what the sink does with bytes of lines
+abbrev pub Weighs : Weigher → List ℕ → Weigher → Type 0
+Weighs old bytes new = CountsLines old.0.chosen old.0.sketch (lines bytes) new.0.sketch × (new.0.chosen ≡ old.0.chosen)
+
+abbrev pub FailsWeighs : Weigher → List ℕ → Failure → Type 0
+FailsWeighs old bytes failure = FailsLines old.0.chosen old.0.sketch (lines bytes) failure
+
+abbrev WeighsAll : WeighedLine → (old : CountState) → List (List ℕ) → Weigher → Type 0
+WeighsAll p old read new = CountsLines p old (flat_map lines read) new.0.sketch × (new.0.chosen ≡ p)
+
+-- the items of each list were added
+each_weighed : (old new : Weigher) (read : List (List ℕ)) → TakesEach Weighs old read new → WeighsAll old.0.chosen old.0.sketch read new
+each_weighed old new [] same = subst (λ (s : Weigher). WeighsAll old.0.chosen old.0.sketch [] s) (sym same) (no_lines old.0.chosen old.0.sketch, refl)
+each_weighed old new (bytes ∷ read) (mid, (first, kept), rest) =
+    let (later, kept') = each_weighed mid new read rest in (
+      all_lines old.0.chosen old.0.sketch mid.0.sketch new.0.sketch (lines bytes) (flat_map lines read) first
+          (subst (λ (p : WeighedLine). CountsLines p mid.0.sketch (flat_map lines read) new.0.sketch) kept later),
+      kept' ∙ kept,
+    )
+
+-- ---- what was written
+
+module _ {W : Type 0} (contents : W → Option (List ℕ)) where
+  -- what the sink does with lines of keys
+  abbrev pub WritesKeys : KeyWeights × W → List ℕ → KeyWeights × W → Type 0
+  WritesKeys old bytes new =
+      WritesEstimates old.0.sketch (parts_in old.0.part bytes) (contents old.1) (contents new.1) × (new.0.sketch ≡ old.0.sketch) × (new.0.part ≡ old.0.part)
+
+  abbrev pub FailsKeys : KeyWeights × W → List ℕ → Failure → Type 0
+  FailsKeys old bytes failure = FailsWriting failure
+
+  pub weights_written : {E : Type 0} (options : WeighOptions) (was : Option (List (List ℕ))) (bytes : Option (List ℕ)) (complete : Bool) (failure : Option E) (made : CountState) (weigher weighed : Weigher) (total : ℕ) (held : Option (List ℕ)) (old new : KeyWeights × W)
+      → IsEmptyTable options.parts options.questions options.seed made → weigher.0.sketch ≡ made → weigher.0.chosen ≡ options.chosen → TakesInputs Weighs was complete weigher weighed
+      → pos total ≡ pos weighed.0.sketch.total → Appends held (contents old.1) (total_line options.header total) → old.0.sketch ≡ weighed.0.sketch → old.0.part ≡ options.keys_part → TakesInput WritesKeys bytes failure old new
+      → IfSome was (λ inputs. IfSome bytes (λ keys. WritesWeights options inputs complete keys failure held (contents new.1)))
+  weights_written options None bytes complete failure made weigher weighed total held old new empty begin part weighs sum wrote sketch keys_part taken = tt
+  weights_written options (Some inputs) None complete failure made weigher weighed total held old new empty begin part weighs sum wrote sketch keys_part taken = tt
+  weights_written {E = E} options (Some inputs) (Some keys) complete failure made weigher weighed total held old new empty begin part (read, are, each) sum wrote sketch keys_part taken =
+      let one : IsTaken WritesKeys keys (failure ≡ None) old new = taken_one WritesKeys keys failure old new taken in
+      let items : Weighed = weighed_in options.chosen read in
+      let counts : CountsLines options.chosen made (flat_map lines read) weighed.0.sketch =
+      subst (λ (p : WeighedLine). CountsLines p made (flat_map lines read) weighed.0.sketch) part (subst (λ (s : CountState). CountsLines weigher.0.chosen s (flat_map lines read) weighed.0.sketch) begin (each_weighed weigher weighed read each).0) in
+      let adds : CountsWeighed made items weighed.0.sketch = counts.0 in
+      let written : WritesEstimates weighed.0.sketch (parts_in options.keys_part one.got) (contents old.1) (contents new.1) =
+      subst (λ (p : Part). WritesEstimates weighed.0.sketch (parts_in p one.got) (contents old.1) (contents new.1)) keys_part (subst (λ (s : CountState). WritesEstimates s (parts_in old.0.part one.got) (contents old.1) (contents new.1)) sketch one.taken.0) in
+      let none : made.total ≡ 0 = ap (λ (s : CountState). s.total) empty.is in
+      let all : total ≡ total_of items = omega (arith, ints, sum, adds.total, none) in
+      record {
+        read = read;
+        are = are;
+        read_keys = one.got;
+        front = one.front;
+        whole = one.same;
+        hashes = made.hashes;
+        buckets = made.buckets;
+        table = empty.sizes;
+        rows = written.rows;
+        keys_are = written.keys_are;
+        each = counts.1;
+        weights = are_weights made weighed.0.sketch (usable_seed options.seed) items written.rows empty.some_buckets empty.stands adds written.estimates;
+        wrote = appends_both held (contents old.1) (contents new.1) _ _ (subst (λ (n : ℕ). Appends held (contents old.1) (total_line options.header n)) all wrote) written.wrote;
+      }
+
+-- ---- failures
+
+module _ (p : WeighedLine) where
+  -- the items of the first input and of the others
+  first_weighed : (bytes : List ℕ) (inputs : List (List ℕ)) → weighed_in p (bytes ∷ inputs) ≡ weighed_lines p (lines bytes) ++ weighed_in p inputs
+  first_weighed bytes inputs = flat_map-append (weighed_line p) (lines bytes) (flat_map lines inputs)
+
+  -- the first lines weigh at most all
+  few_first : (bytes read : List ℕ) → AreFirstLines bytes read → total_of (weighed_lines p (lines read)) ≤ total_of (weighed_lines p (lines bytes))
+  few_first bytes read ([], parts, whole) = let same = ap (λ (l : List ℕ). total_of (weighed_lines p (lines l))) (parts ∙ append-nil read) in omega (arith, same)
+  few_first bytes read (x ∷ rest, parts, whole) =
+      let both = ap (λ (l : Weighed). total_of l) (ap (λ (l : List ℕ). weighed_lines p (lines l)) parts ∙ (ap (weighed_lines p) (lines_both read (x ∷ rest) (whole (omega arith))) ∙ flat_map-append (weighed_line p) (lines read) (lines (x ∷ rest)))) in
+      omega (arith, both, total_both (weighed_lines p (lines read)) (weighed_lines p (lines (x ∷ rest))))
+
+  few_of_each : (inputs read : List (List ℕ)) → AllZip AreFirstLines inputs read → total_of (weighed_in p read) ≤ total_of (weighed_in p inputs)
+  few_of_each [] [] fronts = omega arith
+  few_of_each [] (r ∷ read) fronts = absurd fronts
+  few_of_each (bytes ∷ inputs) [] fronts = absurd fronts
+  few_of_each (bytes ∷ inputs) (r ∷ read) fronts =
+      let here = ap (λ (l : Weighed). total_of l) (first_weighed r read) in
+      let all = ap (λ (l : Weighed). total_of l) (first_weighed bytes inputs) in
+      omega (arith, few_first bytes r fronts.0, few_of_each inputs read fronts.1, here, all, total_both (weighed_lines p (lines r)) (weighed_in p read), total_both (weighed_lines p (lines bytes)) (weighed_in p inputs))
+
+  -- the lines of inputs, of which one is in the midst
+  lines_among : (earlier later : List (List ℕ)) (input : List ℕ) → flat_map lines (earlier ++ input ∷ later) ≡ flat_map lines earlier ++ (lines input ++ flat_map lines later)
+  lines_among earlier later input = flat_map-append lines earlier (input ∷ later)
+
+  weighed_among : (earlier later : List (List ℕ)) (input : List ℕ) → weighed_in p (earlier ++ input ∷ later) ≡ weighed_in p earlier ++ (weighed_lines p (lines input) ++ weighed_in p later)
+  weighed_among earlier later input =
+      ap (weighed_lines p) (lines_among earlier later input)
+      ∙ (flat_map-append (weighed_line p) (flat_map lines earlier) (lines input ++ flat_map lines later) ∙ ap (λ l. weighed_in p earlier ++ l) (flat_map-append (weighed_line p) (lines input) (flat_map lines later)))
+
+  unweighed_among : (earlier later : List (List ℕ)) (input : List ℕ) → unweighed_in p (earlier ++ input ∷ later) ≡ unweighed_in p earlier ++ (unweighed_lines p (lines input) ++ unweighed_in p later)
+  unweighed_among earlier later input =
+      ap (unweighed_lines p) (lines_among earlier later input)
+      ∙ (flat_map-append (unweighed_line p) (flat_map lines earlier) (lines input ++ flat_map lines later) ∙ ap (λ l. unweighed_in p earlier ++ l) (flat_map-append (unweighed_line p) (lines input) (flat_map lines later)))
+
+too_many : (old : Weigher) (inputs : List (List ℕ)) → old.0.sketch.total ≡ 0 → FailsAmong Weighs FailsWeighs inputs old TooManyItems → 2 ^ 64 ≤ total_of (weighed_in old.0.chosen inputs)
+too_many old inputs new f =
+    let p : WeighedLine = old.0.chosen in
+    let (added, same) = each_weighed old f.mid f.read f.taken in
+    let here : Weighed = weighed_lines p (lines f.input) in
+    let last : 2 ^ 64 ≤ f.mid.0.sketch.total + total_of here = subst (λ (q : WeighedLine). 2 ^ 64 ≤ f.mid.0.sketch.total + total_of (weighed_lines q (lines f.input))) same f.reason in
+    let all = ap (λ (l : Weighed). total_of l) (ap (weighed_in p) f.parts ∙ weighed_among p f.earlier f.later f.input) in
+    omega (arith, last, added.0.total, new, few_of_each p f.earlier f.read f.fronts, all, total_both (weighed_in p f.earlier) (here ++ weighed_in p f.later), total_both here (weighed_in p f.later))
+
+without_one : (old : Weigher) (inputs : List (List ℕ)) (found : BadWeightValue) → FailsAmong Weighs FailsWeighs inputs old (BadWeight found) → 0 < length (unweighed_in old.0.chosen inputs)
+without_one old inputs found f =
+    let p : WeighedLine = old.0.chosen in
+    let (added, same) = each_weighed old f.mid f.read f.taken in
+    let here : List (List ℕ) = unweighed_lines p (lines f.input) in
+    let some : 0 < length here = subst (λ (q : WeighedLine). 0 < length (unweighed_lines q (lines f.input))) same f.reason in
+    let all = ap (λ (l : List (List ℕ)). length l) (ap (unweighed_in p) f.parts ∙ unweighed_among p f.earlier f.later f.input) in
+    omega (arith, some, all, length-append (unweighed_in p f.earlier) (here ++ unweighed_in p f.later), length-append here (unweighed_in p f.later))
+
+taking_failed : (options : WeighOptions) (was : Option (List (List ℕ))) (keys : Option (List ℕ)) (old : Weigher) (e : Failure) → old.0.sketch.total ≡ 0 → old.0.chosen ≡ options.chosen → FailsTakingInputs Weighs FailsWeighs was old e → FailsWeigh options was keys e
+taking_failed options was keys old Memory new same f = tt
+taking_failed options was keys old LineTooLong new same f = absurd f.some.2
+taking_failed options None keys old TooManyItems new same f = tt
+taking_failed options (Some inputs) keys old TooManyItems new same f = subst (λ (p : WeighedLine). 2 ^ 64 ≤ total_of (weighed_in p inputs)) same (too_many old inputs new f.known)
+taking_failed options None keys old (BadWeight found) new same f = tt
+taking_failed options (Some inputs) keys old (BadWeight found) new same f = subst (λ (p : WeighedLine). 0 < length (unweighed_in p inputs)) same (without_one old inputs found f.known)
+taking_failed options was keys old BadSize new same f = absurd f.some.2
+taking_failed options was keys old (Write error) new same f = tt
+
+pub weigh_failed : (options : WeighOptions) (was : Option (List (List ℕ))) (keys : Option (List ℕ)) (old : Weigher) (e : Failure) → old.0.sketch.total ≡ 0 → old.0.chosen ≡ options.chosen → FailsInputs Weighs FailsWeighs (options.max_line + 1) was old e → FailsWeigh options was keys e
+weigh_failed options was keys old e new same failed = ⊎_elim
+    (λ memory. rw memory tt)
+    (λ other. ⊎_elim (λ long. rw long.0 (inl long.1)) (λ taking. taking_failed options was keys old e new same taking) other)
+    failed
+
+-- a failure while the keys are read
+pub record IsLateFailure (options : WeighOptions) (was : Option (List (List ℕ))) (keys : Option (List ℕ)) (e : Failure) : Type 0 where
+  pub fails : FailsWeigh options was keys e
+  pub late : ComesLate e
+
+pub writing_failed : (options : WeighOptions) (was : Option (List (List ℕ))) (keys : Option (List ℕ)) (e : Failure) → FailsWriting e → IsLateFailure options was keys e
+writing_failed options was keys Memory f = record { fails = tt; late = tt }
+writing_failed options was keys LineTooLong f = absurd f
+writing_failed options was keys TooManyItems f = absurd f
+writing_failed options was keys BadSize f = absurd f
+writing_failed options was keys (BadWeight found) f = absurd f
+writing_failed options was keys (Write error) f = record { fails = tt; late = tt }
+
+pub keys_failed : {W : Type 0} (contents : W → Option (List ℕ)) (options : WeighOptions) (was : Option (List (List ℕ))) (keys : Option (List ℕ)) (old : KeyWeights × W) (e : Failure) → FailsInput (FailsKeys contents) (options.max_line + 1) keys old e → IsLateFailure options was keys e
+keys_failed contents options was keys old e failed = ⊎_elim
+    (λ memory. rw memory (record { fails = tt; late = tt }))
+    (λ other. ⊎_elim (λ long. rw long.0 (record { fails = inr long.1; late = tt })) (λ taking. writing_failed options was keys e taking.some.2) other)
+    failed

@@ -1,0 +1,12 @@
+use Rattle.sketches.proofs.JoinedInputs.{joined}
+use Rattle.sketches.proofs.join.join.Goals as goal
+
+pub returns-in-Ok-read_inputs-clause-written : goal.returns-in-Ok-read_inputs-clause-written
+returns-in-Ok-read_inputs-clause-written g c =
+    let o = c.args.options in
+    let filter = c.in_ok-filter.filter in (
+      c.in-Ok.empty,
+      c.in-Ok.ensures.made,
+      joined g.W.Write.contents c.in-Ok.empty o.keys_part (g.K.Read.remaining c.args.keys.now) (g.I.Inputs.inputs c.args.inputs.now) c.in-Ok-read_inputs.complete
+          (record { filter = filter; part = o.part; wanted = o.wanted; left_out = 0; written = c.new.result }, c.args.writer.now) (c.read_inputs.new.sink, c.read_inputs.new.output) c.in_ok-filter.ensures.inserted c.in-Ok-read_inputs.ensures.taken,
+    )

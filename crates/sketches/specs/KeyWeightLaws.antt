@@ -1,0 +1,140 @@
+-- The laws of items with weights that are added one after another, and of estimates that are written.
+use Rattle.std.proofs.Common.{◌≡◌, ℕ, List, [], ◌∷◌, ◌++◌, map, Option, ℤ, append-nil, refl, sym, ◌∙◌, ap, subst, arith, length-append}
+use Rattle.std.proofs.lemmas.List.{map-append}
+use Rattle.std.proofs.lemmas.List.Concat.{flat_map-append}
+use Rattle.std.proofs.lemmas.List.Elements.{All-append, All-nil}
+use Rattle.std.specs.Io.KnownBytes.{Appends}
+use Rattle.std.specs.List.{flat_map}
+use Rattle.std.specs.Prelude.{pos}
+use Rattle.std.specs.Str.Lines.{lines}
+use Rattle.sketch_countmin.specs.History.{CountHistory, each_updated}
+use Rattle.sketch_countmin.specs.History.CountHistory.{Update}
+use Rattle.sketch_countmin.specs.Stands.{StandsFor}
+use Rattle.sketch_countmin.specs.State.{CountState, IsMinCell}
+use Rattle.sketches.specs.AddingLaws.{lines_both}
+use Rattle.sketches.specs.Items.{part_of}
+use Rattle.sketches.specs.KeyWeights.{CountsLines, CountsWeighed, Row, WritesEstimates, counted, parts_in, row_line, unweighed_line, unweighed_lines, weighed_line, weighed_lines}
+use Rattle.sketches.specs.Reading.{AreWholeLines}
+use Rattle.sketches.specs.Unseen.{hashed}
+use Rattle.sketches.specs.UnseenLaws.{appends_none, appends_both}
+use Rattle.sketches.specs.WeighFailures.{FailsCounting, FailsLines}
+use Rattle.sketches.specs.Weighed.{Weighed, total_of}
+use Rattle.sketches.specs.WeighingLaws.{total_both}
+use Rattle.sketches.specs.declared.failure.Failure.{Failure}
+use Rattle.sketches.specs.declared.failure.Failure.TheVariants.{Memory, LineTooLong, TooManyItems, BadSize, BadWeight, Write}
+use Rattle.sketches.specs.declared.item_weigher.WeighedLine.{WeighedLine}
+use Rattle.sketches.specs.declared.selection.Part.{Part}
+
+updated_both : (h : CountHistory) (xs ys : List (List ℕ × ℤ)) → each_updated h (xs ++ ys) ≡ each_updated (each_updated h xs) ys
+updated_both h [] ys = refl
+updated_both h (x ∷ xs) ys = updated_both (Update h x.0 x.1) xs ys
+
+pub weighed_none : (a : CountState) → CountsWeighed a [] a
+weighed_none a = record { total = let none : total_of [] ≡ 0 = refl in omega (arith, none); stands = λ h s. s }
+
+pub weighed_both : (a b c : CountState) (xs ys : Weighed) → CountsWeighed a xs b → CountsWeighed b ys c → CountsWeighed a (xs ++ ys) c
+weighed_both a b c xs ys s t = record {
+  total = omega (arith, s.total, t.total, total_both xs ys);
+  stands = λ h k.
+      subst (λ (g : CountHistory). StandsFor c g) (sym (ap (each_updated h) (map-append counted xs ys) ∙ updated_both h (map counted xs) (map counted ys)))
+      (t.stands (each_updated h (map counted xs)) (s.stands h k));
+}
+
+-- a failure may come if more items follow
+fails_more : (a : CountState) (xs ys : Weighed) (us vs : List (List ℕ)) (e : Failure) → FailsCounting a xs us e → FailsCounting a (xs ++ ys) (us ++ vs) e
+fails_more a xs ys us vs Memory f = tt
+fails_more a xs ys us vs LineTooLong f = f
+fails_more a xs ys us vs TooManyItems f = omega (arith, f, total_both xs ys)
+fails_more a xs ys us vs BadSize f = f
+fails_more a xs ys us vs (BadWeight found) f = omega (arith, f, length-append us vs)
+fails_more a xs ys us vs (Write error) f = f
+
+-- a failure may come if more items are added before
+fails_after : (a b : CountState) (xs ys : Weighed) (us vs : List (List ℕ)) (e : Failure) → CountsWeighed a xs b → FailsCounting b ys vs e → FailsCounting a (xs ++ ys) (us ++ vs) e
+fails_after a b xs ys us vs Memory s f = tt
+fails_after a b xs ys us vs LineTooLong s f = f
+fails_after a b xs ys us vs TooManyItems s f = omega (arith, f, s.total, total_both xs ys)
+fails_after a b xs ys us vs BadSize s f = f
+fails_after a b xs ys us vs (BadWeight found) s f = omega (arith, f, length-append us vs)
+fails_after a b xs ys us vs (Write error) s f = f
+
+-- ---- the items of lines
+
+module _ (p : WeighedLine) where
+  weighed_append : (xs ys : List (List ℕ)) → weighed_lines p (xs ++ ys) ≡ weighed_lines p xs ++ weighed_lines p ys
+  weighed_append xs ys = flat_map-append (weighed_line p) xs ys
+
+  unweighed_append : (xs ys : List (List ℕ)) → unweighed_lines p (xs ++ ys) ≡ unweighed_lines p xs ++ unweighed_lines p ys
+  unweighed_append xs ys = flat_map-append (unweighed_line p) xs ys
+
+  pub no_lines : (a : CountState) → CountsLines p a [] a
+  no_lines a = (weighed_none a, refl)
+
+  pub one_line : (a b : CountState) (line : List ℕ) → CountsWeighed a (weighed_line p line) b × (unweighed_line p line ≡ []) → CountsLines p a (line ∷ []) b
+  one_line a b line (adds, each) = (subst (λ l. CountsWeighed a l b) (sym (append-nil (weighed_line p line))) adds, append-nil (unweighed_line p line) ∙ each)
+
+  pub all_lines : (a b c : CountState) (xs ys : List (List ℕ)) → CountsLines p a xs b → CountsLines p b ys c → CountsLines p a (xs ++ ys) c
+  all_lines a b c xs ys (adds, each) (adds', each') = (
+    subst (λ l. CountsWeighed a l c) (sym (weighed_append xs ys)) (weighed_both a b c (weighed_lines p xs) (weighed_lines p ys) adds adds'),
+    unweighed_append xs ys ∙ (ap (λ l. l ++ unweighed_lines p ys) each ∙ each'),
+  )
+
+  pub one_fails : (a : CountState) (line : List ℕ) (e : Failure) → FailsCounting a (weighed_line p line) (unweighed_line p line) e → FailsLines p a (line ∷ []) e
+  one_fails a line e f = fails_more a (weighed_line p line) [] (unweighed_line p line) [] e f
+
+  pub lines_sooner : (a : CountState) (xs ys : List (List ℕ)) (e : Failure) → FailsLines p a xs e → FailsLines p a (xs ++ ys) e
+  lines_sooner a xs ys e f = rw (weighed_append xs ys, unweighed_append xs ys) (fails_more a (weighed_lines p xs) (weighed_lines p ys) (unweighed_lines p xs) (unweighed_lines p ys) e f)
+
+  pub lines_later : (a b : CountState) (xs ys : List (List ℕ)) (e : Failure) → CountsLines p a xs b → FailsLines p b ys e → FailsLines p a (xs ++ ys) e
+  lines_later a b xs ys e adds f = rw (weighed_append xs ys, unweighed_append xs ys) (fails_after a b (weighed_lines p xs) (weighed_lines p ys) (unweighed_lines p xs) (unweighed_lines p ys) e adds.0 f)
+
+-- ---- the lines of bytes
+
+module _ (p : WeighedLine) (xs ys : List ℕ) (whole : AreWholeLines xs) where
+  pub counts_both : (a b c : CountState) (q r : WeighedLine) → CountsLines p a (lines xs) b × (q ≡ p) → CountsLines q b (lines ys) c × (r ≡ q) → CountsLines p a (lines (xs ++ ys)) c × (r ≡ p)
+  counts_both a b c q r (first, same) (second, same') = (
+    subst (λ l. CountsLines p a l c) (sym (lines_both xs ys whole)) (all_lines p a b c (lines xs) (lines ys) first (subst (λ (s : WeighedLine). CountsLines s b (lines ys) c) same second)),
+    same' ∙ same,
+  )
+
+  pub counts_sooner : (a : CountState) (e : Failure) → FailsLines p a (lines xs) e → FailsLines p a (lines (xs ++ ys)) e
+  counts_sooner a e f = subst (λ l. FailsLines p a l e) (sym (lines_both xs ys whole)) (lines_sooner p a (lines xs) (lines ys) e f)
+
+  pub counts_later : (a b : CountState) (q : WeighedLine) (e : Failure) → CountsLines p a (lines xs) b × (q ≡ p) → FailsLines q b (lines ys) e → FailsLines p a (lines (xs ++ ys)) e
+  counts_later a b q e (first, same) f =
+      subst (λ l. FailsLines p a l e) (sym (lines_both xs ys whole)) (lines_later p a b (lines xs) (lines ys) e first (subst (λ (s : WeighedLine). FailsLines s b (lines ys) e) same f))
+
+-- the parts of whole lines and of the bytes after them
+pub parts_append : (part : Part) (read more : List ℕ) → AreWholeLines read → parts_in part (read ++ more) ≡ parts_in part read ++ parts_in part more
+parts_append part read more whole = ap (flat_map (part_of part)) (lines_both read more whole) ∙ flat_map-append (part_of part) (lines read) (lines more)
+
+-- ---- estimates that are written
+
+pub estimates_none : (s : CountState) (held : Option (List ℕ)) → WritesEstimates s [] held held
+estimates_none s held = record { rows = []; keys_are = refl; estimates = All-nil (λ (row : Row). IsMinCell s (hashed row.1) (pos row.0)); wrote = appends_none held }
+
+pub estimates_both : (s : CountState) (xs ys : List (List ℕ)) (a b c : Option (List ℕ)) → WritesEstimates s xs a b → WritesEstimates s ys b c → WritesEstimates s (xs ++ ys) a c
+estimates_both s xs ys a b c first second = record {
+  rows = first.rows ++ second.rows;
+  keys_are =
+      map-append (λ (row : Row). row.1) first.rows second.rows
+      ∙ (ap (λ l. l ++ map (λ (row : Row). row.1) second.rows) first.keys_are ∙ ap (λ l. xs ++ l) second.keys_are);
+  estimates = All-append (λ (row : Row). IsMinCell s (hashed row.1) (pos row.0)) first.rows second.rows first.estimates second.estimates;
+  wrote = subst (Appends a c) (sym (flat_map-append row_line first.rows second.rows)) (appends_both a b c _ _ first.wrote second.wrote);
+}
+
+-- what a sink that writes estimates does with lines
+abbrev TakesKeys : (s s' : CountState) (part part' : Part) (held holds : Option (List ℕ)) → List ℕ → Type 0
+TakesKeys s s' part part' held holds bytes = WritesEstimates s (parts_in part bytes) held holds × (s' ≡ s) × (part' ≡ part)
+
+pub keys_none : (s : CountState) (part : Part) (held : Option (List ℕ)) → TakesKeys s s part part held held []
+keys_none s part held = (estimates_none s held, refl, refl)
+
+pub keys_both : (xs ys : List ℕ) → AreWholeLines xs → (a b c : CountState) (p q r : Part) (held mid holds : Option (List ℕ)) → TakesKeys a b p q held mid xs → TakesKeys b c q r mid holds ys → TakesKeys a c p r held holds (xs ++ ys)
+keys_both xs ys whole a b c p q r held mid holds (first, same, same_part) (second, same', same_part') = (
+  subst (λ l. WritesEstimates a l held holds) (sym (parts_append p xs ys whole))
+      (estimates_both a (parts_in p xs) (parts_in p ys) held mid holds first
+      (subst (λ (t : Part). WritesEstimates a (parts_in t ys) mid holds) same_part (subst (λ (t : CountState). WritesEstimates t (parts_in q ys) mid holds) same second))),
+  same' ∙ same,
+  same_part' ∙ same_part,
+)

@@ -1,0 +1,146 @@
+-- Items with weights that were added to a Count-Min sketch, and what is printed of them.
+use Rattle.std.specs.Prelude.{◌≡◌, ℕ, ℤ, ◌+◌, ◌<◌, ◌≤◌, ◌==◌, Bool, List, [], ◌++◌, map, All, Option, None, Some, codes, sum_by, pos, if◌then◌else◌}
+use Rattle.std.specs.Fmt.{decimal}
+use Rattle.std.specs.Io.KnownBytes.{Appends}
+use Rattle.std.specs.List.{flat_map}
+use Rattle.std.specs.Str.Lines.{lines}
+use Rattle.sketch_base.specs.Hashes.{seed_hash}
+use Rattle.sketch_countmin.specs.Buckets.{bucket_of}
+use Rattle.sketch_countmin.specs.History.{each_updated}
+use Rattle.sketch_countmin.specs.History.CountHistory.{New}
+use Rattle.sketch_countmin.specs.Sizes.{IsETimesWithin, IsWithinPowerOfE}
+use Rattle.sketch_countmin.specs.Stands.{Extends, StandsFor}
+use Rattle.sketch_countmin.specs.State.{CountState, IsMinCell, empty_state}
+use Rattle.sketches.specs.Inputs.{AreRead}
+use Rattle.sketches.specs.Items.{part_of}
+use Rattle.sketches.specs.Reading.{AreFirstLines}
+use Rattle.sketches.specs.Unseen.{hashed}
+use Rattle.sketches.specs.Weighed.{Weighed, total_of, weight_of, without_weight}
+use Rattle.sketches.specs.Weights.{weight_in}
+use Rattle.sketches.specs.declared.item_weigher.WeighedLine.{WeighedLine}
+use Rattle.sketches.specs.declared.selection.Part.{Part}
+use Rattle.sketches.specs.declared.weigh.WeighOptions.{WeighOptions}
+
+-- the weight of a line: 1 if no part has it
+abbrev pub weight_on : Option Part → List ℕ → Option ℕ
+weight_on None line = Some 1
+weight_on (Some part) line = weight_in part line
+
+-- the items with a weight, if there is one
+abbrev pub weigh : List (List ℕ) → Option ℕ → Weighed
+weigh items None = []
+weigh items (Some weight) = map (λ item. (item, weight)) items
+
+-- the item of a line of bytes with its weight, if the line has both
+abbrev pub weighed_line : WeighedLine → List ℕ → Weighed
+weighed_line chosen line = weigh (part_of chosen.item line) (weight_on chosen.weight line)
+
+-- the item of a line of bytes that has no weight
+abbrev pub unweighed_line : WeighedLine → List ℕ → List (List ℕ)
+unweighed_line chosen line = without_weight (part_of chosen.item line) (weight_on chosen.weight line)
+
+-- the items of lines with their weights, and those without
+abbrev pub weighed_lines : WeighedLine → List (List ℕ) → Weighed
+weighed_lines chosen all = flat_map (weighed_line chosen) all
+
+abbrev pub unweighed_lines : WeighedLine → List (List ℕ) → List (List ℕ)
+unweighed_lines chosen all = flat_map (unweighed_line chosen) all
+
+-- the items of inputs with their weights, and those without: those of each line of each input
+abbrev pub weighed_in : WeighedLine → List (List ℕ) → Weighed
+weighed_in chosen inputs = weighed_lines chosen (flat_map lines inputs)
+
+abbrev pub unweighed_in : WeighedLine → List (List ℕ) → List (List ℕ)
+unweighed_in chosen inputs = unweighed_lines chosen (flat_map lines inputs)
+
+-- the parts of the lines of bytes
+abbrev pub parts_in : Part → List ℕ → List (List ℕ)
+parts_in part bytes = flat_map (part_of part) (lines bytes)
+
+-- the weight of all items in the bucket of a key, in a row
+abbrev pub bucket_weight : (buckets seed : ℕ) → Weighed → List ℕ → ℕ → ℕ
+bucket_weight buckets seed items key r =
+    sum_by (λ pair. if bucket_of buckets seed r (hashed pair.0) == bucket_of buckets seed r (hashed key) then pair.1 else 0) items
+
+-- ---- the sketch
+
+-- what a sketch counts of an item: its hashed bytes, and its weight
+abbrev pub counted : List ℕ × ℕ → List ℕ × ℤ
+counted pair = (hashed pair.0, pos pair.1)
+
+-- Each item was added with its weight, in order: the total grew by their weights, and the sketch represents each history that it
+-- represented before, with these updates.
+pub record CountsWeighed (old : CountState) (items : Weighed) (new : CountState) : Type 0 where
+  pub total : new.total ≡ old.total + total_of items
+  pub stands : Extends old new (λ h. each_updated h (map counted items))
+
+-- the items of lines were added with their weights, and each line with an item has a weight
+abbrev pub CountsLines : WeighedLine → CountState → List (List ℕ) → CountState → Type 0
+CountsLines chosen old all new = CountsWeighed old (weighed_lines chosen all) new × (unweighed_lines chosen all ≡ [])
+
+-- the seed of the sketch, for a seed that is wanted: the seeds of the published formats have a hash that is not 0
+abbrev pub usable_seed : ℕ → ℕ
+usable_seed seed = if seed_hash seed == 0 then 9001 else seed
+
+-- The number of buckets is the least that is at least e times `parts`, and the number of hashes is the least with e to its power at
+-- least `questions`.
+pub record IsTableFor (parts questions hashes buckets : ℕ) : Type 0 where
+  pub enough_buckets : IsETimesWithin parts buckets
+  pub least_buckets : (m : ℕ) → IsETimesWithin parts m → buckets ≤ m
+  pub enough_hashes : IsWithinPowerOfE questions hashes
+  pub least_hashes : (m : ℕ) → IsWithinPowerOfE questions m → hashes ≤ m
+
+-- An empty sketch for an error of the total over `parts`, which one of `questions` keys may exceed.
+pub record IsEmptyTable (parts questions seed : ℕ) (s : CountState) : Type 0 where
+  pub sizes : IsTableFor parts questions s.hashes s.buckets
+  pub some_buckets : 0 < s.buckets
+  pub is : s ≡ empty_state s.hashes s.buckets (usable_seed seed)
+  pub stands : StandsFor s (New s.hashes s.buckets (usable_seed seed))
+
+-- ---- what is printed
+
+-- a number and a key
+abbrev pub Row : Type 0
+Row = ℕ × List ℕ
+
+-- the line of a key: its number, a tab and the key
+abbrev pub row_line : Row → List ℕ
+row_line row = decimal row.0 ++ codes "\t" ++ row.1 ++ codes "\n"
+
+-- the first line, if it is wanted: the total weight
+abbrev pub total_line : Bool → ℕ → List ℕ
+total_line wanted total = if wanted then codes "# total " ++ decimal total ++ codes "\n" else []
+
+-- The lines of these keys were written, in order, each with the estimate of a sketch.
+pub record WritesEstimates (s : CountState) (keys : List (List ℕ)) (held holds : Option (List ℕ)) : Type 0 where
+  pub rows : List Row
+  pub keys_are : map (λ row. row.1) rows ≡ keys
+  pub estimates : All (λ row. IsMinCell s (hashed row.1) (pos row.0)) rows
+  pub wrote : Appends held holds (flat_map row_line rows)
+
+-- The number is at least the weight of the key, and at most the total of all weights. It is the least, over the rows, of the weight
+-- of all items in the key's bucket. So it is exact if some row has no other item in that bucket.
+pub record IsWeightOf (hashes buckets seed : ℕ) (items : Weighed) (row : Row) : Type 0 where
+  pub enough : weight_of items row.1 ≤ row.0
+  pub within : row.0 ≤ total_of items
+  pub below : (r : ℕ) → r < hashes → row.0 ≤ bucket_weight buckets seed items row.1 r
+  pub reached : (r : ℕ) × (r < hashes) × (row.0 ≡ bucket_weight buckets seed items row.1 r)
+
+-- The writer received the total weight of what was read of the inputs, and a line for each key of what was read of the file of keys,
+-- in its order. Each line of the inputs with an item has a weight. No read of the file failed if `failure` is none.
+pub record WritesWeights {E : Type 0} (options : WeighOptions) (inputs : List (List ℕ)) (complete : Bool) (keys : List ℕ) (failure : Option E) (held holds : Option (List ℕ)) : Type 0 where
+  pub read : List (List ℕ)
+  pub are : AreRead complete inputs read
+  pub read_keys : List ℕ
+  pub front : AreFirstLines keys read_keys
+  pub whole : failure ≡ None → read_keys ≡ keys
+  pub hashes : ℕ
+  pub buckets : ℕ
+  pub table : IsTableFor options.parts options.questions hashes buckets
+  pub rows : List Row
+  pub keys_are : map (λ row. row.1) rows ≡ parts_in options.keys_part read_keys
+  pub each : unweighed_in options.chosen read ≡ []
+  pub weights : All (IsWeightOf hashes buckets (usable_seed options.seed) (weighed_in options.chosen read)) rows
+  pub wrote :
+      Appends held holds
+      (total_line options.header (total_of (weighed_in options.chosen read)) ++ flat_map row_line rows)

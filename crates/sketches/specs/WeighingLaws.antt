@@ -1,0 +1,97 @@
+-- The laws of weights that are added one after another, and of the weighed items of lines.
+use Rattle.std.proofs.Common.{◌≡◌, ℕ, ◌+◌, List, [], ◌∷◌, ◌++◌, map, refl, sym, ◌∙◌, ap, subst, arith, length-append}
+use Rattle.std.proofs.lemmas.List.{map-append}
+use Rattle.std.proofs.lemmas.List.Concat.{flat_map-append}
+use Rattle.std.proofs.lemmas.List.Sums.{sum_by-append}
+use Rattle.std.specs.Global.{Global}
+use Rattle.std.specs.List.{flat_map}
+use Rattle.std.specs.Str.Lines.{lines}
+use Rattle.std.specs.String.{string_bytes, string_eq}
+use Rattle.std.specs.declared.string.String.{String}
+use Rattle.sketch_frequencies.specs.History.{FrequentHistory}
+use Rattle.sketch_frequencies.specs.History.FrequentHistory.{Update}
+use Rattle.sketch_frequencies.specs.Stands.{StandsFor, KeepsTailBudget}
+use Rattle.sketch_frequencies.specs.WeightedBatches.{all_weighed}
+use Rattle.sketches.specs.Added.{Sketch, AddsLines, AddsWeighed}
+use Rattle.sketches.specs.AddingLaws.{lines_both}
+use Rattle.sketches.specs.Failures.{FailsLines, FailsWeighing}
+use Rattle.sketches.specs.Reading.{AreWholeLines}
+use Rattle.sketches.specs.Weighed.{Weighed, total_of, unweighed_of, unweighed_of_line, weighed_of, weighed_of_line}
+use Rattle.sketches.specs.declared.failure.Failure.{Failure}
+use Rattle.sketches.specs.declared.failure.Failure.TheVariants.{Memory, LineTooLong, TooManyItems, BadSize, BadWeight, Write}
+use Rattle.sketches.specs.declared.weighing.Weighing.{Weighing}
+
+-- ---- weights
+
+updated_both : {T : Type 0} (h : FrequentHistory T) (xs ys : List (T × ℕ)) → all_weighed h (xs ++ ys) ≡ all_weighed (all_weighed h xs) ys
+updated_both h [] ys = refl
+updated_both h (x ∷ xs) ys = updated_both (Update h x.0 x.1) xs ys
+
+pub total_both : (xs ys : Weighed) → total_of (xs ++ ys) ≡ total_of xs + total_of ys
+total_both xs ys = sum_by-append (λ (pair : List ℕ × ℕ). pair.1) xs ys
+
+abbrev named : String Global × ℕ → List ℕ × ℕ
+named pair = (string_bytes pair.0, pair.1)
+
+pub weighed_none : (a : Sketch) → AddsWeighed a [] a
+weighed_none a = record { items = []; are = refl; total = let none : total_of [] ≡ 0 = refl in omega (arith, none); stands = λ h s. s; budget = λ h s k. k }
+
+pub weighed_both : (a b c : Sketch) (xs ys : Weighed) → AddsWeighed a xs b → AddsWeighed b ys c → AddsWeighed a (xs ++ ys) c
+weighed_both a b c xs ys s t = record {
+  items = s.items ++ t.items;
+  are = map-append named s.items t.items ∙ (ap (λ (l : Weighed). l ++ map named t.items) s.are ∙ ap (λ (l : Weighed). xs ++ l) t.are);
+  total = omega (arith, s.total, t.total, total_both xs ys);
+  stands = λ h k. subst (λ (g : FrequentHistory (String Global)). StandsFor string_eq c g) (sym (updated_both h s.items t.items)) (t.stands (all_weighed h s.items) (s.stands h k));
+  budget = λ h k q. subst (λ (g : FrequentHistory (String Global)). KeepsTailBudget string_eq c g) (sym (updated_both h s.items t.items)) (t.budget (all_weighed h s.items) (s.stands h k) (s.budget h k q));
+}
+
+-- a failure may come if more items follow
+pub weighing_fails_more : (a : Sketch) (xs ys : Weighed) (us vs : List (List ℕ)) (e : Failure) → FailsWeighing a xs us e → FailsWeighing a (xs ++ ys) (us ++ vs) e
+weighing_fails_more a xs ys us vs Memory f = tt
+weighing_fails_more a xs ys us vs LineTooLong f = f
+weighing_fails_more a xs ys us vs TooManyItems f = omega (arith, f, total_both xs ys)
+weighing_fails_more a xs ys us vs BadSize f = f
+weighing_fails_more a xs ys us vs (BadWeight found) f = omega (arith, f, length-append us vs)
+weighing_fails_more a xs ys us vs (Write error) f = f
+
+-- a failure may come if more items are added before
+pub weighing_fails_after : (a b : Sketch) (xs ys : Weighed) (us vs : List (List ℕ)) (e : Failure) → AddsWeighed a xs b → FailsWeighing b ys vs e → FailsWeighing a (xs ++ ys) (us ++ vs) e
+weighing_fails_after a b xs ys us vs Memory s f = tt
+weighing_fails_after a b xs ys us vs LineTooLong s f = f
+weighing_fails_after a b xs ys us vs TooManyItems s f = omega (arith, f, s.total, total_both xs ys)
+weighing_fails_after a b xs ys us vs BadSize s f = f
+weighing_fails_after a b xs ys us vs (BadWeight found) s f = omega (arith, f, length-append us vs)
+weighing_fails_after a b xs ys us vs (Write error) s f = f
+
+-- ---- the items of lines
+
+-- the items of whole lines and of the bytes after them
+pub weighed_append : (chosen : Weighing) (read more : List ℕ) → AreWholeLines read → weighed_of chosen (read ++ more) ≡ weighed_of chosen read ++ weighed_of chosen more
+weighed_append chosen read more whole = ap (flat_map (weighed_of_line chosen)) (lines_both read more whole) ∙ flat_map-append (weighed_of_line chosen) (lines read) (lines more)
+
+pub unweighed_append : (chosen : Weighing) (read more : List ℕ) → AreWholeLines read → unweighed_of chosen (read ++ more) ≡ unweighed_of chosen read ++ unweighed_of chosen more
+unweighed_append chosen read more whole = ap (flat_map (unweighed_of_line chosen)) (lines_both read more whole) ∙ flat_map-append (unweighed_of_line chosen) (lines read) (lines more)
+
+module _ (p : Weighing) (xs ys : List ℕ) (whole : AreWholeLines xs) where
+  pub lines_added_both : (a b c : Sketch) (q r : Weighing) → AddsLines p a xs b × (q ≡ p) → AddsLines q b ys c × (r ≡ q) → AddsLines p a (xs ++ ys) c × (r ≡ p)
+  lines_added_both a b c q r (first, same) (second, same') =
+      let (added, weighed) = subst (λ (s : Weighing). AddsLines s b ys c) same second in (
+        (
+          subst (λ (l : Weighed). AddsWeighed a l c) (sym (weighed_append p xs ys whole)) (weighed_both a b c (weighed_of p xs) (weighed_of p ys) first.0 added),
+          unweighed_append p xs ys whole ∙ (ap (λ (l : List (List ℕ)). l ++ unweighed_of p ys) first.1 ∙ weighed),
+        ),
+        same' ∙ same,
+      )
+
+  both_lists : (a : Sketch) (e : Failure) → FailsWeighing a (weighed_of p xs ++ weighed_of p ys) (unweighed_of p xs ++ unweighed_of p ys) e → FailsLines p a (xs ++ ys) e
+  both_lists a e f =
+      subst (λ (l : Weighed). FailsWeighing a l (unweighed_of p (xs ++ ys)) e) (sym (weighed_append p xs ys whole))
+      (subst (λ (l : List (List ℕ)). FailsWeighing a (weighed_of p xs ++ weighed_of p ys) l e) (sym (unweighed_append p xs ys whole)) f)
+
+  pub lines_fail_sooner : (a : Sketch) (e : Failure) → FailsLines p a xs e → FailsLines p a (xs ++ ys) e
+  lines_fail_sooner a e f = both_lists a e (weighing_fails_more a (weighed_of p xs) (weighed_of p ys) (unweighed_of p xs) (unweighed_of p ys) e f)
+
+  pub lines_fail_later : (a b : Sketch) (q : Weighing) (e : Failure) → AddsLines p a xs b × (q ≡ p) → FailsLines q b ys e → FailsLines p a (xs ++ ys) e
+  lines_fail_later a b q e (first, same) f =
+      both_lists a e
+      (weighing_fails_after a b (weighed_of p xs) (weighed_of p ys) (unweighed_of p xs) (unweighed_of p ys) e first.0 (subst (λ (s : Weighing). FailsLines s b ys e) same f))

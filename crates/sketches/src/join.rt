@@ -1,0 +1,138 @@
+//! The lines of inputs whose items are in a file of keys.
+ghost use Rattle.std.specs.Prelude.{◌≡◌, IfErr, IfOk, IfSome, IsErrOf};
+ghost use Rattle.sketch_bloom.specs.State.{FilterState};
+ghost use Rattle.sketches.specs.FilterSizes.{HasNoSize, IsFilterOf};
+ghost use Rattle.sketches.specs.JoinFailures.{FailsInsertion, FailsJoin, IsOfKeys};
+ghost use Rattle.sketches.specs.Joined.{WritesJoined, keys_of};
+ghost use Rattle.sketches.specs.Unseen.{with_items};
+
+use crate::failure::Failure;
+use crate::filter_size::{FilterSize, filter_of};
+use crate::inputs::{Inputs, read_inputs};
+use crate::joined::JoinedLines;
+use crate::key_lines::KeyLines;
+use crate::reading::{BLOCK, read_lines};
+use crate::selection::Part;
+use sketch_bloom::BloomFilter;
+use std::alloc::Global;
+use std::io;
+use std::io::{Read, Write};
+
+/// Which lines are written, and the filter of the keys.
+#[derive(Clone, Copy)]
+pub struct JoinOptions {
+    /// The part of a line that is its item.
+    pub part: Part,
+    /// The part of a line of the file of keys that is a key.
+    pub keys_part: Part,
+    /// Whether the lines are written whose items may be keys. If not, the others are written.
+    pub wanted: bool,
+    /// The size of the filter.
+    pub size: FilterSize,
+    /// The seed of the filter's hash.
+    pub seed: u64,
+    /// The maximum number of bytes of a line before its line feed.
+    pub max_line: u32,
+}
+
+/// What a run did.
+#[derive(Drop)]
+pub struct JoinSummary {
+    /// Whether no read of an input failed.
+    pub complete: bool,
+    /// The number of lines that were not written, at most `u64::MAX`.
+    pub left_out: u64,
+    /// The filter of all keys.
+    pub filter: BloomFilter,
+}
+
+/// The error that ends a run.
+#[derive(Debug, Drop)]
+pub enum JoinFailure {
+    /// A read of the file of keys failed.
+    Unread(io::Error),
+    /// The filter could not be made, or a key could not be inserted.
+    Keys(Failure),
+    /// A line could not be written.
+    Lines(Failure),
+}
+
+/// Writes the lines of the inputs whose items may be keys, or, unless `wanted`, the others, which are certainly not keys.
+///
+/// An item may be a key if the filter that has taken all keys contains it. A line without an item is no key. The lines are written
+/// as they are read, with their ends.
+///
+/// # Errors
+///
+/// Returns `Unread` if a read of the keys fails. Returns `Keys` with `BadSize` if a filter of this size is not allowed, with
+/// `LineTooLong` if a line of the keys exceeds the limit, and with `Memory` if an allocation fails. Then no input is read and nothing
+/// is written, and after `BadSize` no key is read. Returns `Lines` with `LineTooLong` if a line exceeds the limit, with `Memory` if an allocation fails, and with
+/// `Write` if the writer fails. Lines before may have been written.
+pub fn join<K: Read, I: Inputs, W: Write>(
+    alloc: Global,
+    options: JoinOptions,
+    keys: &mut K,
+    inputs: &mut I,
+    writer: &mut W,
+) -> Result<JoinSummary, JoinFailure>
+    ensures written { IfOk result (λ summary. (filter : FilterState) × IsFilterOf options.size options.seed filter
+        × IfSome (K.remaining keys.old) (λ bytes. IfSome (I.inputs inputs.old) (λ all. WritesJoined options.wanted options.part filter
+        (keys_of options.keys_part bytes) all summary.complete (W.contents writer.old) (W.contents writer.new)))) }
+
+    // When each error comes, and what it leaves unchanged.
+    ensures failed { IfErr result (FailsJoin options (K.remaining keys.old) (I.inputs inputs.old)) }
+    ensures bad_size { HasNoSize options.size → IsErrOf result (JoinFailure.Keys Failure.BadSize) }
+    ensures unread_keys { IsErrOf result (JoinFailure.Keys Failure.BadSize) → keys.new ≡ keys.old }
+    ensures unread { IfErr result (λ failure. IsOfKeys failure → (inputs.new ≡ inputs.old) × (writer.new ≡ writer.old)) }
+{
+    let empty = match filter_of(alloc, options.size, options.seed) {
+        Ok(empty) => empty,
+        Err(failure) => return Err(JoinFailure::Keys(failure)),
+    };
+    let limit = options.max_line as usize + 1;
+    let mut buffer = match vec![in alloc; 0; limit.min(BLOCK)] {
+        Ok(buffer) => buffer,
+        Err(_) => return Err(JoinFailure::Keys(Failure::Memory)),
+    };
+    let filter = insert_keys(alloc, empty, options.keys_part, keys, &mut buffer, limit)?;
+    let mut lines = JoinedLines {
+        filter,
+        part: options.part,
+        wanted: options.wanted,
+        left_out: 0,
+        written: Vec::new(alloc),
+    };
+    match read_inputs(alloc, &mut lines, writer, inputs, &mut buffer, limit) {
+        Ok(complete) => Ok(JoinSummary {
+            complete,
+            left_out: lines.left_out,
+            filter: lines.filter,
+        }),
+        Err(failure) => Err(JoinFailure::Lines(failure)),
+    }
+}
+
+/// Inserts all keys into a filter, and returns it.
+///
+/// # Errors
+///
+/// Returns `Unread` if a read of the keys fails. Returns `Keys` with `LineTooLong` if a line has at least `limit` bytes, and with
+/// `Memory` if an allocation fails.
+fn insert_keys<K: Read>(
+    alloc: Global,
+    filter: BloomFilter,
+    part: Part,
+    keys: &mut K,
+    buffer: &mut Vec<u8>,
+    limit: usize,
+) -> Result<BloomFilter, JoinFailure>
+    ensures inserted { IfOk result (λ inserted. IfSome (K.remaining keys.old) (λ bytes. inserted ≡ with_items filter (keys_of part bytes))) }
+    ensures failed { IfErr result (FailsInsertion limit (K.remaining keys.old)) }
+{
+    let mut lines = KeyLines { filter, part };
+    match read_lines(alloc, &mut lines, &mut (), keys, buffer, limit) {
+        Ok(None) => Ok(lines.filter),
+        Ok(Some(error)) => Err(JoinFailure::Unread(error)),
+        Err(failure) => Err(JoinFailure::Keys(failure)),
+    }
+}

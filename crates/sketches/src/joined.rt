@@ -1,0 +1,114 @@
+//! Writes the lines whose items a filter contains.
+ghost use Rattle.std.specs.Io.KnownBytes.{Appends};
+ghost use Rattle.std.specs.Prelude.{◌≡◌, ◌≤◌, ◌++◌, IfErr, OnOk, length, map};
+ghost use Rattle.sketch_base.specs.Strings.{strings_at};
+ghost use Rattle.sketch_bloom.specs.State.{contains_item};
+ghost use Rattle.sketches.specs.Joined.{joined_lines};
+ghost use Rattle.sketches.specs.RawLines.{raw_lines};
+ghost use Rattle.sketches.specs.Unseen.{hashed, written_by};
+
+use crate::batch_sink::BatchSink;
+use crate::batches::{BATCH, take_batches, write_batch};
+use crate::failure::Failure;
+use crate::line_items::contains_line;
+use crate::line_sink::LineSink;
+use crate::selection::Part;
+use sketch_base::Strs;
+use sketch_bloom::BloomFilter;
+use std::alloc::Global;
+use std::io::Write;
+
+/// Writes the lines whose items the filter contains, or, unless `wanted`, the others.
+#[derive(Drop)]
+pub struct JoinedLines {
+    pub filter: BloomFilter,
+    pub part: Part,
+    pub wanted: bool,
+    /// The number of lines that were not written, at most `u64::MAX`.
+    pub left_out: u64,
+    /// The lines that are written next.
+    pub written: Vec<u8>,
+}
+
+impl<W: Write> LineSink<W> for JoinedLines {
+    ghost use Rattle.sketches.specs.JoinedLaws.{lines_none, lines_both};
+    ghost use Rattle.sketches.specs.Failures.{FailsWriting};
+
+    ghost takes = { λ old bytes new. Appends (W.contents old.1) (W.contents new.1) (joined_lines old.0.wanted old.0.part old.0.filter (raw_lines bytes))
+        × (new.0.filter ≡ old.0.filter) × (new.0.part ≡ old.0.part) × (new.0.wanted ≡ old.0.wanted) };
+
+    ghost fails = { λ old bytes failure. FailsWriting failure };
+
+    ghost takes_none = { λ s. lines_none s.0.wanted s.0.part s.0.filter (W.contents s.1) };
+
+    ghost takes_both = { λ r s t xs ys whole. lines_both xs ys whole r.0.wanted r.0.part s.0.wanted s.0.part t.0.wanted t.0.part
+        r.0.filter s.0.filter t.0.filter (W.contents r.1) (W.contents s.1) (W.contents t.1) };
+
+    ghost fails_sooner = { λ r xs ys e whole fails. fails };
+
+    ghost fails_later = { λ r s xs ys e whole takes fails. fails };
+
+    fn take(&mut self, _alloc: Global, output: &mut W, bytes: &[u8]) -> Result<(), Failure> {
+        self.written.clear();
+        let part = self.part;
+        take_batches(self, part, bytes)?;
+        match output.write_all(&self.written) {
+            Ok(()) => Ok(()),
+            Err(e) => Err(Failure::Write(e)),
+        }
+    }
+}
+
+impl BatchSink for JoinedLines {
+    ghost use Rattle.sketches.specs.JoinedLaws.{joined_none, joined_more};
+
+    ghost takes = { λ part old raws new. (new.written.items ≡ old.written.items ++ joined_lines old.wanted part old.filter raws)
+        × (new.filter ≡ old.filter) × (new.part ≡ old.part) × (new.wanted ≡ old.wanted) };
+
+    ghost takes_none = { λ part s. joined_none part s.part s.wanted s.filter s.written.items };
+
+    ghost takes_both = { λ part r s t xs ys. joined_more xs ys part r.part r.wanted s.part s.wanted t.part t.wanted
+        r.filter s.filter t.filter r.written.items s.written.items t.written.items };
+
+    #[inline(always)]
+    fn take_batch(&mut self, _part: Part, raws: &[&[u8]], items: &[&str]) -> Result<(), Failure> {
+        let others = join_batch(&self.filter, self.wanted, raws, items, &mut self.written)?;
+        self.left_out = self.left_out.saturating_add(others);
+        Ok(())
+    }
+
+    #[inline(always)]
+    fn take_line(&mut self, part: Part, raw: &[u8], line: &[u8]) -> Result<(), Failure> {
+        if contains_line(&self.filter, part, line) == self.wanted {
+            self.written.extend_from_slice(raw)?;
+        } else {
+            self.left_out = self.left_out.saturating_add(1);
+        }
+        Ok(())
+    }
+}
+
+/// Appends the lines of those items that the filter contains, or, unless `wanted`, the others. Returns the number of other lines.
+///
+/// # Errors
+///
+/// Returns `Memory` if an allocation fails.
+#[inline(always)]
+fn join_batch(
+    filter: &BloomFilter,
+    wanted: bool,
+    raws: &[&[u8]],
+    items: &[&str],
+    written: &mut Vec<u8>,
+) -> Result<u64, Failure>
+    requires few { length raws.now ≤ BATCH }
+    requires same { length items.now ≡ length raws.now }
+    ensures written { OnOk result (written.new.items ≡ written.old.items
+        ++ written_by wanted (map (contains_item filter.now) (map hashed (strings_at items.now))) (strings_at raws.now)) }
+    ensures failed { IfErr result (λ failure. failure ≡ Failure.Memory) }
+{
+    let mut answers = [false; BATCH];
+    let answers = &mut answers[..raws.len()];
+    filter.contains_all(Strs(items), answers);
+    write_batch(wanted, raws, answers, written)
+}

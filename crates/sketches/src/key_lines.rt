@@ -1,0 +1,65 @@
+//! Inserts the keys of lines into a filter.
+ghost use Rattle.std.specs.Prelude.{◌≡◌};
+ghost use Rattle.sketches.specs.RawLines.{raw_lines};
+ghost use Rattle.sketches.specs.Unseen.{with_lines};
+
+use crate::batch_sink::BatchSink;
+use crate::batches::take_batches;
+use crate::failure::Failure;
+use crate::line_items::insert_line;
+use crate::line_sink::LineSink;
+use crate::selection::Part;
+use sketch_base::Strs;
+use sketch_bloom::BloomFilter;
+use std::alloc::Global;
+
+/// Inserts the items of lines into a filter.
+#[derive(Drop)]
+pub struct KeyLines {
+    pub filter: BloomFilter,
+    pub part: Part,
+}
+
+impl LineSink<()> for KeyLines {
+    ghost use Rattle.sketches.specs.JoinedLaws.{keys_none, key_lines_both};
+    ghost use Rattle.sketches.specs.declared.failure.Failure.TheVariants.{Memory};
+
+    ghost takes = { λ old bytes new. (new.0.filter ≡ with_lines old.0.part old.0.filter (raw_lines bytes)) × (new.0.part ≡ old.0.part) };
+
+    ghost fails = { λ old bytes failure. failure ≡ Memory };
+
+    ghost takes_none = { λ s. keys_none s.0.part s.0.part s.0.filter };
+
+    ghost takes_both = { λ r s t xs ys whole. key_lines_both xs ys whole r.0.part s.0.part t.0.part r.0.filter s.0.filter t.0.filter };
+
+    ghost fails_sooner = { λ r xs ys e whole fails. fails };
+
+    ghost fails_later = { λ r s xs ys e whole takes fails. fails };
+
+    fn take(&mut self, _alloc: Global, _output: &mut (), bytes: &[u8]) -> Result<(), Failure> {
+        let part = self.part;
+        take_batches(self, part, bytes)
+    }
+}
+
+impl BatchSink for KeyLines {
+    ghost use Rattle.sketches.specs.JoinedLaws.{keys_none, keys_both};
+
+    ghost takes = { λ part old raws new. (new.filter ≡ with_lines part old.filter raws) × (new.part ≡ old.part) };
+
+    ghost takes_none = { λ part s. keys_none part s.part s.filter };
+
+    ghost takes_both = { λ part r s t xs ys. keys_both xs ys part r.part s.part t.part r.filter s.filter t.filter };
+
+    #[inline(always)]
+    fn take_batch(&mut self, _part: Part, _raws: &[&[u8]], items: &[&str]) -> Result<(), Failure> {
+        self.filter.insert_all(Strs(items));
+        Ok(())
+    }
+
+    #[inline(always)]
+    fn take_line(&mut self, part: Part, _raw: &[u8], line: &[u8]) -> Result<(), Failure> {
+        insert_line(&mut self.filter, part, line);
+        Ok(())
+    }
+}

@@ -1,0 +1,129 @@
+//! Writes the weights of keys.
+ghost use Rattle.std.specs.Prelude.{◌≡◌, ◌++◌, Some, OnOk, pos};
+ghost use Rattle.sketch_countmin.specs.State.{IsMinCell};
+ghost use Rattle.sketches.specs.Items.{part_of};
+ghost use Rattle.sketches.specs.Unseen.{hashed};
+ghost use Rattle.sketches.specs.KeyWeights.{WritesEstimates, parts_in, row_line};
+
+use crate::failure::Failure;
+use crate::line_sink::LineSink;
+use crate::raw_item::RawItem;
+use crate::raw_lines::next_raw_line;
+use crate::raw_parts::raw_part_of;
+use crate::selection::Part;
+use sketch_base::from_utf8;
+use sketch_countmin::CountMinSketch;
+use std::alloc::{AllocError, Global};
+use std::fmt::Write as _;
+use std::io::Write;
+
+/// Writes a line for each key of the lines that it takes: its estimate, a tab and the key.
+#[derive(Drop)]
+pub struct KeyWeights {
+    pub sketch: CountMinSketch<u64>,
+    pub part: Part,
+    /// The lines that are written next.
+    pub written: Vec<u8>,
+    /// The number that is written next.
+    pub number: String,
+}
+
+impl<W: Write> LineSink<W> for KeyWeights {
+    ghost use Rattle.sketches.specs.KeyWeightLaws.{keys_none, keys_both};
+    ghost use Rattle.sketches.specs.Failures.{FailsWriting};
+
+    ghost takes = { λ old bytes new. WritesEstimates old.0.sketch (parts_in old.0.part bytes) (W.contents old.1) (W.contents new.1)
+        × (new.0.sketch ≡ old.0.sketch) × (new.0.part ≡ old.0.part) };
+
+    ghost fails = { λ old bytes failure. FailsWriting failure };
+
+    ghost takes_none = { λ s. keys_none s.0.sketch s.0.part (W.contents s.1) };
+
+    ghost takes_both = { λ r s t xs ys whole. keys_both xs ys whole r.0.sketch s.0.sketch t.0.sketch r.0.part s.0.part t.0.part
+        (W.contents r.1) (W.contents s.1) (W.contents t.1) };
+
+    ghost fails_sooner = { λ r xs ys e whole fails. fails };
+
+    ghost fails_later = { λ r s xs ys e whole takes fails. fails };
+
+    fn take(&mut self, _alloc: Global, output: &mut W, bytes: &[u8]) -> Result<(), Failure> {
+        self.written.clear();
+        append_lines(
+            &self.sketch,
+            self.part,
+            bytes,
+            &mut self.written,
+            &mut self.number,
+        )?;
+        match output.write_all(&self.written) {
+            Ok(()) => Ok(()),
+            Err(e) => Err(Failure::Write(e)),
+        }
+    }
+}
+
+/// Appends the line of each key of the lines of bytes.
+fn append_lines(
+    sketch: &CountMinSketch<u64>,
+    part: Part,
+    bytes: &[u8],
+    written: &mut Vec<u8>,
+    number: &mut String,
+) -> Result<(), AllocError>
+    ensures { OnOk result (WritesEstimates sketch.now (parts_in part bytes.now) (Some written.old.items) (Some written.new.items)) }
+{
+    let mut rest = bytes;
+    'each: loop {
+        let Some((line, after)) = next_raw_line(rest) else {
+            return Ok(());
+        };
+        append_key(sketch, part, line, written, number)?;
+        rest = after;
+    }
+}
+
+/// Appends the line of the key of a line, if it has one.
+#[inline(always)]
+fn append_key(
+    sketch: &CountMinSketch<u64>,
+    part: Part,
+    line: &[u8],
+    written: &mut Vec<u8>,
+    number: &mut String,
+) -> Result<(), AllocError>
+    ensures { OnOk result (WritesEstimates sketch.now (part_of part line.now) (Some written.old.items) (Some written.new.items)) }
+{
+    let Some(key) = raw_part_of(part, line) else {
+        return Ok(());
+    };
+    append_line(estimate_of(sketch, key), key, written, number)?;
+    Ok(())
+}
+
+/// Returns the estimate of an item.
+#[inline(always)]
+fn estimate_of(sketch: &CountMinSketch<u64>, item: &[u8]) -> u64
+    ensures { IsMinCell sketch.now (hashed item.now) (pos result) }
+{
+    match from_utf8(item) {
+        Ok(text) => sketch.estimate_item(text),
+        Err(_) => sketch.estimate_item(&RawItem { bytes: item }),
+    }
+}
+
+/// Appends the line of a key: its number, a tab and the key.
+fn append_line(
+    weight: u64,
+    key: &[u8],
+    written: &mut Vec<u8>,
+    number: &mut String,
+) -> Result<(), AllocError>
+    ensures { OnOk result (written.new.items ≡ written.old.items ++ row_line (weight, key.now)) }
+{
+    number.clear();
+    write!(number, "{weight}\t")?;
+    written.extend_from_slice(number.as_bytes())?;
+    written.extend_from_slice(key)?;
+    written.push(b'\n')?;
+    Ok(())
+}

@@ -1,0 +1,88 @@
+//! Counts the lines of an input.
+ghost use Rattle.std.specs.Prelude.{◌≡◌, ◌+◌, ◌≤◌, ◌^◌, IfErr, IfOk, IfSome, length};
+ghost use Rattle.sketches.specs.JoinFailures.{FailsCount};
+ghost use Rattle.sketches.specs.RawLines.{raw_lines};
+
+use crate::failure::Failure;
+use crate::join::JoinFailure;
+use crate::line_sink::LineSink;
+use crate::raw_lines::next_line_with_end;
+use crate::reading::{BLOCK, read_lines};
+use std::alloc::Global;
+use std::io::Read;
+
+/// The number of lines that were taken.
+#[derive(Drop)]
+pub struct LineCount {
+    lines: u64,
+}
+
+impl LineSink<()> for LineCount {
+    ghost use Rattle.std.specs.Prelude.{◌⊎◌};
+    ghost use Rattle.sketches.specs.CountedLines.{counts_none, counts_both, exceeds_sooner, exceeds_later};
+    ghost use Rattle.sketches.specs.declared.failure.Failure.TheVariants.{TooManyItems};
+
+    ghost takes = { λ old bytes new. new.0.lines ≡ old.0.lines + length (raw_lines bytes) };
+
+    ghost fails = { λ old bytes failure. (failure ≡ TooManyItems) × (2 ^ 64 ≤ old.0.lines + length (raw_lines bytes)) };
+
+    ghost takes_none = { λ s. counts_none s.0.lines };
+
+    ghost takes_both = { λ r s t xs ys whole. counts_both xs ys whole r.0.lines s.0.lines t.0.lines };
+
+    ghost fails_sooner = { λ r xs ys e whole. exceeds_sooner xs ys whole r.0.lines e };
+
+    ghost fails_later = { λ r s xs ys e whole. exceeds_later xs ys whole r.0.lines s.0.lines e };
+
+    fn take(&mut self, _alloc: Global, _output: &mut (), bytes: &[u8]) -> Result<(), Failure> {
+        match self.lines.checked_add(number_of_lines(bytes) as u64) {
+            Some(lines) => {
+                self.lines = lines;
+                Ok(())
+            }
+            None => Err(Failure::TooManyItems),
+        }
+    }
+}
+
+/// Returns the number of lines of an input.
+///
+/// # Errors
+///
+/// Returns `Unread` if a read fails. Returns `Keys` with `LineTooLong` if a line has more than `max_line` bytes, with `Memory` if an
+/// allocation fails, and with `TooManyItems` if there are 2^64 lines or more.
+pub fn count_lines<R: Read>(
+    alloc: Global,
+    reader: &mut R,
+    max_line: u32,
+) -> Result<u64, JoinFailure>
+    ensures counted { IfOk result (λ lines. IfSome (R.remaining reader.old) (λ bytes. lines ≡ length (raw_lines bytes))) }
+    ensures failed { IfErr result (FailsCount (max_line + 1) (R.remaining reader.old)) }
+{
+    let limit = max_line as usize + 1;
+    let mut buffer = match vec![in alloc; 0; limit.min(BLOCK)] {
+        Ok(buffer) => buffer,
+        Err(_) => return Err(JoinFailure::Keys(Failure::Memory)),
+    };
+    let mut count = LineCount { lines: 0 };
+    match read_lines(alloc, &mut count, &mut (), reader, &mut buffer, limit) {
+        Ok(None) => Ok(count.lines),
+        Ok(Some(error)) => Err(JoinFailure::Unread(error)),
+        Err(failure) => Err(JoinFailure::Keys(failure)),
+    }
+}
+
+/// Returns the number of lines of bytes.
+fn number_of_lines(bytes: &[u8]) -> usize
+    ensures { result ≡ length (raw_lines bytes.now) }
+{
+    let mut rest = bytes;
+    let mut lines = 0;
+    'each: loop {
+        let Some((_, _, after)) = next_line_with_end(rest) else {
+            return lines;
+        };
+        lines += 1;
+        rest = after;
+    }
+}

@@ -1,0 +1,154 @@
+//! The weights of keys in inputs.
+ghost use Rattle.std.specs.Prelude.{◌≡◌, ◌⊎◌, ◌≤◌, IfErr, IfOk, IfSome, IsErrOf, OnOk};
+ghost use Rattle.std.specs.Io.KnownBytes.{Appends};
+ghost use Rattle.sketch_base.specs.Hashes.{seed_hash};
+ghost use Rattle.sketch_countmin.specs.State.{empty_state};
+ghost use Rattle.sketch_countmin.specs.History.CountHistory.{New};
+ghost use Rattle.sketch_countmin.specs.Stands.{StandsFor};
+ghost use Rattle.sketches.specs.Failures.{FailsWriting};
+ghost use Rattle.sketches.specs.WeighFailures.{ComesLate, FailsTable, FailsWeigh};
+ghost use Rattle.sketches.specs.KeyWeights.{IsEmptyTable, WritesWeights, total_line, usable_seed};
+
+use crate::failure::Failure;
+use crate::inputs::{Inputs, read_inputs};
+use crate::item_weigher::{ItemWeigher, WeighedLine};
+use crate::key_weights::KeyWeights;
+use crate::reading::{BLOCK, read_lines};
+use crate::selection::Part;
+use sketch_base::{DEFAULT_UPDATE_SEED, ErrorKind, compute_seed_hash};
+use sketch_countmin::{CountMinSketch, suggest_num_buckets, suggest_num_hashes};
+use std::alloc::{AllocError, Global};
+use std::fmt::Write as _;
+use std::io;
+use std::io::{Read, Write};
+
+/// What is weighed and printed, and the size of the sketch.
+#[derive(Clone, Copy)]
+pub struct WeighOptions {
+    /// The item of a line of an input, and its weight.
+    pub chosen: WeighedLine,
+    /// The part of a line of the file of keys that is its key.
+    pub keys_part: Part,
+    /// A number should exceed its weight by at most the total over this number.
+    pub parts: u64,
+    /// About one of this number of keys may exceed that, under ideal hashes.
+    pub questions: u64,
+    /// The seed of the sketch's hashes.
+    pub seed: u64,
+    /// The maximum number of bytes of a line before its line feed.
+    pub max_line: u32,
+    /// Whether the first line shows the total.
+    pub header: bool,
+}
+
+/// What a run read.
+#[derive(Drop)]
+pub struct Weighed {
+    /// Whether no read of an input failed.
+    pub complete: bool,
+    /// The error of a read of the file of keys, if any.
+    pub failure: Option<io::Error>,
+}
+
+/// Writes a line for each key of a file: a number that is at least its weight in the inputs, a tab and the key.
+///
+/// The weight of a key is the sum of the weights of the items of the inputs that are equal to it. Keys are written in the order of
+/// their file. A line of the file without the part has no key. The first line has the total of all weights, if it is wanted.
+///
+/// # Errors
+///
+/// Returns `BadSize` if a sketch of this size is not allowed, and then reads and writes nothing. Returns `TooManyItems` if the total
+/// exceeds 2^64 - 1, and `BadWeight` if a line with an item has no weight. The writer is not called then. Returns `LineTooLong` if a
+/// line exceeds the limit, `Memory` if an allocation fails, and `Write` if the writer fails. Lines before may have been written.
+pub fn weigh<I: Inputs, R: Read, W: Write>(
+    alloc: Global,
+    options: WeighOptions,
+    inputs: &mut I,
+    keys: &mut R,
+    writer: &mut W,
+) -> Result<Weighed, Failure>
+    ensures written { IfOk result (λ done. IfSome (I.inputs inputs.old) (λ all. IfSome (R.remaining keys.old)
+        (λ bytes. WritesWeights options all done.complete bytes done.failure (W.contents writer.old) (W.contents writer.new)))) }
+
+    // When each error comes, and what it leaves unchanged.
+    ensures failed { IfErr result (FailsWeigh options (I.inputs inputs.old) (R.remaining keys.old)) }
+    ensures bad_size { (options.parts ≡ 0) ⊎ (options.questions ≤ 1) → IsErrOf result Failure.BadSize }
+    ensures unread { IsErrOf result Failure.BadSize → (inputs.new ≡ inputs.old) × (keys.new ≡ keys.old) }
+    ensures unwritten { IfErr result (λ failure. ComesLate failure ⊎ (writer.new ≡ writer.old)) }
+{
+    let sketch = table_for(alloc, options.parts, options.questions, options.seed)?;
+    let mut weigher = ItemWeigher {
+        sketch,
+        chosen: options.chosen,
+        count: 0,
+    };
+    let limit = options.max_line as usize + 1;
+    let mut buffer = vec![in alloc; 0; limit.min(BLOCK)]?;
+    let complete = read_inputs(alloc, &mut weigher, &mut (), inputs, &mut buffer, limit)?;
+    let sketch = weigher.sketch;
+    write_total(alloc, options.header, sketch.total_weight(), writer)?;
+    let mut lines = KeyWeights {
+        sketch,
+        part: options.keys_part,
+        written: Vec::new(alloc),
+        number: String::new(alloc),
+    };
+    let failure = read_lines(alloc, &mut lines, writer, keys, &mut buffer, limit)?;
+    Ok(Weighed { complete, failure })
+}
+
+/// Creates an empty sketch for an error of the total over `parts`, which one of `questions` keys may exceed under ideal hashes.
+///
+/// # Errors
+///
+/// Returns `BadSize` if a sketch of this size is not allowed, and `Memory` if it cannot be allocated.
+fn table_for(
+    alloc: Global,
+    parts: u64,
+    questions: u64,
+    seed: u64,
+) -> Result<CountMinSketch<u64>, Failure>
+    ensures made { IfOk result (IsEmptyTable parts questions seed) }
+    ensures bad_size { (parts ≡ 0) ⊎ (questions ≤ 1) → IsErrOf result Failure.BadSize }
+    ensures failed { IfErr result (FailsTable parts questions) }
+{
+    let num_buckets = suggest_num_buckets(parts)?;
+    let num_hashes = suggest_num_hashes(questions)?;
+    let sketch = CountMinSketch::with_seed(alloc, num_hashes, num_buckets, usable_seed(seed))?;
+    Ok(sketch)
+}
+
+/// Returns a seed, or the default seed if the hash of the seed is 0, which no sketch allows.
+fn usable_seed(seed: u64) -> u64
+    ensures { result ≡ usable_seed seed }
+{
+    match compute_seed_hash(seed, ErrorKind::InvalidArgument) {
+        Ok(_) => seed,
+        Err(_) => DEFAULT_UPDATE_SEED,
+    }
+}
+
+/// Writes the line of the total, if it is wanted.
+///
+/// # Errors
+///
+/// Returns `Memory` if an allocation fails, and `Write` if the writer fails.
+fn write_total<W: Write>(
+    alloc: Global,
+    wanted: bool,
+    total: u64,
+    writer: &mut W,
+) -> Result<(), Failure>
+    ensures written { OnOk result (Appends (W.contents writer.old) (W.contents writer.new) (total_line wanted total)) }
+    ensures failed { IfErr result FailsWriting }
+{
+    if !wanted {
+        return Ok(());
+    }
+    let mut text = String::new(alloc);
+    writeln!(text, "# total {total}")?;
+    match writer.write_all(text.as_bytes()) {
+        Ok(()) => Ok(()),
+        Err(e) => Err(Failure::Write(e)),
+    }
+}

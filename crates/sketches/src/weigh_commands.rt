@@ -1,0 +1,76 @@
+//! Runs `sketches weigh`.
+use crate::files::{Files, open};
+use crate::item_weigher::WeighedLine;
+use crate::keyed_options::{has_lone_delimiter, keys_part_of, reads_input_twice};
+use crate::keys::{key_of, seed_of};
+use crate::options::part_of;
+use crate::percent::percent_of;
+use crate::weigh::{WeighOptions, weigh};
+use crate::weigh_options::{parts_of, weight_part_of};
+use crate::{BAD_DELIMITER, ERROR, STANDARD_INPUT, end, fail, max_line_of, message_of};
+use clap::ArgMatches;
+use std::io;
+
+/// The message of a sketch's size that is not allowed.
+const BAD_SKETCH: &str = "--outliers must be at least 2, and the sketch less than 2^30 cells";
+
+/// The message of an error that is not allowed.
+const BAD_SHARE: &str = "--error must be above 0% and at most 100%, with at most 6 decimals";
+
+/// Runs `sketches weigh`. Returns the status.
+pub fn run_weigh(rt: &HostRuntime, matches: &ArgMatches<'_>) -> u8 {
+    let names = matches
+        .get_strs("files")
+        .unwrap_or(STANDARD_INPUT.as_slice());
+    let keys_name = matches.get_str("keys").unwrap_or("-");
+    if reads_input_twice(keys_name, names) {
+        return fail(rt, "standard input cannot be both FILE and --keys");
+    }
+    if has_lone_delimiter(matches) && matches.get_one::<u32>("weight").is_none() {
+        return fail(rt, "--delimiter needs --field, --weight or --keys-field");
+    }
+    let (Some(item), Some(keys_part)) = (part_of(matches), keys_part_of(matches)) else {
+        return fail(rt, BAD_DELIMITER);
+    };
+    let Some(weight) = weight_part_of(matches) else {
+        return fail(rt, BAD_DELIMITER);
+    };
+    let Some(error) = percent_of(matches.get_str("error").unwrap_or("")) else {
+        return fail(rt, BAD_SHARE);
+    };
+    if error.millionths == 0 {
+        return fail(rt, BAD_SHARE);
+    }
+    let key = match key_of(rt, matches.get_str("key")) {
+        Ok(key) => key,
+        Err(fault) => return fail(rt, message_of(fault)),
+    };
+    let options = WeighOptions {
+        chosen: WeighedLine { item, weight },
+        keys_part,
+        parts: parts_of(error),
+        questions: matches.get_one::<u64>("outliers").unwrap_or(0),
+        seed: seed_of(key),
+        max_line: max_line_of(matches),
+        header: !matches.get_flag("no-header"),
+    };
+    let mut keys = match open(rt, keys_name) {
+        Ok(keys) => keys,
+        Err(error) => return unread(rt, keys_name, error),
+    };
+    let mut files = Files::new(rt, names);
+    match weigh(rt.alloc(), options, &mut files, &mut keys, &mut rt.stdout()) {
+        Ok(done) => match done.failure {
+            Some(error) => unread(rt, keys_name, error),
+            None => u8::from(!done.complete || files.has_failed()),
+        },
+        Err(failure) if files.is_done() => end(rt, failure, keys_name, BAD_SKETCH),
+        Err(failure) => end(rt, failure, files.current(), BAD_SKETCH),
+    }
+}
+
+/// Prints why the file of keys was not read whole. Returns the status.
+fn unread(rt: &HostRuntime, name: &str, error: io::Error) -> u8 {
+    let _ = eprintln!(rt; "sketches: {name}: {error}");
+    ERROR
+}

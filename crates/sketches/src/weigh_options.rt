@@ -1,0 +1,67 @@
+//! The command line of `sketches weigh`.
+ghost use Rattle.std.specs.Prelude.{◌*◌, ◌^◌, ◌<◌, ◌≤◌};
+
+use crate::keyed_options::with_keys;
+use crate::options::{part_at, with_files, with_max_line, with_weight};
+use crate::percent::{Percent, WHOLE};
+use crate::selection::Part;
+use crate::shared_options::key;
+use clap::{Arg, ArgAction, ArgMatches, Command, value_parser};
+use std::alloc::{AllocError, Global};
+
+/// Returns the description of `sketches weigh`.
+pub fn weigh_command<'a>(alloc: Global) -> Result<Command<'a>, AllocError> {
+    let command = Command::new(alloc, "weigh").about(
+        "Prints how often each key of a file occurs, or a little more, in the order of the keys",
+    );
+    let command = with_weight(alloc, with_keys(alloc, command)?)?;
+    let command = with_error(alloc, command)?;
+    let command = with_max_line(alloc, command)?.arg(key(alloc))?.arg(
+        Arg::new(alloc, "no-header")
+            .long("no-header")
+            .action(ArgAction::SetTrue)
+            .help("Omits the first line, which has the total"),
+    )?;
+    with_files(alloc, command)
+}
+
+/// Adds the options that choose the size of the sketch.
+fn with_error<'a>(alloc: Global, command: Command<'a>) -> Result<Command<'a>, AllocError> {
+    Ok(
+        command
+            .arg(
+                Arg::new(alloc, "error")
+                    .long("error")
+                    .value_name("P")
+                    .default_value("0.1%")
+                    .help(
+                        "Prints at most P percent of the total more than a key occurs, for most keys",
+                    ),
+            )?
+            .arg(
+                Arg::new(alloc, "outliers")
+                    .long("outliers")
+                    .value_name("N")
+                    .value_parser(value_parser!(u64))
+                    .default_value("1000")
+                    .help("Lets about 1 in N numbers exceed their weight by more than that"),
+            )?,
+    )
+}
+
+/// Returns the part that has the weight of a line, if any. Returns `None` if the delimiter is not one character of ASCII.
+pub fn weight_part_of(matches: &ArgMatches<'_>) -> Option<Option<Part>> {
+    let Some(number) = matches.get_one::<u32>("weight") else {
+        return Some(None);
+    };
+    let part = part_at(Some(number), matches.get_str("delimiter"))?;
+    Some(Some(part))
+}
+
+/// Returns the least number of parts of a whole of which each is at most this percentage of it.
+pub fn parts_of(error: Percent) -> u64
+    requires { 0 < error.millionths }
+    ensures { 10 ^ 8 ≤ error.millionths * result }
+{
+    u64::from(WHOLE.div_ceil(error.millionths))
+}

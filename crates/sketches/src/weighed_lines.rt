@@ -1,0 +1,113 @@
+//! Adds the items of lines with the weights that stand in the lines.
+ghost use Rattle.std.specs.Prelude.{◌≡◌, IfErr, OnOk};
+ghost use Rattle.std.specs.Str.Lossy.{utf8_lossy};
+ghost use Rattle.sketches.specs.Added.{AddsLine, AddsLines};
+ghost use Rattle.sketches.specs.Failures.{FailsLine, FailsLines, IsBadWeight};
+
+use crate::failure::{BadWeight, Failure};
+use crate::raw_lines::next_raw_line;
+use crate::raw_parts::raw_part_of;
+use crate::selection::{Part, part_of};
+use crate::weighing::{WeighedPart, Weighing};
+use crate::weights::weight_of;
+use sketch_base::from_utf8;
+use sketch_frequencies::FrequentItemsSketch;
+use std::alloc::{AllocError, Global};
+
+/// The maximum number of characters of a bad weight in a message.
+const SHOWN: usize = 40;
+
+/// Adds the item of each line with the weight of the line. Increments `count` for each line.
+///
+/// # Errors
+///
+/// Returns `BadWeight` at the first line with an item and without a weight, which has the number `count`. Returns `TooManyItems`
+/// if the total would exceed `u64::MAX`, and `Memory` if an allocation fails.
+#[inline(never)]
+pub fn add_weighed_lines(
+    alloc: Global,
+    sketch: &mut FrequentItemsSketch<String>,
+    part: WeighedPart,
+    bytes: &[u8],
+    count: &mut u64,
+) -> Result<(), Failure>
+    ensures added { OnOk result (AddsLines (Weighing.Field part) sketch.old bytes.now sketch.new) }
+    ensures failed { IfErr result (FailsLines (Weighing.Field part) sketch.old bytes.now) }
+{
+    let mut rest = bytes;
+    'each: loop {
+        let Some((line, after)) = next_raw_line(rest) else {
+            return Ok(());
+        };
+        *count = count.saturating_add(1);
+        add_raw_line(alloc, sketch, part, line, *count)?;
+        rest = after;
+    }
+}
+
+/// Adds the item of a line of bytes with the weight of the line.
+#[inline(always)]
+fn add_raw_line(
+    alloc: Global,
+    sketch: &mut FrequentItemsSketch<String>,
+    part: WeighedPart,
+    line: &[u8],
+    number: u64,
+) -> Result<(), Failure>
+    ensures added { OnOk result (AddsLine (Weighing.Field part) sketch.old line.now sketch.new) }
+    ensures failed { IfErr result (FailsLine (Weighing.Field part) sketch.old line.now) }
+{
+    match from_utf8(line) {
+        Ok(text) => add_line(alloc, sketch, part, line, text, number),
+        Err(_) => {
+            let text = String::from_utf8_lossy(alloc, line)?;
+            add_line(alloc, sketch, part, line, text.as_str(), number)
+        }
+    }
+}
+
+/// Adds the item of a line with the weight of the line. The line is given as its bytes and as a string.
+#[inline(always)]
+fn add_line(
+    alloc: Global,
+    sketch: &mut FrequentItemsSketch<String>,
+    part: WeighedPart,
+    line: &[u8],
+    text: &str,
+    number: u64,
+) -> Result<(), Failure>
+    requires { text.now ≡ utf8_lossy line.now }
+    ensures added { OnOk result (AddsLine (Weighing.Field part) sketch.old line.now sketch.new) }
+    ensures failed { IfErr result (FailsLine (Weighing.Field part) sketch.old line.now) }
+{
+    let Some(item) = part_of(part.item, text) else {
+        return Ok(());
+    };
+    let Some(weight) = weight_of(part.weight, line) else {
+        return Err(bad_weight(alloc, part.weight, line, number));
+    };
+    sketch.update_item_with_count(item, weight)?;
+    Ok(())
+}
+
+/// Returns the error of a line that has no weight in a part.
+pub fn bad_weight(alloc: Global, part: Part, line: &[u8], number: u64) -> Failure
+    ensures { IsBadWeight result }
+{
+    let field = raw_part_of(part, line).unwrap_or(b"".as_slice());
+    match shown(alloc, field) {
+        Ok(text) => Failure::BadWeight(BadWeight { line: number, text }),
+        Err(_) => Failure::Memory,
+    }
+}
+
+/// Returns the first characters of a field, with U+FFFD for a control character and for bytes that are not UTF-8.
+fn shown(alloc: Global, field: &[u8]) -> Result<String, AllocError> {
+    let cut = field.get(..4 * SHOWN).unwrap_or(field);
+    let whole = String::from_utf8_lossy(alloc, cut)?;
+    let mut text = String::new(alloc);
+    for c in whole.chars().take(SHOWN) {
+        text.push(if c.is_control() { '\u{FFFD}' } else { c })?;
+    }
+    Ok(text)
+}
