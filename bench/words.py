@@ -43,7 +43,7 @@ print(words.total_weight, words.rows(no_false="positives")[:5])
 
 BY_FILE = """
 import sys, datasketches_rattle as ds
-words = ds.FrequentItemsSketch.from_file(sys.argv[1], progress=False)
+words = ds.FrequentItemsSketch.from_file(sys.argv[1], progress=False, threads=int(sys.argv[2]))
 print(words.total_weight, words.top(5, no_false="positives"))
 """
 
@@ -94,7 +94,7 @@ def main():
     python = "/usr/bin/python3"
     rows = [
         ("update_words of an mmap, 4096 slots", [python, "-c", BY_WORDS, TEXT]),
-        ("from_file, 4096 slots", [python, "-c", BY_FILE, TEXT]),
+        *((f"from_file, 4096 slots, threads={threads}", [python, "-c", BY_FILE, TEXT, threads]) for threads in "124"),
         ("update of split lines, 4096 slots", [python, "-c", BY_LINES, TEXT]),
         ("heavy.py --words --workers 4", [python, f"{TOP}/bindings/dask/heavy.py", "--words", TEXT, "--workers", "4", "--json"]),
         ("exact, Rust", [counter, TEXT]),

@@ -3,6 +3,7 @@
 
     heavy.py --words book.txt letters/*.txt
     heavy.py --column page --weight bytes access.csv
+    heavy.py --field 7 access.log
 """
 from __future__ import annotations
 
@@ -30,7 +31,7 @@ def words_of(arguments: Sequence[str] | None) -> argparse.Namespace:
                         help="hash under these 32 hexadecimal digits, so that runs over the same parts have the same result (a "
                              "random key for each sketch)")
     engine.add_engine_words(parser)
-    return parser.parse_args(arguments)
+    return engine.parsed(parser, arguments)
 
 
 def heaviest(words: argparse.Namespace) -> dict[str, Any]:
@@ -38,9 +39,7 @@ def heaviest(words: argparse.Namespace) -> dict[str, Any]:
     shape = Heavy(words.size, key=words.key)
     shape.empty()
     parts = engine.cut_files(words.files, words.parts, words=words.words, **engine.items_of(words))
-    with engine.connect(words.workers, words.scheduler, threads=words.column is None) as client:
-        image = engine.answer(client, engine.merged(shape, engine.sketches(shape, parts), words.fan_in))
-    sketch = shape.read(image)
+    sketch = shape.read(engine.image_of(words, shape, parts))
     rows = sketch.rows(threshold=words.threshold)
     shown, hidden = rows[: words.top], rows[words.top :]
     complete = max([words.threshold, sketch.maximum_error] + [high for _, _, _, high in hidden])

@@ -3,7 +3,7 @@
 
     seen.py customers.txt orders/*.txt --column customer --write kept
 
-The keys are the lines of KEYS, or a column of it by --key-column.
+The keys are the lines of KEYS, or a column of it by --key-column, or a field of its lines by --key-field.
 """
 from __future__ import annotations
 
@@ -32,7 +32,9 @@ def words_of(arguments: Sequence[str] | None) -> argparse.Namespace:
     parser.add_argument("keys", metavar="KEYS", help="the file with the keys, as a FILE is")
     parser.add_argument("files", nargs="+", metavar="FILE", help=engine.FILE_HELP)
     engine.add_item_words(parser, words=False, weights=False)
-    parser.add_argument("--key-column", metavar="NAME", help="the column of KEYS with the keys (the whole line)")
+    keys = parser.add_mutually_exclusive_group()
+    keys.add_argument("--key-column", metavar="NAME", help="the column of KEYS with the keys (the whole line)")
+    keys.add_argument("--key-field", type=engine.field_number, metavar="N", help="the field of the lines of KEYS with the keys")
     parser.add_argument("--one-in", type=engine.positive, default=100, metavar="N",
                         help="keep about one in N of the lines whose key is not there (%(default)s)")
     parser.add_argument("--write", metavar="FOLDER",
@@ -40,7 +42,7 @@ def words_of(arguments: Sequence[str] | None) -> argparse.Namespace:
     parser.add_argument("--overwrite", action="store_true",
                         help="remove what an earlier --write left in FOLDER, when the job is done; other files are an error")
     engine.add_engine_words(parser)
-    return parser.parse_args(arguments)
+    return engine.parsed(parser, arguments)
 
 
 def shape_for(count: int, one_in: int) -> Seen:
@@ -83,13 +85,19 @@ def output_folder(folder: Path, overwrite: bool, names: Sequence[str]) -> Iterat
         shutil.rmtree(making, ignore_errors=True)
 
 
+def items_in(words: argparse.Namespace, column: str | None, field: int | None) -> dict[str, Any]:
+    """Returns arguments of `cut_files`: lines, a column or a field, by the command line's delimiter."""
+    if column is None and field is None:
+        return {}
+    return {"column": column, "field": field, "no_header": words.no_header and column is not None, "delimiter": words.delimiter}
+
+
 def kept(words: argparse.Namespace) -> dict[str, Any]:
     """Makes the filter and applies it. Returns for each file the numbers of its lines and of those that are kept."""
     if words.overwrite and words.write is None:
         raise ValueError("--overwrite needs --write FOLDER")
-    header = {"no_header": words.no_header, "delimiter": words.delimiter}
-    key_parts = engine.cut_files([words.keys], words.parts, column=words.key_column, **(header if words.key_column else {}))
-    parts = engine.cut_files(words.files, words.parts, column=words.column, **(header if words.column else {}))
+    key_parts = engine.cut_files([words.keys], words.parts, **items_in(words, words.key_column, words.key_field))
+    parts = engine.cut_files(words.files, words.parts, **items_in(words, words.column, words.field))
     targets: list[str | None] = [None] * len(parts)
     with contextlib.ExitStack() as stack:
         if words.write is not None:

@@ -57,6 +57,14 @@ class Columns:
 
 
 @dataclass(frozen=True)
+class Field:
+    """A field of a line, from 0: between single bytes, or between runs of white space if there is no delimiter."""
+
+    index: int
+    delimiter: bytes | None = None
+
+
+@dataclass(frozen=True)
 class Version:
     """The version of a file on a host. It differs for another file under the same path, and after a change."""
 
@@ -82,7 +90,8 @@ class Version:
 
 @dataclass(frozen=True)
 class Part:
-    """The lines of a file that begin in a range of its bytes. Their items are the lines, their words, or a column's strings.
+    """The lines of a file that begin in a range of its bytes. Their items are the lines, their words, a column's strings, or a
+    field of each line that has it.
 
     A compressed file is one part. Its range begins at a byte of the unpacked content, and ends with it.
     """
@@ -93,6 +102,7 @@ class Part:
     version: Version
     words: bool = False
     columns: Columns | None = None
+    field: Field | None = None
 
     def check(self, status: os.stat_result) -> None:
         """Raises `BadInput` if the file is not the one that was cut."""
@@ -101,11 +111,13 @@ class Part:
 
 
 class Batch(NamedTuple):
-    """Some of a part's items. Without weights each weighs 1. `lines` has the items' lines, but is empty if items are words."""
+    """Some of a part's items. Without weights each weighs 1. `lines` has the items' lines, but is empty if items are words.
+    `missing` is the number of other lines that are not blank: those without the field."""
 
     items: list[str]
     weights: list[int] | None
     lines: list[str]
+    missing: int = 0
 
 
 # --- Files ---
@@ -213,6 +225,8 @@ def batch_of(part: Part, at: int, data: bytes, least: int, most: int) -> Batch:
     """Returns the items of a block that begins at byte `at`."""
     if part.words:
         return Batch(words_of(text_of(part.path, at, data)), None, [])
+    if part.field is not None:
+        return fields_with_lines(part.field, text_of(part.path, at, data))
     lines = lines_of(part.path, at, data)
     return Batch(lines, None, lines) if part.columns is None else columns_of(part, part.columns, at, data, lines, least, most)
 
@@ -319,6 +333,31 @@ def words_of(text: str) -> list[str]:
     for space in "\t\n\f\r":
         text = text.replace(space, " ")
     return [word for word in text.split(" ") if word]
+
+
+def fields_of(field: Field, data: bytes) -> list[bytes]:
+    """Returns the field of each line of a block that has it. The block is UTF-8. Blank lines have no field.
+
+    A CR before LF is not of the line, but one at the end of a last line without LF is, as for the program `sketches`.
+    """
+    index, delimiter = field.index, field.delimiter
+    if delimiter is None and b"\v" in data:  # white space for Python alone; UTF-8 has no byte 0xff
+        return [item.replace(b"\xff", b"\v") for item in fields_of(field, data.replace(b"\v", b"\xff"))]
+    lines = data.replace(b"\r\n", b"\n").split(b"\n")
+    return [fields[index] for line in lines if line and len(fields := line.split(delimiter, index + 1)) > index]
+
+
+def field_lines(field: Field, data: bytes) -> bytes | None:
+    """Returns the fields of a block as lines. Returns None if one ends in CR, which a line would lose."""
+    text = b"\n".join([*fields_of(field, data), b""])
+    return None if b"\r\n" in text else text
+
+
+def fields_with_lines(field: Field, text: str) -> Batch:
+    """Returns the field of each line of a block that has it, with its line."""
+    lines = [line for line in text.replace("\r\n", "\n").split("\n") if line]
+    found = [(item.decode(), line) for line in lines for item in fields_of(field, line.encode())]
+    return Batch([item for item, _ in found], None, [line for _, line in found], len(lines) - len(found))
 
 
 def line_at(data: bytes, index: int) -> int:
@@ -468,13 +507,22 @@ class Seen:
 Shape = Heavy | Traffic | Seen
 
 
+def lines_for_sketch(part: Part, data: bytes) -> bytes | None:
+    """Returns a block's text from which a sketch takes the items: lines, or words. Returns None if Python must take them."""
+    if part.words:
+        return data
+    if part.field is not None:
+        return field_lines(part.field, data)
+    return full_lines(data) if part.columns is None else column_lines(part.columns, data)
+
+
 def sketch_part(shape: Shape, part: Part) -> bytes:
     """Returns the image of a sketch of a part's items. The sketch splits words and lines itself."""
     sketch = shape.empty()
     for at, data in blocks(part):
-        if part.columns is not None:
-            text_of(part.path, at, data)  # the other columns are UTF-8 too
-        text = data if part.words else full_lines(data) if part.columns is None else column_lines(part.columns, data)
+        if part.columns is not None or part.field is not None:
+            text_of(part.path, at, data)  # the other columns and fields are UTF-8 too
+        text = lines_for_sketch(part, data)
         if text is None:
             shape.add(sketch, batch_of(part, at, data, shape.least, shape.most))
             continue
@@ -496,7 +544,7 @@ def merge_images(shape: Shape, images: list[bytes]) -> bytes:
 
 def count_part(part: Part) -> int:
     """Returns the number of a part's items."""
-    if part.words or part.columns is not None:
+    if part.words or part.columns is not None or part.field is not None:
         return sum(len(batch.items) for batch in batches(part))
     count = 0
     for at, data in blocks(part):
@@ -507,7 +555,8 @@ def count_part(part: Part) -> int:
 
 
 def filter_part(shape: Seen, image: bytes, part: Part, target: str | None) -> tuple[int, int]:
-    """Returns the number of a part's lines, and of those whose item the filter contains. Writes those to a file, if named.
+    """Returns the number of a part's lines, and of those whose item the filter contains. Writes those to a file, if named. A line
+    without the field is not one of those.
 
     Two workers may process a part at the same time, if one of them is taken for dead. So each writes its own file, which is
     renamed when it is complete.
@@ -517,7 +566,7 @@ def filter_part(shape: Seen, image: bytes, part: Part, target: str | None) -> tu
     with open(writing, "w", encoding="utf-8", newline="\n") as output:
         for batch in batches(part):
             kept = [line + "\n" for line, keep in zip(batch.lines, seen.contains(batch.items)) if keep]
-            all_lines, kept_lines = all_lines + len(batch.lines), kept_lines + len(kept)
+            all_lines, kept_lines = all_lines + len(batch.lines) + batch.missing, kept_lines + len(kept)
             output.writelines(kept)
     if target is not None:
         os.replace(writing, target)

@@ -3,6 +3,7 @@
 
     traffic.py --column host --weight bytes access.csv --ask example.org --ask example.com
     traffic.py --words book.txt --ask-file names.txt
+    traffic.py --field 1 access.log --ask 192.0.2.7
 """
 from __future__ import annotations
 
@@ -30,7 +31,7 @@ def words_of(arguments: Sequence[str] | None) -> argparse.Namespace:
                         help="rows: more make a bad estimate rarer (%(default)s)")
     parser.add_argument("--signed", action="store_true", help="weights may be below 0")
     engine.add_engine_words(parser)
-    return parser.parse_args(arguments)
+    return engine.parsed(parser, arguments)
 
 
 def weigh(words: argparse.Namespace) -> dict[str, Any]:
@@ -45,9 +46,7 @@ def weigh(words: argparse.Namespace) -> dict[str, Any]:
         raise ValueError("no key is asked for: --ask KEY, or --ask-file FILE")
     empty.estimate(asked)  # raises if one is not UTF-8
     parts = engine.cut_files(words.files, words.parts, words=words.words, **engine.items_of(words))
-    with engine.connect(words.workers, words.scheduler, threads=words.column is None) as client:
-        image = engine.answer(client, engine.merged(shape, engine.sketches(shape, parts), words.fan_in))
-    sketch = shape.read(image)
+    sketch = shape.read(engine.image_of(words, shape, parts))
     margin = sketch.upper_bound(asked[0]) - sketch[asked[0]]
     return {
         "total": sketch.total_weight,

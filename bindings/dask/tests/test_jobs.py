@@ -1,7 +1,6 @@
 """The jobs over three workers and twelve parts, compared with exact counts; workers that die; damaged images."""
 from __future__ import annotations
 
-import asyncio
 import collections
 import contextlib
 import gzip
@@ -9,6 +8,7 @@ import http.client
 import io
 import json
 import os
+import random
 import signal
 import socket
 import ssl
@@ -122,14 +122,47 @@ class Workers(unittest.TestCase):
 
 
 class Threads(unittest.TestCase):
-    def test_they_accept_no_connections(self):
-        before = set(map(tuple, listens_on(os.getpid())))
-        with engine.connect(2, None, threads=True) as client:
-            self.assertTrue(client.scheduler.address.startswith("inproc://"))
-            for address, port in set(map(tuple, listens_on(os.getpid()))) - before:
-                self.assertEqual(address, "0100007F", "127.0.0.1, as x86-64 writes it")
-                serves_no_pages(self, int(port, 16))
-            self.assertEqual(client.submit(os.getpid).result(), os.getpid())
+    def test_they_need_no_dask(self):
+        code = "import sys; {}; import heavy, traffic; sys.exit({}.main(sys.argv[1:]))"
+        hidden = "sys.modules.update(dask=None, distributed=None)"
+        for command, *words in (("heavy", "--words"), ("heavy",), ("traffic", "--words", "--ask", WORDS[0])):
+            done = subprocess.run([sys.executable, "-c", code.format(hidden, command), *words, STREAM, "--json"], text=True,
+                                  capture_output=True, env={**os.environ, "PYTHONPATH": os.pathsep.join(sys.path)}, check=False)
+            self.assertEqual((done.returncode, done.stderr), (0, ""))
+            self.assertEqual(json.loads(done.stdout)["total"], len(WORDS) if words else len(WORDS) // 5)
+        with mock.patch.dict(sys.modules, {"dask": None}):
+            status, out, errors = said(heavy.main, STREAM, "--column", "1", "--no-header")
+        self.assertEqual((status, out), (1, ""))
+        self.assertRegex(errors, "^heavy.py: not installed here or on a worker: .*dask.*\n$")
+
+    def test_the_same_key_gives_the_result_of_workers(self):
+        for fan_in in ("2", "3", "5", "12"):
+            words = ["--words", STREAM, "--size", str(SIZE), "--parts", str(PARTS), "--key", KEY.hex(), "--fan-in", fan_in]
+            words.append("--json")
+            found = [said(heavy.main, *words, *more) for more in (["--scheduler", CLIENT.scheduler.address], ["--workers", "1"],
+                                                                  ["--workers", "3"], [])]
+            self.assertEqual((found[0][0], found[0][2]), (0, ""))
+            self.assertEqual(found[1:], found[:1] * 3)
+
+    def test_few_images_are_kept(self):
+        for count in (1, 2, 5, 9, 10, 100):
+            shape, most = Traffic(2, 50), 0
+            tree, images = engine.Tree(shape, 3), []
+            for number in range(count):
+                sketch = shape.empty()
+                sketch.update(f"item {number}", number)
+                images.append(bytes(sketch))
+                tree.add(images[-1])
+                most = max(most, sum(map(len, tree.levels)))
+            self.assertLessEqual(most, 2 * 5)
+            self.assertEqual(tree.image(), sketch_parts.merge_images(shape, images))
+
+    def test_an_error_ends_the_work(self):
+        path = write(FOLDER, "late.txt", b"good\n" * 50 + b"b\xe4d\n" + b"good\n" * 50_000)
+        with mock.patch.object(engine, "sketch_part", side_effect=sketch_part) as made:
+            status, out, errors = said(heavy.main, path, "--parts", "1000", "--workers", "2")
+        self.assertEqual((status, out, errors), (1, "", f"heavy.py: {path}, line at byte 250: not UTF-8\n"))
+        self.assertLess(made.call_count, 20)
 
     def test_lines_and_words_are_counted_as_by_processes(self):
         for words, weights in (([], collections.Counter(Path(STREAM).read_text("utf-8").splitlines())), (["--words"], WEIGHTS)):
@@ -235,7 +268,7 @@ class Heaviest(Tests):
                 stack.callback(process.wait, timeout=PATIENCE)
                 stack.callback(process.terminate)
                 until = time.monotonic() + PATIENCE
-                while not os.path.exists(told):
+                while not (os.path.exists(told) and os.path.getsize(told)):
                     self.assertLess(time.monotonic(), until, "there is no scheduler")
                     time.sleep(0.05)
             with open(told, encoding="utf-8") as file:
@@ -338,6 +371,77 @@ class Heaviest(Tests):
         self.assertEqual([line.split()[0] for line in lines[1:4]], [word for word, _ in WEIGHTS.most_common(3)])
         self.assertIn("█", lines[1])
         self.assertFalse(os.path.exists(os.path.join(FOLDER, "dask-worker-space")), "nothing is left where it ran")
+
+
+class OfFields(Tests):
+    """Jobs whose items are fields of lines."""
+
+    def setUp(self):
+        chance = random.Random(5)
+        fields = [(chance.choice(WORDS), chance.choice(("x", "", "y z"))) for _ in range(6000)]
+        self.lines = [",".join(pair) if n % 3 else pair[0] for n, pair in enumerate(fields)]
+        text = "".join(line + chance.choice(("\n", "\r\n", "\n\n")) for line in self.lines)
+        self.path = write(FOLDER, "fields.csv", text)
+        self.packed = write(FOLDER, "fields.csv.gz", gzip.compress(text.encode()))
+        self.items = {
+            ("-f", "1", "-d", ","): collections.Counter(line.split(",")[0] for line in self.lines),
+            ("-f", "2", "--delimiter", ","): collections.Counter(line.split(",")[1] for line in self.lines if "," in line),
+            ("--field", "1"): collections.Counter(line.split()[0] for line in self.lines),
+            ("--field", "2"): collections.Counter(line.split()[1] for line in self.lines if " " in line),
+        }
+
+    def test_exact_counts(self):
+        for words, weights in self.items.items():
+            found = self.found(heavy.main, self.path, self.packed, *words, "--top", "9999")
+            self.assertEqual((found["total"], found["error"]), (2 * sum(weights.values()), 0))
+            self.assertEqual({each["item"]: each["lower"] for each in found["items"]},
+                             {item: 2 * weight for item, weight in weights.items()})
+            few = self.found(heavy.main, self.path, *words, "--size", str(SIZE), "--top", "9999")
+            for each in few["items"]:
+                self.assertTrue(each["lower"] <= weights[each["item"]] <= each["upper"])
+            missing = set(weights) - {each["item"] for each in few["items"]}
+            self.assertTrue(all(weights[item] <= few["complete_above"] for item in missing))
+            asked = [item for item, _ in weights.most_common(20)]
+            told = self.found(traffic.main, self.path, *words, *(word for item in asked for word in ("--ask", item)))
+            self.assertEqual(told["total"], sum(weights.values()))
+            one = ds.CountMinSketch(7, 27183)
+            for item, weight in weights.items():
+                one.update(item, weight)
+            self.assertEqual({each["key"]: each["estimate"] for each in told["keys"]}, {item: one[item] for item in asked})
+
+    def test_kept_lines(self):
+        keys = write(FOLDER, "keys.csv", "1," + self.lines[1].split(",")[0] + "\nno key\n")
+        folder = Path(FOLDER, "kept fields")
+        found = self.found(seen.main, keys, self.path, "-d", ",", "-f", "1", "--key-field", "2", "--one-in", "1000000",
+                           "--write", str(folder))
+        wanted = {line for line in self.lines if line.split(",")[0] == self.lines[1].split(",")[0]}
+        kept = "".join(path.read_text("utf-8") for path in sorted(folder.iterdir())).splitlines()
+        self.assertLessEqual(wanted, set(kept))
+        self.assertLess(len(kept), len([line for line in self.lines if line in wanted]) + 600)
+        self.assertEqual(kept, [line for line in self.lines if line in set(kept)])
+        self.assertEqual((found["keys"], found["files"]), (1, [{"file": self.path, "lines": 6000, "kept": len(kept)}]))
+
+    def test_lines_without_the_field_are_not_kept(self):
+        keys = write(FOLDER, "keys.csv", "1,x\n2,\n3,y z\n")
+        for key in (["--key-field", "2"], ["--key-column", "2", "--no-header"]):
+            found = self.found(seen.main, keys, self.path, "-f", "2", "-d", ",", *key)
+            self.assertEqual((found["keys"], found["files"]), (3, [{"file": self.path, "lines": 6000, "kept": 4000}]))
+
+    def test_what_is_no_field(self):
+        bad = write(FOLDER, "bad.txt", b"a good\n" * 3000 + b"a b\xe4d\n")
+        self.assertEqual(self.refused(heavy.main, bad, "-f", "1"), f"heavy.py: {bad}, line at byte 21000: not UTF-8")
+        self.assertEqual(self.refused(traffic.main, bad, "-f", "1", "-d", "ab", "--ask", "x"),
+                         "traffic.py: a delimiter of fields is one character of ASCII, not 'ab'")
+        for command, *words in ((heavy.main, "-f", "1", "--words"), (heavy.main, "-f", "1", "--column", "a"),
+                                (heavy.main, "--words", "--column", "a"), (heavy.main, "-d", ","),
+                                (heavy.main, "--words", "-d", ","), (heavy.main, "-f", "0"),
+                                (heavy.main, "-f", str(2**32)), (heavy.main, "-f", "x"),
+                                (traffic.main, "--ask", "x", "-f", "1", "--words"), (traffic.main, "--ask", "x", "-d", ","),
+                                (seen.main, bad, "-f", "1", "--column", "a"), (seen.main, bad, "-d", ","),
+                                (seen.main, bad, "--key-field", "1", "--key-column", "a")):
+            with self.assertRaises(SystemExit) as refused, contextlib.redirect_stderr(io.StringIO()):
+                command([bad, *words])
+            self.assertEqual(refused.exception.code, 2, words)
 
 
 class Weighed(Tests):
@@ -489,42 +593,6 @@ class Limits(Tests):
         with mock.patch.object(sketch_parts, "ds") as package:
             Heavy(SIZE).read(b"image")
         package.FrequentItemsSketch.deserialize.assert_called_once_with(b"image", item=str, max_bytes=None, key=None)
-
-
-class Ends(unittest.TestCase):
-    """How a command ends."""
-
-    def ended(self, output):
-        """Returns the exit status and the error output of a command that prints a result to a file."""
-        code = "import sketch_engine, sys; sys.exit(sketch_engine.run('job', lambda: {'a': 1}, print, True))"
-        env = {**os.environ, "PYTHONPATH": os.pathsep.join(sys.path), "PYTHONUNBUFFERED": ""}
-        done = subprocess.run([sys.executable, "-c", code], stdout=output, stderr=subprocess.PIPE, text=True, env=env,
-                              timeout=PATIENCE, check=False)
-        return done.returncode, done.stderr
-
-    def test_a_reader_that_has_enough(self):
-        reader, writer = os.pipe()
-        os.close(reader)
-        with open(writer, "wb") as output:
-            self.assertEqual(self.ended(output), (1, ""))
-
-    def test_a_disk_that_is_full(self):
-        with open("/dev/full", "wb") as output:
-            self.assertEqual(self.ended(output), (1, "job: [Errno 28] No space left on device\n"))
-
-    def test_a_package_that_is_not_there(self):
-        with mock.patch.dict(sys.modules, {"cryptography": None}):
-            status, out, errors = said(heavy.main, STREAM, "--column", "1", "--no-header")
-        self.assertEqual((status, out), (1, ""))
-        self.assertRegex(errors, "^heavy.py: not installed here or on a worker: .*`cryptography`.*\n$")
-
-    def test_a_scheduler_that_does_not_answer(self):
-        class Older(Exception):
-            """A stand-in for Python 3.10's exception, which is not an OSError."""
-
-        with mock.patch.object(asyncio, "TimeoutError", Older):
-            status, out, errors = said(lambda words: engine.run("job", mock.Mock(side_effect=Older("no workers")), print, True))
-        self.assertEqual((status, out, errors), (1, "", "job: the scheduler or its workers did not answer in time: no workers\n"))
 
 
 if __name__ == "__main__":

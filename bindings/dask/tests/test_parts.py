@@ -1,5 +1,6 @@
 """Files that are cut into parts, and the items of a part."""
 import bz2
+import collections
 import dataclasses
 import functools
 import gzip
@@ -21,7 +22,7 @@ import sketch_engine as engine
 import sketch_parts
 import zstandard
 from common import write
-from sketch_parts import BadInput, Columns, batches, cut, whole
+from sketch_parts import BadInput, Columns, Field, batches, cut, whole
 
 COMPRESSORS = {".gz": gzip.compress, ".bz2": bz2.compress, ".xz": functools.partial(lzma.compress, preset=0),
                ".zst": zstandard.compress}
@@ -166,6 +167,85 @@ class Parts(InFolder):
         with mock.patch.object(sketch_parts, "LONGEST_LINE", 100), mock.patch.object(sketch_parts, "BLOCK", 100):
             self.assertEqual(self.refused([whole(path)]), ("longer than 100 bytes", 2))
             self.assertEqual(self.refused(cut(whole(path), 400)[1:]), ("longer than 100 bytes", 334))
+
+
+class Fields(InFolder):
+    """The fields of lines are those that regular expressions split."""
+
+    def lines(self, text):
+        """Returns the lines of a string that are not blank, without LF and a CR before it."""
+        return [line for ended in re.findall("[^\n]*\n|[^\n]+", text) if (line := re.sub(r"\r?\n\Z", "", ended))]
+
+    def fields(self, line, delimiter):
+        """Returns the fields of a line, between delimiters or runs of white space."""
+        return re.findall("[^ \t\f\r]+", line) if delimiter is None else re.split(re.escape(delimiter), line)
+
+    def test_random_lines(self):
+        chance, found_any, ended_in_cr = random.Random(4), 0, 0
+        for _ in range(300):
+            delimiter = chance.choice((None, None, ",", "\t", ";", '"', "\r", " "))
+            pieces = ["a", "b", "ä", "🍎", "\u2028", "\x85", "\xa0", "\v", "\0", "\x1c", '"', " ", " ", "\t", "\f", ",", ",",
+                      ";", "\n", "\n", "\r\n", "\r"]
+            text = "".join(chance.choices(pieces, k=chance.randrange(80)))
+            path = write(self.folder, "text", text)
+            for number in (1, 2, 3):
+                rows = [(line, self.fields(line, delimiter)) for line in self.lines(text)]
+                lines = [line for line, fields in rows if len(fields) >= number]
+                wanted = [fields[number - 1] for _, fields in rows if len(fields) >= number]
+                for parts in (1, 4, 100):
+                    cut_parts = engine.cut_files([path], parts, field=number, delimiter=delimiter)
+                    with mock.patch.object(sketch_parts, "BLOCK", chance.choice((1, 10, 1 << 20))):
+                        found = [batch for part in cut_parts for batch in batches(part)]
+                        sketch = sketch_parts.Heavy(1024)
+                        rows_of_sketch = sketch.read(sketch_parts.merge_images(
+                            sketch, [sketch_parts.sketch_part(sketch, part) for part in cut_parts])).rows()
+                        self.assertEqual(sum(map(sketch_parts.count_part, cut_parts)), len(wanted))
+                    self.assertEqual([item for batch in found for item in batch.items], wanted, text)
+                    self.assertEqual([line for batch in found for line in batch.lines], lines, text)
+                    self.assertEqual(sum(batch.missing for batch in found), len(rows) - len(lines))
+                    self.assertEqual({row[0]: row[1:] for row in rows_of_sketch},
+                                     {item: (n, n, n) for item, n in collections.Counter(wanted).items()}, text)
+                found_any += len(wanted)
+                ended_in_cr += sum(item.endswith("\r") for item in wanted)
+        self.assertTrue(found_any > 1000 and ended_in_cr > 50, (found_any, ended_in_cr))
+
+    def test_what_a_field_is(self):
+        text = 'a b\n\n \t \nc\n  d\t\fe \r\n"f g" h\ni\vj k\r\nl,m,,"n,o"\r\nlast one'
+        path = write(self.folder, "text", text)
+        for number, delimiter, wanted in ((1, None, ["a", "c", "d", '"f', "i\vj", 'l,m,,"n,o"', "last"]),
+                                          (2, None, ["b", "e", 'g"', "k", "one"]), (3, None, ["h"]), (4, None, []),
+                                          (2, ",", ["m"]), (3, ",", [""]), (4, ",", ['"n']), (5, ",", ['o"']), (6, ",", []),
+                                          (2**32 - 1, ",", []), (2**32 - 1, None, [])):
+            for parts in (1, 5):
+                found = engine.cut_files([path], parts, field=number, delimiter=delimiter)
+                self.assertEqual([item for item, _ in items_of(found)], wanted)
+        path = write(self.folder, "marked.gz", gzip.compress(b"\xef\xbb\xbfa,b\r"))
+        self.assertEqual(list(items_of(engine.cut_files([path], 2, field=1, delimiter=","))), [("a", 1)])
+        self.assertEqual(list(items_of(engine.cut_files([path], 2, field=2, delimiter=","))), [("b\r", 1)])
+
+    def test_lines_that_are_refused(self):
+        path = write(self.folder, "text", b"a b\n\nc \xe4\n")
+        for number in (1, 2, 3):
+            for part in engine.cut_files([path], 1, field=number):
+                self.assertEqual(self.refused([part]), ("not UTF-8", 5))
+                for work in (sketch_parts.count_part, functools.partial(sketch_parts.sketch_part, sketch_parts.Heavy(64))):
+                    with self.assertRaisesRegex(BadInput, "text, line at byte 5: not UTF-8"):
+                        work(part)
+        path = write(self.folder, "text", b"a\n" + b"x " * 500)
+        with mock.patch.object(sketch_parts, "LONGEST_LINE", 100), mock.patch.object(sketch_parts, "BLOCK", 100):
+            self.assertEqual(self.refused(engine.cut_files([path], 1, field=1)), ("longer than 100 bytes", 2))
+        for more in ({"delimiter": ""}, {"delimiter": "ab"}, {"delimiter": "é"}, {"delimiter": "\udcff"}, {"words": True},
+                     {"column": "a"}, {"weight": "a"}, {"no_header": True}):
+            with self.assertRaises(ValueError):
+                engine.cut_files([path], 1, field=1, **more)
+
+    def test_options(self):
+        for words, field in ((["-f", "2"], Field(1)), (["--field", "1", "-d", ";"], Field(0, b";")),
+                             (["-d", r"\t", "-f", "9"], Field(8, b"\t"))):
+            path = write(self.folder, "text", "a\n")
+            told = heavy.words_of([path, *words])
+            part, = engine.cut_files(told.files, 1, **engine.items_of(told))
+            self.assertEqual((part.field, part.columns, part.words), (field, None, False))
 
 
 class Versions(InFolder):

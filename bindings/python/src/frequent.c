@@ -255,36 +255,6 @@ PyDoc_STRVAR(deserialize_prefix_doc,
 ">>> first['apple'], used\n"
 "(30, 49)\n");
 
-PyDoc_STRVAR(frequent_from_file_doc,
-"from_file($type, path, split='words', max_map_size=4096, sample_size=None, progress=None, key=None)\n--\n\n"
-"Return a sketch of the words of a file in UTF-8, or of its lines with `split='lines'`. They are those of `update_words` and\n"
-"`update_lines`; a byte order mark at the front is skipped.\n\n"
-"The file is read once, in chunks, so it may be a pipe. Raise 'InvalidUtf8' if some bytes are not UTF-8. With tqdm installed a\n"
-"bar shows the progress: by default on a terminal, after two seconds; with True always, and with False never.\n\n"
-">>> import datasketches_rattle as ds, os, tempfile\n"
-">>> with tempfile.TemporaryDirectory() as folder:\n"
-"...     path = os.path.join(folder, 'book.txt')\n"
-"...     with open(path, 'w', encoding='utf-8') as book:\n"
-"...         print('to be or not to be', file=book)\n"
-"...     words = ds.FrequentItemsSketch.from_file(path)\n"
-">>> words.top(2)\n"
-"[('be', 2, 2, 2), ('to', 2, 2, 2)]\n");
-
-/* Calls the function of the package's module with the class. */
-static PyObject *frequent_from_file(PyObject *type, PyObject *args, PyObject *keywords)
-{
-    PyObject *module = PyImport_ImportModule("datasketches_rattle._files");
-    PyObject *function = module != NULL ? attribute(module, "from_file") : NULL;
-    PyObject *first = PyTuple_Pack(1, type);
-    PyObject *all = first != NULL ? PySequence_Concat(first, args) : NULL;
-    PyObject *sketch = function != NULL && all != NULL ? PyObject_Call(function, all, keywords) : NULL;
-    Py_XDECREF(module);
-    Py_XDECREF(function);
-    Py_XDECREF(first);
-    Py_XDECREF(all);
-    return sketch;
-}
-
 static PyGetSetDef frequent_fields[] = {
     {"total_weight", sketch_number, NULL, "The total weight of all items.", (void *)TOTAL_WEIGHT},
     {"maximum_error", sketch_number, NULL, "The difference of an upper bound and its lower bound.", (void *)MAXIMUM_ERROR},

@@ -436,7 +436,9 @@ PyMODINIT_FUNC PyInit__sketches(void)
     if (m == NULL || fields == NULL) goto failed;
     sketch_error = PyErr_NewExceptionWithDoc("datasketches_rattle.SketchError", error_doc, NULL, fields);
     if (sketch_error == NULL || PyModule_AddObjectRef(m, "SketchError", sketch_error) < 0) goto failed;
-    if (!add_classes(m) || !add_keyed_hash(m) || PyModule_AddStringConstant(m, "__version__", ds_version()) < 0) goto failed;
+    if (!add_classes(m) || !add_keyed_hash(m) || !add_file_calls(m) ||
+        PyModule_AddStringConstant(m, "__version__", ds_version()) < 0)
+        goto failed;
     Py_DECREF(fields);
     return m;
 failed:

@@ -207,6 +207,20 @@ extern const char frequent_lines_doc[];
 PyObject *sketch_words(PyObject *self, PyObject *args, PyObject *keywords);
 PyObject *sketch_lines(PyObject *self, PyObject *args, PyObject *keywords);
 
+/* --- files.c --- */
+
+extern const char filter_from_file_doc[];
+extern const char count_from_file_doc[];
+extern const char frequent_from_file_doc[];
+
+/* Return the sketch of the words or the lines of a file. */
+PyObject *filter_from_file(PyObject *type, PyObject *args, PyObject *keywords);
+PyObject *count_from_file(PyObject *type, PyObject *args, PyObject *keywords);
+PyObject *frequent_from_file(PyObject *type, PyObject *args, PyObject *keywords);
+
+/* Adds the functions that the Python module `_files` calls. */
+bool add_file_calls(PyObject *m);
+
 /* --- filter.c, count.c, frequent.c --- */
 
 bool filter_arguments(PyObject *args, PyObject *keywords, bool prefix, Image *image);

@@ -1,11 +1,6 @@
 /* The words and the lines of a string or of a buffer. */
 #include "items.h"
-
-#include <string.h>
-
-/* How many bytes one call of the library takes, and more only up to the end of a word or line. Other Python threads may use the
- * sketch between two calls, and Ctrl-C is checked there. */
-#define PIECE ((size_t)1 << 20)
+#include "texts.h"
 
 /* A method that takes words, or lines if `of_lines`. */
 typedef struct {
@@ -50,11 +45,6 @@ static void text_release(Text *text)
     if (text->view.obj != NULL) PyBuffer_Release(&text->view);
 }
 
-static bool is_space(uint8_t byte)
-{
-    return byte == ' ' || byte == '\t' || byte == '\n' || byte == '\f' || byte == '\r';
-}
-
 /* Returns the end of the piece that begins at `from`: no word or line goes on after it. */
 static size_t piece_end(const Text *text, bool of_lines, size_t from)
 {
@@ -64,7 +54,7 @@ static size_t piece_end(const Text *text, bool of_lines, size_t from)
         const uint8_t *last = memchr(text->bytes + end, '\n', text->length - end);
         return last != NULL ? (size_t)(last - text->bytes) + 1 : text->length;
     }
-    while (end < text->length && !is_space(text->bytes[end])) end++;
+    while (end < text->length && !is_end(text->bytes[end], false)) end++;
     return end;
 }
 
@@ -80,8 +70,7 @@ static int32_t take_piece(Sketch *self, Text *text, bool of_lines, size_t from, 
         memcpy(copy, piece, end - from);
         piece = copy;
     }
-    ds_items items = ds_items_in(of_lines ? DS_ITEMS_LINES : DS_ITEMS_WORDS, piece, end - from);
-    int32_t answer = self->kind == DS_BLOOM ? ds_bloom_insert_all(&self->handle, &items) : ds_update_all(&self->handle, &items);
+    int32_t answer = take_bytes(&self->handle, self->kind, piece, end - from, of_lines);
     text->done += sketch_total(self) - before;
     return answer;
 }
@@ -102,12 +91,13 @@ static void refuse_piece(Sketch *self, Text *text, const Method *method, int32_t
     }
     if (answer == DS_INVALID_UTF8) refuse_utf8(text, from, end);
     else if (answer < 0) refuse(answer);
-    ds_items front = ds_items_in(method->of_lines ? DS_ITEMS_LINES : DS_ITEMS_WORDS, text->bytes, answer < 0 ? from : end);
+    ds_items front = items_in(text->bytes, answer < 0 ? from : end, method->of_lines);
     if (self->kind == DS_BLOOM) ds_num_items(&front, &text->done); /* a filter has no total weight */
     if (text->done > 0) note_taken(text->done);
 }
 
-/* Takes all words or lines. Returns false, with an error set, if a piece is rejected or Ctrl-C ends the call. */
+/* Takes all words or lines. Other Python threads may use the sketch between two pieces, and Ctrl-C is checked there. Returns false,
+ * with an error set, if a piece is rejected or Ctrl-C ends the call. */
 static bool take_text(Sketch *self, Text *text, const Method *method)
 {
     Use use = {.sketch = self, .changes = true};
@@ -139,21 +129,33 @@ static PyObject *used_of(PyObject *given, const Text *text, size_t whole)
     return PyLong_FromSize_t(used);
 }
 
+/* Does the same by several threads. Then an error leaves the sketch as it was. */
+static bool take_at_once(Sketch *self, const Text *text, const Method *method, size_t threads)
+{
+    const Input input = {.bytes = text->bytes, .may_change = text->may_change, .length = text->length};
+    return take_by_threads(self, &input, method->of_lines, threads, NULL);
+}
+
 static PyObject *take(PyObject *object, PyObject *args, PyObject *keywords, const Method *method)
 {
-    static char *names[] = {"", "final", NULL};
+    static char *names[] = {"", "final", "threads", NULL};
     Sketch *self = (Sketch *)object;
-    PyObject *given, *used = NULL;
+    PyObject *given, *given_threads = NULL, *used = NULL;
     int final = 1;
+    size_t threads = 1;
     Text text = {0};
-    if (!PyArg_ParseTupleAndKeywords(args, keywords, "O|$p", names, &given, &final) || !sketch_ready(self)) return NULL;
-    if (self->kind == DS_FREQUENT_ITEMS_U64 || self->kind == DS_FREQUENT_ITEMS_I64)
+    if (!PyArg_ParseTupleAndKeywords(args, keywords, "O|$pO", names, &given, &final, &given_threads) || !sketch_ready(self))
+        return NULL;
+    if (!takes_texts(self))
         return PyErr_Format(PyExc_TypeError, "%s takes a sketch of strings: FrequentItemsSketch(.., item=str)", method->name);
+    if (given_threads != NULL && !threads_of(self, given_threads, &threads)) return NULL;
     if (text_open(given, method, &text)) {
         size_t whole = text.length;
         if (!final) text.length = method->of_lines ? ds_finished_lines(text.bytes, whole) : ds_finished_words(text.bytes, whole);
         used = used_of(given, &text, whole);
-        if (used != NULL && !take_text(self, &text, method)) Py_CLEAR(used);
+        bool at_once = threads > 1 || given_threads == Py_None; /* so that None means the same on a machine with one processor */
+        if (used != NULL && !(at_once ? take_at_once(self, &text, method, threads) : take_text(self, &text, method)))
+            Py_CLEAR(used);
     }
     text_release(&text);
     return used;
@@ -162,7 +164,7 @@ static PyObject *take(PyObject *object, PyObject *args, PyObject *keywords, cons
 /* The docs of a method: what it does with each word or line, and an example. */
 #define TEXT_DOC(method, does, one, many, what_one_is, example) \
     method \
-        "($self, text, /, *, final=True)\n--\n\n" does " each " one \
+        "($self, text, /, *, final=True, threads=1)\n--\n\n" does " each " one \
         " of a str, or of a buffer of UTF-8 bytes, such as bytes or an mmap.\n\n" what_one_is \
         "Return how much of `text` was used: `text[used:]` is\n" \
         "the rest. With `final=False` this is an unfinished last " one \
@@ -170,6 +172,10 @@ static PyObject *take(PyObject *object, PyObject *args, PyObject *keywords, cons
         "there is none.\n\n" \
         "Raise 'InvalidUtf8' if some bytes are not UTF-8, with the offset of the first as `byte`. A buffer is read in pieces of" \
         " about\n1 MiB. " many " before an error may be counted: a note of the error has their number.\n\n" \
+        "`threads` above 1 is the number of threads that take the pieces, each into a sketch of the same sizes, seed and key.\n" \
+        "None is one for each processor that the process may use, as far as their sketches take at most 1 GiB. All are merged\n" \
+        "into this sketch at the end, or none. So an error, also Ctrl-C or an overflow of the total weight, leaves it unchanged\n" \
+        "and has no note.\n\n" \
         ">>> import datasketches_rattle as ds\n" example
 #define WORDS_DOC(method, does, example) \
     TEXT_DOC(method, does, "word", "Words", "A word is a longest run of bytes that are not space, tab, LF, FF or CR. ", example)

@@ -1,0 +1,75 @@
+/* Declarations of text that is split into words or lines: of a string, of a buffer and of a file. */
+#ifndef TEXTS_H
+#define TEXTS_H
+
+#include "sketches.h"
+
+#include <string.h>
+
+/* How many bytes one call of the library takes, and more only up to the end of a word or line. */
+#define PIECE ((size_t)1 << 20)
+
+/* Returns whether a byte ends a word, or a line if `of_lines`. */
+static inline bool is_end(uint8_t byte, bool of_lines)
+{
+    return byte == '\n' || (!of_lines && (byte == ' ' || byte == '\t' || byte == '\f' || byte == '\r'));
+}
+
+/* Returns the offset after the first byte from `from` on that ends a word or line, or `length` if there is none. */
+static inline size_t end_after(const uint8_t *bytes, size_t length, bool of_lines, size_t from)
+{
+    if (of_lines) {
+        const uint8_t *last = memchr(bytes + from, '\n', length - from);
+        return last != NULL ? (size_t)(last - bytes) + 1 : length;
+    }
+    while (from < length && !is_end(bytes[from], false)) from++;
+    return from < length ? from + 1 : length;
+}
+
+/* Returns the words or the lines of bytes as the library takes them. */
+static inline ds_items items_in(const uint8_t *bytes, size_t length, bool of_lines)
+{
+    return ds_items_in(of_lines ? DS_ITEMS_LINES : DS_ITEMS_WORDS, bytes, length);
+}
+
+/* Counts or inserts the words or lines of bytes. */
+static inline int32_t take_bytes(ds_sketch *handle, int32_t kind, const uint8_t *bytes, size_t length, bool of_lines)
+{
+    ds_items items = items_in(bytes, length, of_lines);
+    return kind == DS_BLOOM ? ds_bloom_insert_all(handle, &items) : ds_update_all(handle, &items);
+}
+
+/* Returns whether the sketch takes strings. */
+static inline bool takes_texts(const Sketch *self)
+{
+    return self->kind != DS_FREQUENT_ITEMS_U64 && self->kind != DS_FREQUENT_ITEMS_I64;
+}
+
+/* --- threads.c --- */
+
+/* Where threads read text from. */
+typedef enum {
+    FROM_MEMORY,
+    FROM_FILE,  /* a regular file, which threads read at once */
+    FROM_STREAM /* a file that they read in turns, as a pipe */
+} Origin;
+
+typedef struct {
+    Origin origin;
+    const uint8_t *bytes; /* of memory */
+    bool may_change;      /* of memory: then each piece is copied before the library reads it */
+    int file;             /* of a file or a stream: its descriptor */
+    uint64_t start;       /* of a file: the place of the first byte */
+    uint64_t length;      /* the number of bytes, but of a stream 0 */
+} Input;
+
+/* Reads a number of threads, from 1 to 1024. None is one for each processor that the process may use, as far as sketches like this
+ * one take at most 1 GiB in all. Returns false, with an error set, if the object is none of these. */
+bool threads_of(Sketch *self, PyObject *object, size_t *threads);
+
+/* Counts or inserts all words or lines, by threads that take pieces of about PIECE bytes. Each has a sketch of its own, and all are
+ * merged at the end. Calls `progress`, unless it is NULL, with numbers of bytes that were taken. Returns false, with an error set,
+ * if some bytes are rejected or cannot be read, or if Ctrl-C ends the call. Then the sketch is as before. */
+bool take_by_threads(Sketch *self, const Input *input, bool of_lines, size_t threads, PyObject *progress);
+
+#endif
