@@ -1,7 +1,7 @@
 #!/usr/bin/env bash
 # Builds the packages of the last commit into a folder: release/build.sh OUT [ARCHIVE PROGRAM SKETCHES]. OUT gets
 #
-#     datasketches-VERSION-linux-x86_64.tar.gz    C library and program, for any folder
+#     datasketches-VERSION-linux-x86_64.tar.gz    C library, crate for Rust and program, for any folder
 #     libdatasketches0, libdatasketches-dev, python3-datasketches-rattle, datasketches-tools, datasketches-doc    Debian packages
 #     postgresql-15-sketches-rattle    Debian package, which needs postgresql-server-dev-15 to be built
 #     datasketches_rattle-VERSION-..whl           wheel for the Python of `PYTHON`, by default /usr/bin/python3
@@ -83,6 +83,10 @@ DESTDIR="$work/tree" bash "$source/bindings/c/install.sh" --prefix "/$name" --re
 install -D -m 755 "$work/datasketches_cli" "$tree/bin/datasketches_cli"
 install -D -m 644 "$source/release/datasketches_cli.1" "$tree/share/man/man1/datasketches_cli.1"
 install -m 644 "$source"/{LICENSE,NOTICE,bindings/c/example.c} "$work/LICENSE.hex" "$tree/"
+install -d "$tree/rust"
+install -m 644 "$source"/bindings/rust/{Cargo.toml,build.rs} "$tree/rust/"
+cp -r "$source/bindings/rust/src" "$tree/rust/"
+"$PYTHON" "$source/release/pages.py" page "$source" bindings/rust/README.md "$tree/rust/README.md" ../doc
 "$PYTHON" "$source/release/pages.py" tree "$source" "$tree/doc"
 "$PYTHON" "$source/release/pages.py" page "$source" release/README.md "$tree/README.md" doc
 "$PYTHON" "$source/release/pages.py" page "$source" CHANGELOG.md "$tree/CHANGELOG.md" doc

@@ -29,6 +29,20 @@ MIRROR = os.environ.get("DEBIAN_MIRROR", "http://deb.debian.org/debian")
 TOOLS = "gcc libc6-dev pkgconf cmake make"
 ROWS = "ok\nok\nrows 1 a 5 5 5\n"
 CLUSTER = "/usr/lib/postgresql/15/bin/pg_ctl -D /etc/postgresql/15/main -w"
+RUST_PROGRAM = """mount -t proc proc /proc  # rustc finds its libraries by it
+trap "umount /proc" EXIT
+mkdir -p renamed/src
+mv main.rs renamed/src
+cat >renamed/Cargo.toml <<end
+[package]
+name = "renamed"
+version = "0.1.0"
+edition = "2021"
+[dependencies]
+datasketches = {{ package = "datasketches-rattle", path = "{path}" }}
+end
+cargo run --quiet --offline --manifest-path renamed/Cargo.toml
+"""
 STATIC = "target_link_libraries(example_static datasketches::datasketches_static)"
 
 
@@ -179,6 +193,9 @@ class Tests:
         for target in ["example", "example_static"]:
             self.prints(f"release/README.md: CMake, {target}", of_cmake.format("moved", target), wanted, folder=project,
                         CMAKE_PREFIX_PATH=f"{files}/{folder}")
+        self.run("apt-get install cargo")
+        shutil.copy(f"{TOP}/bindings/rust/tests/published/program.rs", f"{self.root}/release/main.rs")
+        self.prints("the crate of the tarball", RUST_PROGRAM.format(path=f"{files}/{folder}rust"), "the program ran\n")
         self.check("licences of the files", {"LICENSE", "NOTICE"} < set(os.listdir(f"{self.root}{files}/{folder}")))
         self.nothing_left("beside the folder")
 

@@ -1,0 +1,363 @@
+//! The declarations of `datasketches.h`, name for name. That header describes each call, and the rules that
+//! callers keep.
+#![allow(non_camel_case_types)]
+
+use core::ffi::c_void;
+use std::os::raw::c_char;
+
+#[repr(C)]
+pub struct ds_sketch {
+    pub sketch: *mut c_void,
+}
+
+#[derive(Clone, Copy)]
+#[repr(C)]
+pub struct ds_string {
+    pub bytes: *const u8,
+    pub length: usize,
+}
+
+#[derive(Clone, Copy, Default)]
+#[repr(C)]
+pub struct ds_status {
+    pub seed: u64,
+    pub num_bits: u64,
+    pub bits_used: u64,
+    pub total_weight: u64,
+    pub maximum_error: u64,
+    pub num_active_items: u64,
+    pub maximum_map_capacity: u64,
+    pub current_map_capacity: u64,
+    pub max_map_size: u64,
+    pub sample_size: u64,
+    pub num_buckets: u32,
+    pub num_hashes: u16,
+    pub kind: u16,
+}
+
+#[derive(Clone, Copy)]
+#[repr(C)]
+pub struct ds_key {
+    pub k0: u64,
+    pub k1: u64,
+}
+
+#[repr(C)]
+pub struct ds_image_options {
+    pub max_bytes: usize,
+    pub seed: u64,
+    pub key: *const ds_key,
+}
+
+#[derive(Clone, Copy)]
+#[repr(C)]
+pub struct ds_items {
+    pub kind: i32,
+    pub u64s: *const u64,
+    pub num_u64s: usize,
+    pub i64s: *const i64,
+    pub num_i64s: usize,
+    pub bytes: *const u8,
+    pub num_bytes: usize,
+    pub offsets: *const u64,
+    pub num_offsets: usize,
+    pub offsets32: *const u32,
+    pub num_offsets32: usize,
+    pub strings: *const ds_string,
+    pub num_strings: usize,
+    pub fed: *const ds_string,
+    pub num_fed: usize,
+    pub validity: *const u8,
+    pub num_validity: usize,
+    pub first_bit: usize,
+}
+
+pub type ds_frequent_items_bounds = crate::frequencies::ItemBounds;
+
+pub const DS_NO_ROOM: i32 = -3;
+pub const DS_BAD_FRACTION: i32 = -4;
+pub const DS_BAD_ARGUMENT: i32 = -5;
+pub const DS_NO_RANDOM: i32 = -7;
+pub const DS_BAD_NUM_BITS: i32 = -11;
+pub const DS_BAD_NUM_HASHES: i32 = -12;
+pub const DS_BAD_NUM_BUCKETS: i32 = -13;
+pub const DS_TABLE_TOO_LARGE: i32 = -14;
+pub const DS_WEIGHT_OVERFLOW: i32 = -17;
+pub const DS_MAP_SIZE_NOT_POWER_OF_TWO: i32 = -18;
+pub const DS_MAP_SIZE_TOO_SMALL: i32 = -19;
+pub const DS_MAP_SIZE_TOO_LARGE: i32 = -20;
+pub const DS_VALUE_OUT_OF_RANGE: i32 = -29;
+pub const DS_INVALID_UTF8: i32 = -40;
+pub const DS_NO_MEMORY: i32 = -42;
+
+pub const DS_BLOOM: i32 = 1;
+pub const DS_COUNT_MIN_U64: i32 = 2;
+pub const DS_COUNT_MIN_I64: i32 = 3;
+pub const DS_FREQUENT_ITEMS_U64: i32 = 4;
+pub const DS_FREQUENT_ITEMS_I64: i32 = 5;
+pub const DS_FREQUENT_ITEMS_STRING: i32 = 6;
+
+pub const DS_ITEMS_U64: i32 = 0;
+pub const DS_ITEMS_I64: i32 = 1;
+pub const DS_ITEMS_OFFSETS: i32 = 2;
+pub const DS_ITEMS_OFFSETS32: i32 = 3;
+pub const DS_ITEMS_STRINGS: i32 = 4;
+pub const DS_ITEMS_WORDS: i32 = 5;
+pub const DS_ITEMS_LINES: i32 = 6;
+pub const DS_ITEMS_FED: i32 = 7;
+
+extern "C" {
+    pub fn ds_version() -> *const c_char;
+    pub fn ds_result_name(result: i32) -> *const c_char;
+    pub fn ds_result_message(result: i32) -> *const c_char;
+
+    pub fn ds_free(handle: *mut ds_sketch);
+    pub fn ds_clone(handle: *mut ds_sketch, other: *mut ds_sketch) -> i32;
+    pub fn ds_reset(handle: *mut ds_sketch) -> i32;
+    pub fn ds_merge(handle: *mut ds_sketch, other: *mut ds_sketch) -> i32;
+    pub fn ds_merge_all(handle: *mut ds_sketch, others: *mut ds_sketch, count: usize) -> i32;
+    pub fn ds_equal(handle: *mut ds_sketch, other: *mut ds_sketch) -> i32;
+    pub fn ds_memory_bytes(handle: *mut ds_sketch, bytes: *mut usize) -> i32;
+    pub fn ds_get_status(handle: *mut ds_sketch, status: *mut ds_status) -> i32;
+    pub fn ds_serialized_bytes(handle: *mut ds_sketch, bytes: *mut usize) -> i32;
+    pub fn ds_serialize(handle: *mut ds_sketch, out: *mut u8, capacity: usize, written: *mut usize) -> i32;
+    pub fn ds_deserialize_prefix(
+        handle: *mut ds_sketch,
+        kind: i32,
+        image: *const u8,
+        length: usize,
+        options: *const ds_image_options,
+        used: *mut usize,
+    ) -> i32;
+    pub fn ds_freeze(handle: *mut ds_sketch) -> i32;
+    pub fn ds_share(handle: *mut ds_sketch, shared: *mut ds_sketch) -> i32;
+    pub fn ds_thaw(handle: *mut ds_sketch) -> i32;
+    pub fn ds_num_items(items: *const ds_items, count: *mut usize) -> i32;
+
+    pub fn ds_bloom_new(handle: *mut ds_sketch, num_bits: u64, num_hashes: u16, seed: u64) -> i32;
+    pub fn ds_bloom_insert_u64(handle: *mut ds_sketch, item: u64) -> i32;
+    pub fn ds_bloom_insert_string(handle: *mut ds_sketch, item: *const u8, length: usize) -> i32;
+    pub fn ds_bloom_insert_all(handle: *mut ds_sketch, items: *const ds_items) -> i32;
+    pub fn ds_bloom_contains_u64(handle: *mut ds_sketch, item: u64) -> i32;
+    pub fn ds_bloom_contains_string(handle: *mut ds_sketch, item: *const u8, length: usize) -> i32;
+    pub fn ds_bloom_contains_all(
+        handle: *mut ds_sketch,
+        items: *const ds_items,
+        results: *mut bool,
+        num_results: usize,
+    ) -> i32;
+    pub fn ds_bloom_contains_and_insert_u64(handle: *mut ds_sketch, item: u64) -> i32;
+    pub fn ds_bloom_contains_and_insert_string(handle: *mut ds_sketch, item: *const u8, length: usize)
+        -> i32;
+    pub fn ds_bloom_contains_and_insert_all(
+        handle: *mut ds_sketch,
+        items: *const ds_items,
+        results: *mut bool,
+        num_results: usize,
+    ) -> i32;
+    pub fn ds_bloom_intersect(handle: *mut ds_sketch, other: *mut ds_sketch) -> i32;
+    pub fn ds_bloom_difference(handle: *mut ds_sketch, other: *mut ds_sketch) -> i32;
+    pub fn ds_bloom_image_contains_u64(image: *const u8, length: usize, item: u64) -> i32;
+    pub fn ds_bloom_image_contains_string(
+        image: *const u8,
+        length: usize,
+        item: *const u8,
+        item_length: usize,
+    ) -> i32;
+    pub fn ds_bloom_image_contains_all(
+        image: *const u8,
+        length: usize,
+        items: *const ds_items,
+        results: *mut bool,
+        num_results: usize,
+    ) -> i32;
+
+    pub fn ds_update_all(handle: *mut ds_sketch, items: *const ds_items) -> i32;
+    pub fn ds_update_all_weighted(
+        handle: *mut ds_sketch,
+        items: *const ds_items,
+        weights: *const u64,
+        num_weights: usize,
+    ) -> i32;
+
+    pub fn ds_count_min_new(
+        handle: *mut ds_sketch,
+        kind: i32,
+        num_hashes: u8,
+        num_buckets: u32,
+        seed: u64,
+    ) -> i32;
+    pub fn ds_count_min_u64_update_u64(handle: *mut ds_sketch, item: u64, weight: u64) -> i32;
+    pub fn ds_count_min_u64_update_string(
+        handle: *mut ds_sketch,
+        item: *const u8,
+        length: usize,
+        weight: u64,
+    ) -> i32;
+    pub fn ds_count_min_u64_estimate_u64(handle: *mut ds_sketch, item: u64, estimate: *mut u64) -> i32;
+    pub fn ds_count_min_u64_estimate_string(
+        handle: *mut ds_sketch,
+        item: *const u8,
+        length: usize,
+        estimate: *mut u64,
+    ) -> i32;
+    pub fn ds_count_min_u64_estimate_all(
+        handle: *mut ds_sketch,
+        items: *const ds_items,
+        estimates: *mut u64,
+        num_estimates: usize,
+    ) -> i32;
+    pub fn ds_count_min_u64_upper_bound_u64(handle: *mut ds_sketch, item: u64, bound: *mut u64) -> i32;
+    pub fn ds_count_min_u64_upper_bound_string(
+        handle: *mut ds_sketch,
+        item: *const u8,
+        length: usize,
+        bound: *mut u64,
+    ) -> i32;
+    pub fn ds_count_min_u64_halve(handle: *mut ds_sketch) -> i32;
+    pub fn ds_count_min_u64_decay(handle: *mut ds_sketch, numerator: u64, denominator: u64) -> i32;
+    pub fn ds_count_min_u64_image_estimate_u64(
+        image: *const u8,
+        length: usize,
+        seed: u64,
+        item: u64,
+        estimate: *mut u64,
+    ) -> i32;
+    pub fn ds_count_min_u64_image_estimate_string(
+        image: *const u8,
+        length: usize,
+        seed: u64,
+        item: *const u8,
+        item_length: usize,
+        estimate: *mut u64,
+    ) -> i32;
+    pub fn ds_count_min_i64_update_u64(handle: *mut ds_sketch, item: u64, weight: i64) -> i32;
+    pub fn ds_count_min_i64_update_string(
+        handle: *mut ds_sketch,
+        item: *const u8,
+        length: usize,
+        weight: i64,
+    ) -> i32;
+    pub fn ds_count_min_i64_update_all_weighted(
+        handle: *mut ds_sketch,
+        items: *const ds_items,
+        weights: *const i64,
+        num_weights: usize,
+    ) -> i32;
+    pub fn ds_count_min_i64_estimate_u64(handle: *mut ds_sketch, item: u64, estimate: *mut i64) -> i32;
+    pub fn ds_count_min_i64_estimate_string(
+        handle: *mut ds_sketch,
+        item: *const u8,
+        length: usize,
+        estimate: *mut i64,
+    ) -> i32;
+    pub fn ds_count_min_i64_estimate_all(
+        handle: *mut ds_sketch,
+        items: *const ds_items,
+        estimates: *mut i64,
+        num_estimates: usize,
+    ) -> i32;
+    pub fn ds_count_min_i64_upper_bound_u64(handle: *mut ds_sketch, item: u64, bound: *mut i64) -> i32;
+    pub fn ds_count_min_i64_upper_bound_string(
+        handle: *mut ds_sketch,
+        item: *const u8,
+        length: usize,
+        bound: *mut i64,
+    ) -> i32;
+    pub fn ds_count_min_i64_image_estimate_u64(
+        image: *const u8,
+        length: usize,
+        seed: u64,
+        item: u64,
+        estimate: *mut i64,
+    ) -> i32;
+    pub fn ds_count_min_i64_image_estimate_string(
+        image: *const u8,
+        length: usize,
+        seed: u64,
+        item: *const u8,
+        item_length: usize,
+        estimate: *mut i64,
+    ) -> i32;
+
+    pub fn ds_frequent_items_new(
+        handle: *mut ds_sketch,
+        kind: i32,
+        max_map_size: usize,
+        sample_size: usize,
+        key: *const ds_key,
+    ) -> i32;
+    pub fn ds_frequent_items_u64_update(handle: *mut ds_sketch, item: u64, weight: u64) -> i32;
+    pub fn ds_frequent_items_i64_update(handle: *mut ds_sketch, item: i64, weight: u64) -> i32;
+    pub fn ds_frequent_items_string_update(
+        handle: *mut ds_sketch,
+        item: *const u8,
+        length: usize,
+        weight: u64,
+    ) -> i32;
+    pub fn ds_frequent_items_u64_bounds(
+        handle: *mut ds_sketch,
+        item: u64,
+        bounds: *mut ds_frequent_items_bounds,
+    ) -> i32;
+    pub fn ds_frequent_items_i64_bounds(
+        handle: *mut ds_sketch,
+        item: i64,
+        bounds: *mut ds_frequent_items_bounds,
+    ) -> i32;
+    pub fn ds_frequent_items_string_bounds(
+        handle: *mut ds_sketch,
+        item: *const u8,
+        length: usize,
+        bounds: *mut ds_frequent_items_bounds,
+    ) -> i32;
+    pub fn ds_frequent_items_bounds_all(
+        handle: *mut ds_sketch,
+        items: *const ds_items,
+        bounds: *mut ds_frequent_items_bounds,
+        num_bounds: usize,
+    ) -> i32;
+    pub fn ds_frequent_items_set_sample_size(handle: *mut ds_sketch, sample_size: usize) -> i32;
+    pub fn ds_frequent_items_u64_rows(
+        handle: *mut ds_sketch,
+        no_false_negatives: bool,
+        threshold: u64,
+        items: *mut u64,
+        num_items: usize,
+        bounds: *mut ds_frequent_items_bounds,
+        num_bounds: usize,
+        count: *mut usize,
+    ) -> i32;
+    pub fn ds_frequent_items_i64_rows(
+        handle: *mut ds_sketch,
+        no_false_negatives: bool,
+        threshold: u64,
+        items: *mut i64,
+        num_items: usize,
+        bounds: *mut ds_frequent_items_bounds,
+        num_bounds: usize,
+        count: *mut usize,
+    ) -> i32;
+    pub fn ds_frequent_items_string_rows(
+        handle: *mut ds_sketch,
+        no_false_negatives: bool,
+        threshold: u64,
+        bytes: *mut u8,
+        room_for_bytes: usize,
+        offsets: *mut u64,
+        num_offsets: usize,
+        bounds: *mut ds_frequent_items_bounds,
+        num_bounds: usize,
+        count: *mut usize,
+        num_bytes: *mut usize,
+    ) -> i32;
+
+    pub fn ds_finished_words(text: *const u8, length: usize) -> usize;
+    pub fn ds_finished_lines(text: *const u8, length: usize) -> usize;
+    pub fn ds_valid_utf8(text: *const u8, length: usize) -> usize;
+    pub fn ds_keyed_hash(bytes: *const u8, length: usize, k0: u64, k1: u64) -> u64;
+
+    pub fn ds_frequent_items_suggest_max_map_size(parts: usize, max_map_size: *mut usize) -> i32;
+    pub fn ds_bloom_suggest_num_bits(num_items: u64, questions: u64, num_bits: *mut u64) -> i32;
+    pub fn ds_bloom_suggest_num_hashes(num_bits: u64, num_items: u64, num_hashes: *mut u16) -> i32;
+}
