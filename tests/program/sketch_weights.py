@@ -146,13 +146,13 @@ class Tests:
                 sums = sums_of(inputs, fields_of)
                 for size in [64, 4096]:
                     name = f"weights {words} {round} {size}"
-                    self.is_sound(name, self.run("top", *words, "--size", size, "-n", 20, *names), sums, 20)
+                    self.is_sound(name, self.run("top", "--no-note", *words, "--size", size, "-n", 20, *names), sums, 20)
                     least = rng.choice([0, 1000, sums.total() // 50])
-                    ran = self.run("top", *words, "--size", size, "--above", least, *names)
+                    ran = self.run("top", "--no-note", *words, "--size", size, "--above", least, *names)
                     self.is_sound(f"{name} above {least}", ran, sums, LAST, lambda number: number > least)
                     share = rng.choice(["0%", "0.000001%", "1%", "2.5%", "33.333333%", "99.999999%", "100%"])
                     part = fractions.Fraction(share[:-1]) * sums.total() / 100
-                    ran = self.run("top", *words, "--size", size, "--above", share, *names)
+                    ran = self.run("top", "--no-note", *words, "--size", size, "--above", share, *names)
                     self.is_sound(f"{name} above {share}", ran, sums, LAST, lambda number: number > part)
 
     def same_as_repeated(self):

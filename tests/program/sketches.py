@@ -14,6 +14,7 @@ import sys
 import tempfile
 
 from joins import Joins
+from layouts import Layouts
 from states import States
 from weights import Weights
 
@@ -52,6 +53,20 @@ def lines_of(data):
     last = parts.pop()
     lines = [part[:-1] if part.endswith(b"\r") else part for part in parts] + ([last] if last else [])
     return [line.decode("utf-8", "replace").encode() for line in lines]
+
+
+def note_of(inputs):
+    """Returns the note on the lines of the inputs that are not UTF-8, or nothing if all are."""
+    lines = sum(not is_utf8(line) for data in inputs for _, line in raw_lines_of(data))
+    return b"sketches: %d lines are not UTF-8: their bytes are shown as U+FFFD\n" % lines if lines else b""
+
+
+def is_utf8(line):
+    try:
+        line.decode()
+    except UnicodeDecodeError:
+        return False
+    return True
 
 
 def counts_of(inputs, items_of):
@@ -151,7 +166,35 @@ class Tests:
             (["top"], b"a\tb\0\na\tb\0", b"# error 0 of 2\n2\t2\ta\tb\0\n"),
         ]:
             status, out, said, _ = self.run(words, data)
-            self.check(f"{words} of {data}", (status, said) == (0, b"") and out.startswith(wanted), out)
+            self.check(f"{words} of {data}", (status, said) == (0, note_of([data])) and out.startswith(wanted), out)
+
+    def notes(self):
+        """Checks the note on lines that are not UTF-8, and that --no-note omits it alone."""
+        bad = "sketches: %d lines are not UTF-8: their bytes are shown as U+FFFD\n"
+        for words, inputs, lines in [
+            (["top"], [b"a\n"], 0),
+            (["top"], [b"\xef\xbf\xbd\n"], 0),
+            (["top"], [b"\xff\n"], 1),
+            (["top"], [b"\xff\xfe\na\n\xc3"], 2),
+            (["top"], [b"\xc3", b"\xa9\n"], 2),
+            (["top"], [b"\xff\r\n", b"a", b"\xff"], 2),
+            (["top", "--words"], [b"\xff \xff \xff\n"], 1),
+            (["top", "-f", "9"], [b"\xff a\nb\n"], 1),
+            (["top", "-f", "1", "-w", "2"], [b"\xff 1\na 2\n\n\xfe\xfe 3\n"], 2),
+            (["top", "-f", "9", "-w", "2"], [b"\xff\n"], 1),
+            (["top"], [b"\xff\n" * 200000 + b"a\n" * BLOCK + b"\xff\n"], 200001),
+        ]:
+            names = [self.file(f"note{n}", data) for n, data in enumerate(inputs)]
+            ran = self.run([*words, *names])
+            said = (bad % lines).encode() if lines else b""
+            self.check(f"a note on {lines} lines", (ran[0], ran[2]) == (0, said), ran[2])
+            silent = self.run([*words, "--no-note", *names])
+            self.check(f"no note on {lines} lines", silent[:3] == (0, ran[1], b""), silent[2])
+        for words, data, status in [(["top", "--max-line", "3"], b"\xff\nlonger\n", 2), (["top", "-f", "1", "-w", "2"], b"\xff 1\na\n", 2)]:
+            ran = self.run(words, data)
+            self.check("no note after an error", ran[0] == status and b"UTF-8" not in ran[2], ran)
+        ran = self.run(["top", self.file("note0", b"\xff\n"), "none"])
+        self.check("a note after an absent file", ran[0] == 1 and ran[2].endswith((bad % 1).encode()), ran)
 
     def random_bytes(self):
         """Checks each choice of items over random bytes, from files and from standard input."""
@@ -164,9 +207,9 @@ class Tests:
                 rows = rng.choice([0, 1, 10, 100000])
                 size = 1 << 16
                 ran = self.run(["top", *words, "-n", rows, "--size", size, *names], key=None)
-                self.is_exact(name, ran, counts_of(inputs, items_of), rows)
+                self.is_exact(name, ran, counts_of(inputs, items_of), rows, said=note_of(inputs))
                 ran = self.run(["top", "-n", rows, *words, "--size", size, "-"], inputs[0], key=HEX)
-                self.is_exact(f"{name} -", ran, counts_of(inputs[:1], items_of), rows)
+                self.is_exact(f"{name} -", ran, counts_of(inputs[:1], items_of), rows, said=note_of(inputs[:1]))
 
     def cuts(self):
         """Cuts an input at each place: by reads of a few bytes, and by a block that ends there."""
@@ -174,12 +217,12 @@ class Tests:
         for words, items_of in SELECTIONS:
             for step in range(1, len(data) + 1):
                 ran = self.run(["top", *words], data, READ_STEP=step)
-                self.is_exact(f"reads of {step} bytes {words}", ran, counts_of([data], items_of))
+                self.is_exact(f"reads of {step} bytes {words}", ran, counts_of([data], items_of), said=note_of([data]))
         for cut in range(len(data) + 1):
             for lead in [b"x" * (BLOCK - cut - 1) + b"\n", b"y\n" * ((BLOCK - cut) // 2) + b"\n" * ((BLOCK - cut) % 2)]:
                 whole = lead + data
                 ran = self.run(["top"], whole)
-                self.is_exact(f"a block that ends at {cut}", ran, counts_of([whole], lambda line: [line]))
+                self.is_exact(f"a block that ends at {cut}", ran, counts_of([whole], lambda line: [line]), said=note_of([whole]))
 
     def long_lines(self):
         """Checks lines around the limit, with each line end, whole and last."""
@@ -480,6 +523,7 @@ def main():
     with tempfile.TemporaryDirectory() as work:
         tests = Tests(words[0], work)
         tests.worked()
+        tests.notes()
         tests.random_bytes()
         tests.cuts()
         tests.long_lines()
@@ -495,6 +539,7 @@ def main():
         Joins(tests, SELECTIONS, PIECES, raw_lines_of).run()
         Weights(tests, SELECTIONS, PIECES, raw_lines_of).run()
         States(tests, PIECES, raw_lines_of).run()
+        Layouts(tests).run()
     print(f"{before[0] + tests.passed} passed, {before[1] + tests.failed} failed")
     sys.exit(1 if before[1] + tests.failed else 0)
 

@@ -2,10 +2,13 @@
 use Rattle.std.proofs.Common.{◌≡◌, ⊎_elim, ℕ, ◌+◌, ◌^◌, ◌<◌, ◌≤◌, Bool, List, [], ◌∷◌, ◌++◌, length, Option, None, Some, IfSome, append-nil, refl, sym, ◌∙◌, ap, subst, arith, length-append}
 use Rattle.std.proofs.lemmas.List.Concat.{flat_map-append}
 use Rattle.std.specs.List.{AllZip, flat_map}
+use Rattle.std.specs.Str.Lines.{lines}
 use Rattle.sketches.specs.Added.{Sketch, AddsLines, AddsWeighed}
 use Rattle.sketches.specs.Failures.{FailsLines, FailsTop}
 use Rattle.sketches.specs.Inputs.{AreRead, FailsAmong, FailsInputs, FailsTakingInputs, TakesEach, TakesInputs}
 use Rattle.sketches.specs.Reading.{AreFirstLines}
+use Rattle.sketches.specs.Utf8LineLaws.{grows_none, not_utf8_append}
+use Rattle.sketches.specs.Utf8Lines.{GrowsBy, not_utf8_in}
 use Rattle.sketches.specs.Weighed.{total_of, unweighed_of, weighed_of}
 use Rattle.sketches.specs.WeighingLaws.{total_both, weighed_none, weighed_both, weighed_append}
 use Rattle.sketches.specs.declared.counting.ItemCounter.{ItemCounter}
@@ -21,7 +24,9 @@ Counter = ItemCounter × Unit {0}
 
 -- what the counter does with bytes of lines
 abbrev pub Counts : Counter → List ℕ → Counter → Type 0
-Counts old bytes new = AddsLines old.0.weighing old.0.sketch bytes new.0.sketch × (new.0.weighing ≡ old.0.weighing)
+Counts old bytes new =
+    (AddsLines old.0.weighing old.0.sketch bytes new.0.sketch × (new.0.weighing ≡ old.0.weighing))
+    × GrowsBy old.0.not_utf8 (not_utf8_in (lines bytes)) new.0.not_utf8
 
 abbrev pub FailsCounting : Counter → List ℕ → Failure → Type 0
 FailsCounting old bytes failure = FailsLines old.0.weighing old.0.sketch bytes failure
@@ -33,7 +38,7 @@ AddsEach p old read new = AddsWeighed old (flat_map (weighed_of p) read) new × 
 each_counted : (old new : Counter) (read : List (List ℕ)) → TakesEach Counts old read new → AddsEach old.0.weighing old.0.sketch read new.0.sketch × (new.0.weighing ≡ old.0.weighing)
 each_counted old new [] same =
     subst (λ (s : Counter). AddsEach old.0.weighing old.0.sketch [] s.0.sketch × (s.0.weighing ≡ old.0.weighing)) (sym same) ((weighed_none old.0.sketch, refl), refl)
-each_counted old new (bytes ∷ read) (mid, (first, kept), rest) =
+each_counted old new (bytes ∷ read) (mid, ((first, kept), _), rest) =
     let (later, kept') = each_counted mid new read rest in
     let p : Weighing = old.0.weighing in
     let (added, weighed) = subst (λ (q : Weighing). AddsEach q mid.0.sketch read new.0.sketch) kept later in (
@@ -44,14 +49,21 @@ each_counted old new (bytes ∷ read) (mid, (first, kept), rest) =
       kept' ∙ kept,
     )
 
--- the items of what was read of each input were added
-abbrev pub CountsInputs : Weighing → Option (List (List ℕ)) → Bool → (old new : Sketch) → Type 0
-CountsInputs p was complete old new = IfSome was (λ inputs.
-    (read : List (List ℕ)) × AreRead complete inputs read × AddsEach p old read new)
+-- the number of lines that are not UTF-8 grew by those of each list
+each_grown : (old new : Counter) (read : List (List ℕ)) → TakesEach Counts old read new → GrowsBy old.0.not_utf8 (not_utf8_in (flat_map lines read)) new.0.not_utf8
+each_grown old new [] same = subst (λ (s : Counter). GrowsBy old.0.not_utf8 (not_utf8_in []) s.0.not_utf8) (sym same) (grows_none old.0.not_utf8)
+each_grown old new (bytes ∷ read) (mid, (_, first), rest) =
+    let later = each_grown mid new read rest in
+    omega (arith, first, later, not_utf8_append (lines bytes) (flat_map lines read))
 
-pub counted : (was : Option (List (List ℕ))) (complete : Bool) (old new : Counter) → TakesInputs Counts was complete old new → CountsInputs old.0.weighing was complete old.0.sketch new.0.sketch
+-- the items of what was read of each input were added, and its lines that are not UTF-8 were counted
+abbrev pub CountsInputs : Weighing → Option (List (List ℕ)) → Bool → (old new : Sketch) → (before after : ℕ) → Type 0
+CountsInputs p was complete old new before after = IfSome was (λ inputs.
+    (read : List (List ℕ)) × AreRead complete inputs read × AddsEach p old read new × GrowsBy before (not_utf8_in (flat_map lines read)) after)
+
+pub counted : (was : Option (List (List ℕ))) (complete : Bool) (old new : Counter) → TakesInputs Counts was complete old new → CountsInputs old.0.weighing was complete old.0.sketch new.0.sketch old.0.not_utf8 new.0.not_utf8
 counted None complete old new taken = tt
-counted (Some inputs) complete old new (read, are, each) = (read, are, (each_counted old new read each).0)
+counted (Some inputs) complete old new (read, are, each) = (read, are, (each_counted old new read each).0, each_grown old new read each)
 
 -- ---- too many items
 

@@ -17,6 +17,7 @@ pub mod Reported
 pub mod Results
 pub mod Saved
 pub mod TakenBatches
+pub mod Utf8Strings
 pub mod WeighedLines
 pub mod Shares
 pub mod Written

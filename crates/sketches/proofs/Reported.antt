@@ -1,5 +1,5 @@
 -- What a report of a sketch shows of the items that were added to it.
-use Rattle.std.proofs.Common.{◌≡◌, ◌⊎◌, ◌↔◌, inl, inr, ⊎_elim, ℕ, zero, suc, ◌+◌, ◌*◌, ◌<◌, ◌≤◌, ◌||◌, max, min, Bool, true, false, cond, List, [], ◌∷◌, length, map, take, get_or, Option, None, Some, refl, sym, ◌∙◌, ap, subst, arith}
+use Rattle.std.proofs.Common.{◌≡◌, ◌⊎◌, ◌↔◌, inl, inr, ⊎_elim, ℕ, zero, suc, ◌+◌, ◌-◌, ◌*◌, ◌^◌, ◌<◌, ◌≤◌, ◌||◌, max, min, Bool, true, false, cond, List, [], ◌∷◌, length, map, take, get_or, Option, None, Some, refl, sym, ◌∙◌, ap, subst, arith}
 use Rattle.std.proofs.lemmas.Bool.{cases_lt, ltb-true}
 use Rattle.std.proofs.lemmas.List.{get_or-take, get_or_default, length-take}
 use Rattle.std.proofs.lemmas.List.Sums.{sum_by-cons}
@@ -29,9 +29,11 @@ use Rattle.sketches.specs.Inputs.{AreRead}
 use Rattle.sketches.specs.Reports.{Row, Encloses, HasAll, IsListed, Reports, ShowsTop, WritesReport, report_text}
 use Rattle.sketches.specs.Thresholds.{IsAbove}
 use Rattle.sketches.specs.Weighed.{Weighed, total_of, weight_of, weighed_of}
+use Rattle.sketches.specs.declared.layout.Layout.{Layout}
 use Rattle.sketches.specs.declared.merge.MergeOptions.{MergeOptions}
 use Rattle.sketches.specs.declared.threshold.Threshold.{Threshold}
 use Rattle.sketches.specs.declared.top.Options.{Options}
+use Rattle.sketches.specs.declared.top.Summary.{Summary}
 use Rattle.sketches.proofs.Counted.{CountsInputs}
 
 -- ---- the weights of a history
@@ -215,15 +217,16 @@ module _ (items : List (String Global × ℕ)) (m : ℕ) (s : Sketch) (h : Frequ
   }
 
 -- a report on a sketch of items
-pub reported_items : (size : ℕ) (items : Weighed) (header : Bool) (threshold : Threshold) (top : ℕ) (s : Sketch) (text : List ℕ) → HasItems size items s → ShowsTop s header threshold top text → ReportsItems size items header threshold top text
-reported_items size items header threshold top s text has shows =
+pub reported_items : (size : ℕ) (items : Weighed) (layout : Layout) (threshold : Threshold) (top : ℕ) (s : Sketch) (text : List ℕ) → HasItems size items s → ShowsTop s layout threshold top text → ReportsItems size items layout threshold top text
+reported_items size items layout threshold top s text has shows =
     let so : Represents string_eq s has.history = has.stands.encloses in
     let n : ℕ = min top (length shows.rows) in
     let total : s.total ≡ total_of items = so.total ∙ has.total in
     record {
       error = s.error;
+      exactly = shows.exactly;
       rows = take n shows.rows;
-      written = shows.written ∙ ap (λ (t : ℕ). report_text header s.error t (take n shows.rows)) total;
+      written = shows.written ∙ ap (λ (t : ℕ). report_text layout s.error t (take n shows.rows)) total;
       reports =
           subst (λ (t : Weighed). Reports t size threshold top s.error (take n shows.rows)) has.are
           (reports has.strings size s has.history so (λ x. has.weights x ∙ ap (λ (l : Weighed). weight_of l (string_bytes x)) (sym has.are)) (has.total ∙ ap total_of (sym has.are)) has.table has.sample threshold shows.floor
@@ -247,18 +250,18 @@ added_items m start s items new keeps added =
       sample = omega (arith, sample_of zero added.items);
     }
 
-pub reported : (options : Options) (inputs : Option (List (List ℕ))) (complete : Bool) (held holds : Option (List ℕ)) (start s : Sketch) (text : List ℕ)
+pub reported : (options : Options) (inputs : Option (List (List ℕ))) (summary : Summary) (held holds : Option (List ℕ)) (start s : Sketch) (text : List ℕ)
     → StandsFor string_eq start (New options.size (max_sample_size options.size)) → KeepsTailBudget string_eq start (New options.size (max_sample_size options.size))
-    → CountsInputs options.weighing inputs complete start s → ShowsTop s options.header options.threshold options.rows text → Appends held holds text → WritesReport options inputs complete held holds
-reported options None complete held holds start s text new keeps counted shows wrote = tt
-reported options (Some all) complete held holds start s text new keeps (read, are, added) shows wrote =
+    → CountsInputs options.weighing inputs summary.complete start s 0 summary.not_utf8 → summary.not_utf8 ≤ 2 ^ 64 - 1 → ShowsTop s options.layout options.threshold options.rows text → Appends held holds text → WritesReport options inputs summary held holds
+reported options None summary held holds start s text new keeps counted fits shows wrote = tt
+reported options (Some all) summary held holds start s text new keeps (read, are, added, grown) fits shows wrote =
     let items : Weighed = flat_map (weighed_of options.weighing) read in
-    let r = reported_items options.size items options.header options.threshold options.rows s text (added_items options.size start s items new keeps added.0) shows in
-    (read, r.error, r.rows, are, added.1, subst (Appends held holds) r.written wrote, r.reports)
+    let r = reported_items options.size items options.layout options.threshold options.rows s text (added_items options.size start s items new keeps added.0) shows in
+    (read, r.error, r.rows, are, omega (arith, grown, fits), added.1, subst (Appends held holds) r.written wrote, r.reports, r.exactly)
 
 -- a report on a merged sketch
 pub merge_reported : (options : MergeOptions) (was : Option (List (List ℕ))) (s : Sketch) (held holds : Option (List ℕ)) (text : List ℕ)
-    → IfSome was (λ all. Merges options.images.max_bytes all s) → ShowsTop s options.header options.threshold options.rows text → Appends held holds text → IfSome was (λ all. WritesMerge options all held holds)
+    → IfSome was (λ all. Merges options.images.max_bytes all s) → ShowsTop s options.layout options.threshold options.rows text → Appends held holds text → IfSome was (λ all. WritesMerge options all held holds)
 merge_reported options None s held holds text merges shows wrote = tt
 merge_reported options (Some all) s held holds text merges shows wrote = record {
   sketch = s;
@@ -266,7 +269,7 @@ merge_reported options (Some all) s held holds text merges shows wrote = record 
   text = text;
   wrote = wrote;
   shows = shows;
-  items = λ size lists are. reported_items size (all_items lists) options.header options.threshold options.rows s text (merges.items size lists are) shows;
+  items = λ size lists are. reported_items size (all_items lists) options.layout options.threshold options.rows s text (merges.items size lists are) shows;
 }
 
 -- ---- a sketch that is kept
@@ -281,8 +284,8 @@ merge_kept limit (Some all) kept s merges is = same_kept (Merges limit all) kept
 
 pub items_kept : (options : Options) (inputs : Option (List (List ℕ))) (complete : Bool) (kept : Option Sketch) (start s : Sketch)
     → StandsFor string_eq start (New options.size (max_sample_size options.size)) → KeepsTailBudget string_eq start (New options.size (max_sample_size options.size))
-    → CountsInputs options.weighing inputs complete start s → IfSome kept (λ t. t ≡ s) → KeepsItems options inputs complete kept
-items_kept options None complete kept start s new keeps counted is = tt
-items_kept options (Some all) complete kept start s new keeps (read, are, added) is =
+    → (before after : ℕ) → CountsInputs options.weighing inputs complete start s before after → IfSome kept (λ t. t ≡ s) → KeepsItems options inputs complete kept
+items_kept options None complete kept start s new keeps before after counted is = tt
+items_kept options (Some all) complete kept start s new keeps before after (read, are, added, grown) is =
     same_kept (λ t. (read : List (List ℕ)) × AreRead complete all read × HasItems options.size (flat_map (weighed_of options.weighing) read) t) kept s is
     (read, are, added_items options.size start s (flat_map (weighed_of options.weighing) read) new keeps added.0)

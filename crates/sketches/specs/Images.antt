@@ -1,5 +1,5 @@
 -- What the images of sketches of strings stand for, and what is merged from them.
-use Rattle.std.specs.Prelude.{◌≡◌, ℕ, ◌+◌, ◌≤◌, Bool, List, [], ◌∷◌, length, map, sum_by, Option, Some, IfSome, MatchOption, Result, MatchResult}
+use Rattle.std.specs.Prelude.{◌≡◌, ℕ, ◌+◌, ◌≤◌, Bool, true, List, [], ◌∷◌, length, map, sum_by, Option, Some, IfSome, MatchOption, Result, MatchResult}
 use Rattle.std.specs.Global.{Global}
 use Rattle.std.specs.Io.KnownBytes.{Appends}
 use Rattle.std.specs.List.{AllZip, flat_map}
@@ -16,6 +16,7 @@ use Rattle.sketches.specs.Added.{Sketch}
 use Rattle.sketches.specs.Inputs.{AreRead}
 use Rattle.sketches.specs.Reports.{Row, Reports, ShowsTop, report_text}
 use Rattle.sketches.specs.Weighed.{Weighed, total_of, weight_of, weighed_of}
+use Rattle.sketches.specs.declared.layout.Layout.{Layout}
 use Rattle.sketches.specs.declared.merge.MergeOptions.{MergeOptions}
 use Rattle.sketches.specs.declared.threshold.Threshold.{Threshold}
 use Rattle.sketches.specs.declared.top.Options.{Options}
@@ -78,11 +79,12 @@ pub record Merges (limit : ℕ) (images : List (List ℕ)) (s : Sketch) : Type 0
   pub items :
       (size : ℕ) (lists : List Weighed) → AllZip (IsImageOfItems size) images lists → HasItems size (all_items lists) s
 
--- the text is a report on these items
-pub record ReportsItems (size : ℕ) (items : Weighed) (header : Bool) (threshold : Threshold) (count : ℕ) (text : List ℕ) : Type 0 where
+-- the text is a report on these items; if exact numbers are wanted, the error is 0
+pub record ReportsItems (size : ℕ) (items : Weighed) (layout : Layout) (threshold : Threshold) (count : ℕ) (text : List ℕ) : Type 0 where
   pub error : ℕ
+  pub exactly : layout.exact ≡ true → error ≡ 0
   pub rows : List Row
-  pub written : text ≡ report_text header error (total_of items) rows
+  pub written : text ≡ report_text layout error (total_of items) rows
   pub reports : Reports items size threshold count error rows
 
 -- The writer received the text of a report on the merged sketch. If each image is an image of a sketch of items, the report is on
@@ -92,10 +94,10 @@ pub record WritesMerge (options : MergeOptions) (images : List (List ℕ)) (held
   pub merges : Merges options.images.max_bytes images sketch
   pub text : List ℕ
   pub wrote : Appends held holds text
-  pub shows : ShowsTop sketch options.header options.threshold options.rows text
+  pub shows : ShowsTop sketch options.layout options.threshold options.rows text
   pub items :
       (size : ℕ) (lists : List Weighed) → AllZip (IsImageOfItems size) images lists →
-      ReportsItems size (all_items lists) options.header options.threshold options.rows text
+      ReportsItems size (all_items lists) options.layout options.threshold options.rows text
 
 -- The writer received an image of the sketch, as `serialize` writes it. If the sketch has items, the bytes are an image of a sketch
 -- of these items.

@@ -13,6 +13,7 @@ pub mod Items
 pub mod JoinFailures
 pub mod Joined
 pub mod JoinedLaws
+pub mod Json
 pub mod KeyWeightLaws
 pub mod KeyWeights
 pub mod Keys
@@ -24,6 +25,8 @@ pub mod Shown
 pub mod Thresholds
 pub mod Unseen
 pub mod UnseenLaws
+pub mod Utf8LineLaws
+pub mod Utf8Lines
 pub mod WeighFailures
 pub mod Weighed
 pub mod WeighingLaws

@@ -1,10 +1,11 @@
 -- What a report shows of the items that were counted.
-use Rattle.std.specs.Prelude.{◌≡◌, ◌⊎◌, ◌↔◌, ℕ, ◌+◌, ◌*◌, ◌<◌, ◌≤◌, Bool, true, List, [], ◌++◌, length, map, All, AllPairs, Option, IfSome, codes, min, take, if◌then◌else◌}
+use Rattle.std.specs.Prelude.{◌≡◌, ◌⊎◌, ◌↔◌, ℕ, ◌+◌, ◌-◌, ◌*◌, ◌^◌, ◌<◌, ◌≤◌, Bool, true, false, List, [], ◌++◌, length, map, All, AllPairs, Option, IfSome, codes, min, take, if◌then◌else◌}
 use Rattle.std.specs.Fmt.{decimal}
 use Rattle.std.specs.Global.{Global}
 use Rattle.std.specs.Io.KnownBytes.{Appends}
 use Rattle.std.specs.List.{flat_map, list_any, IsDistinct}
 use Rattle.std.specs.Str.{bytes_eq}
+use Rattle.std.specs.Str.Lines.{lines}
 use Rattle.std.specs.String.{string_bytes, string_eq}
 use Rattle.std.specs.declared.string.String.{String}
 use Rattle.sketch_frequencies.specs.RowValue.{RowValue}
@@ -14,31 +15,52 @@ use Rattle.sketch_frequencies.specs.SuggestedSizes.{usual_budget}
 use Rattle.sketch_frequencies.specs.declared.error_type.ErrorType.TheVariants.{NoFalseNegatives}
 use Rattle.sketches.specs.Added.{Sketch}
 use Rattle.sketches.specs.Inputs.{AreRead}
+use Rattle.sketches.specs.Json.{json_escaped}
 use Rattle.sketches.specs.Thresholds.{IsAbove}
+use Rattle.sketches.specs.Utf8Lines.{not_utf8_in}
 use Rattle.sketches.specs.Weighed.{Weighed, total_of, unweighed_of, weight_of, weighed_of}
+use Rattle.sketches.specs.declared.layout.Layout.{Layout}
+use Rattle.sketches.specs.declared.layout.Style.{Style}
+use Rattle.sketches.specs.declared.layout.Style.TheVariants.{Plain, Json}
 use Rattle.sketches.specs.declared.threshold.Threshold.{Threshold}
 use Rattle.sketches.specs.declared.top.Options.{Options}
+use Rattle.sketches.specs.declared.top.Summary.{Summary}
 
 -- a row of a string
 abbrev pub Row : Type 0
 Row = RowValue (String Global)
 
--- the first line, if it is wanted: the error and the weight of all items
-abbrev pub header_line : Bool → ℕ → ℕ → List ℕ
-header_line wanted error total =
-    if wanted then codes "# error " ++ decimal error ++ codes " of " ++ decimal total ++ codes "\n" else []
+-- the line of the error and the weight of all items
+abbrev pub header_in : Style → ℕ → ℕ → List ℕ
+header_in Plain error total = codes "# error " ++ decimal error ++ codes " of " ++ decimal total ++ codes "\n"
+header_in Json error total = codes "{\"error\":" ++ decimal error ++ codes ",\"total\":" ++ decimal total ++ codes "}\n"
+
+-- the first line, if it is wanted
+abbrev pub header_line : Layout → ℕ → ℕ → List ℕ
+header_line layout error total = if layout.header then header_in layout.style error total else []
 
 -- the list has each item of a weight above 0
 abbrev pub HasAll : List (List ℕ) → Weighed → Type 0
 HasAll list items = (item : List ℕ) → 0 < weight_of items item → list_any (bytes_eq item) list ≡ true
 
--- the line of a row: the lower bound, the upper bound and the item
-abbrev pub row_line : Row → List ℕ
-row_line row = decimal row.lower_bound ++ codes "\t" ++ decimal row.upper_bound ++ codes "\t" ++ string_bytes row.item ++ codes "\n"
+-- the numbers of a row before its item: the lower bound and the upper bound, or where the bounds are equal one number
+abbrev pub plain_numbers : (exact : Bool) → Row → List ℕ
+plain_numbers true row = decimal row.lower_bound ++ codes "\t"
+plain_numbers false row = decimal row.lower_bound ++ codes "\t" ++ decimal row.upper_bound ++ codes "\t"
+
+abbrev pub json_numbers : (exact : Bool) → Row → List ℕ
+json_numbers true row = codes "{\"count\":" ++ decimal row.lower_bound ++ codes ",\"item\":\""
+json_numbers false row =
+    codes "{\"lower\":" ++ decimal row.lower_bound ++ codes ",\"upper\":" ++ decimal row.upper_bound ++ codes ",\"item\":\""
+
+-- the line of a row
+abbrev pub row_line : (exact : Bool) → Style → Row → List ℕ
+row_line exact Plain row = plain_numbers exact row ++ string_bytes row.item ++ codes "\n"
+row_line exact Json row = json_numbers exact row ++ json_escaped (string_bytes row.item) ++ codes "\"}\n"
 
 -- the header and the lines of the rows
-abbrev pub report_text : Bool → ℕ → ℕ → List Row → List ℕ
-report_text header error total rows = header_line header error total ++ flat_map row_line rows
+abbrev pub report_text : Layout → ℕ → ℕ → List Row → List ℕ
+report_text layout error total rows = header_line layout error total ++ flat_map (row_line layout.exact layout.style) rows
 
 -- the item has a row
 abbrev pub IsListed : List Row → List ℕ → Type 0
@@ -69,20 +91,24 @@ pub record Reports (items : Weighed) (size : ℕ) (threshold : Threshold) (count
   pub exact : (distinct : List (List ℕ)) → length distinct ≤ capacity size → HasAll distinct items → error ≡ 0
 
 -- the text shows the sketch: its error and its total, and the rows of the first tracked items above the threshold in descending
--- order of estimates. Numbers above `floor` are above the threshold
-pub record ShowsTop (s : Sketch) (header : Bool) (threshold : Threshold) (count : ℕ) (text : List ℕ) : Type 0 where
+-- order of estimates. Numbers above `floor` are above the threshold. If exact numbers are wanted, the error is 0
+pub record ShowsTop (s : Sketch) (layout : Layout) (threshold : Threshold) (count : ℕ) (text : List ℕ) : Type 0 where
+  pub exactly : layout.exact ≡ true → s.error ≡ 0
   pub floor : ℕ
   pub above : (n : ℕ) → IsAbove threshold s.total n ↔ (floor < n)
   pub rows : List Row
-  pub written : text ≡ report_text header s.error s.total (take (min count (length rows)) rows)
+  pub written : text ≡ report_text layout s.error s.total (take (min count (length rows)) rows)
   pub exact : ShowsExactly string_eq NoFalseNegatives floor s rows
   pub descends : Descends rows
   pub misses : MissesNone string_eq floor s rows
 
--- the writer received a report on the items of what was read of the inputs, whose lines all have weights
-abbrev pub WritesReport : Options → Option (List (List ℕ)) → Bool → Option (List ℕ) → Option (List ℕ) → Type 0
-WritesReport options inputs complete held holds = IfSome inputs (λ all.
-    (read : List (List ℕ)) × (error : ℕ) × (rows : List Row) × AreRead complete all read
+-- The writer received a report on the items of what was read of the inputs, whose lines all have weights. If exact numbers are
+-- wanted, the error is 0. The summary has the number of these lines that are not UTF-8.
+abbrev pub WritesReport : Options → Option (List (List ℕ)) → Summary → Option (List ℕ) → Option (List ℕ) → Type 0
+WritesReport options inputs summary held holds = IfSome inputs (λ all.
+    (read : List (List ℕ)) × (error : ℕ) × (rows : List Row) × AreRead summary.complete all read
+    × (summary.not_utf8 ≡ min (not_utf8_in (flat_map lines read)) (2 ^ 64 - 1))
     × (flat_map (unweighed_of options.weighing) read ≡ [])
-    × Appends held holds (report_text options.header error (total_of (flat_map (weighed_of options.weighing) read)) rows)
-    × Reports (flat_map (weighed_of options.weighing) read) options.size options.threshold options.rows error rows)
+    × Appends held holds (report_text options.layout error (total_of (flat_map (weighed_of options.weighing) read)) rows)
+    × Reports (flat_map (weighed_of options.weighing) read) options.size options.threshold options.rows error rows
+    × (options.layout.exact ≡ true → error ≡ 0))

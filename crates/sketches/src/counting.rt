@@ -1,15 +1,18 @@
 //! Counts the items of lines.
 ghost use Rattle.std.specs.Prelude.{◌≡◌, refl, [], ◌∷◌, IfErr, OnOk};
 ghost use Rattle.std.specs.Str.{IsUtf8};
+ghost use Rattle.std.specs.Str.Lines.{lines};
 ghost use Rattle.sketch_base.specs.Split.{words_of};
 ghost use Rattle.sketches.specs.Added.{AddsLines, AddsStrings};
 ghost use Rattle.sketches.specs.Failures.{FailsAdding, FailsLines};
 ghost use Rattle.sketches.specs.Items.{items_of, items_of_line, items_of_raw_line};
+ghost use Rattle.sketches.specs.Utf8Lines.{GrowsBy, not_utf8_in};
 
 use crate::failure::Failure;
 use crate::line_sink::LineSink;
 use crate::raw_lines::next_raw_line;
 use crate::selection::{Selection, part_of};
+use crate::utf8_lines::str_of;
 use crate::weighed_lines::add_weighed_lines;
 use crate::weighing::Weighing;
 use sketch_base::{Lines, Strings, Words, from_utf8};
@@ -23,24 +26,40 @@ pub struct ItemCounter {
     pub weighing: Weighing,
     /// The number of lines of this input that were taken, if weights stand in the lines.
     pub count: u64,
+    /// The number of lines that are not UTF-8, at most `u64::MAX`.
+    pub not_utf8: u64,
+}
+
+impl ItemCounter {
+    /// Returns the number of lines that are not UTF-8, at most `u64::MAX`.
+    pub fn lines_not_utf8(&self) -> u64
+        ensures { result ≡ self.now.not_utf8 }
+    {
+        self.not_utf8
+    }
 }
 
 impl LineSink<()> for ItemCounter {
     ghost use Rattle.sketches.specs.WeighingLaws.{weighed_none, lines_added_both, lines_fail_sooner, lines_fail_later};
+    ghost use Rattle.sketches.specs.Utf8LineLaws.{grows_none, grows_both};
 
-    ghost takes = { λ old bytes new. AddsLines old.0.weighing old.0.sketch bytes new.0.sketch
-        × (new.0.weighing ≡ old.0.weighing) };
+    ghost takes = { λ old bytes new. (AddsLines old.0.weighing old.0.sketch bytes new.0.sketch
+        × (new.0.weighing ≡ old.0.weighing)) × GrowsBy old.0.not_utf8 (not_utf8_in (lines bytes)) new.0.not_utf8 };
 
     ghost fails = { λ old bytes failure. FailsLines old.0.weighing old.0.sketch bytes failure };
 
-    ghost takes_none = { λ s. ((weighed_none s.0.sketch, refl), refl) };
+    ghost takes_none = { λ s. (((weighed_none s.0.sketch, refl), refl), grows_none s.0.not_utf8) };
 
-    ghost takes_both = { λ r s t xs ys whole. lines_added_both r.0.weighing xs ys whole
-        r.0.sketch s.0.sketch t.0.sketch s.0.weighing t.0.weighing };
+    ghost takes_both = { λ r s t xs ys whole first second. (
+      lines_added_both r.0.weighing xs ys whole
+          r.0.sketch s.0.sketch t.0.sketch s.0.weighing t.0.weighing first.0 second.0,
+      grows_both xs ys whole r.0.not_utf8 s.0.not_utf8 t.0.not_utf8 first.1 second.1,
+    ) };
 
     ghost fails_sooner = { λ r xs ys e whole. lines_fail_sooner r.0.weighing xs ys whole r.0.sketch e };
 
-    ghost fails_later = { λ r s xs ys e whole. lines_fail_later r.0.weighing xs ys whole r.0.sketch s.0.sketch s.0.weighing e };
+    ghost fails_later = { λ r s xs ys e whole first. lines_fail_later r.0.weighing xs ys whole
+        r.0.sketch s.0.sketch s.0.weighing e first.0 };
 
     fn begin(&mut self) {
         self.count = 0;
@@ -48,40 +67,55 @@ impl LineSink<()> for ItemCounter {
 
     fn take(&mut self, alloc: Global, _output: &mut (), bytes: &[u8]) -> Result<(), Failure> {
         match self.weighing {
-            Weighing::Once(selection) => add_once(alloc, &mut self.sketch, selection, bytes),
-            Weighing::Field(part) => {
-                add_weighed_lines(alloc, &mut self.sketch, part, bytes, &mut self.count)
-            }
+            Weighing::Once(selection) => add_once(
+                alloc,
+                &mut self.sketch,
+                selection,
+                bytes,
+                &mut self.not_utf8,
+            ),
+            Weighing::Field(part) => add_weighed_lines(
+                alloc,
+                &mut self.sketch,
+                part,
+                bytes,
+                &mut self.count,
+                &mut self.not_utf8,
+            ),
         }
     }
 }
 
-/// Adds 1 to the weight of each item of the lines of bytes.
+/// Adds 1 to the weight of each item of the lines of bytes. Increments `not_utf8` for each line that is not UTF-8.
 fn add_once(
     alloc: Global,
     sketch: &mut FrequentItemsSketch<String>,
     selection: Selection,
     bytes: &[u8],
+    not_utf8: &mut u64,
 ) -> Result<(), Failure>
     ensures added { OnOk result (AddsLines (Weighing.Once selection) sketch.old bytes.now sketch.new) }
     ensures failed { IfErr result (FailsLines (Weighing.Once selection) sketch.old bytes.now) }
+    ensures counted { OnOk result (GrowsBy not_utf8.old (not_utf8_in (lines bytes.now)) not_utf8.new) }
 {
-    add_items(alloc, sketch, selection, bytes)
+    add_items(alloc, sketch, selection, bytes, not_utf8)
 }
 
-/// Adds 1 to the weight of each item of the lines of bytes.
+/// Adds 1 to the weight of each item of the lines of bytes. Increments `not_utf8` for each line that is not UTF-8.
 fn add_items(
     alloc: Global,
     sketch: &mut FrequentItemsSketch<String>,
     selection: Selection,
     bytes: &[u8],
+    not_utf8: &mut u64,
 ) -> Result<(), Failure>
     ensures added { OnOk result (AddsStrings sketch.old (items_of selection bytes.now) sketch.new) }
     ensures failed { IfErr result (FailsAdding sketch.old (items_of selection bytes.now)) }
+    ensures counted { OnOk result (GrowsBy not_utf8.old (not_utf8_in (lines bytes.now)) not_utf8.new) }
 {
     match from_utf8(bytes) {
         Ok(text) => add_text(sketch, selection, text),
-        Err(_) => add_raw_lines(alloc, sketch, selection, bytes),
+        Err(_) => add_raw_lines(alloc, sketch, selection, bytes, not_utf8),
     }
 }
 
@@ -103,39 +137,44 @@ fn add_text(
     }
 }
 
-/// Adds 1 to the weight of each item of the lines of bytes that are not UTF-8.
+/// Adds 1 to the weight of each item of the lines of bytes that are not UTF-8 as a whole. Increments `not_utf8` for each line that is
+/// not.
 fn add_raw_lines(
     alloc: Global,
     sketch: &mut FrequentItemsSketch<String>,
     selection: Selection,
     bytes: &[u8],
+    not_utf8: &mut u64,
 ) -> Result<(), Failure>
     ensures added { OnOk result (AddsStrings sketch.old (items_of selection bytes.now) sketch.new) }
     ensures failed { IfErr result (FailsAdding sketch.old (items_of selection bytes.now)) }
+    ensures counted { OnOk result (GrowsBy not_utf8.old (not_utf8_in (lines bytes.now)) not_utf8.new) }
 {
     let mut rest = bytes;
     'each: loop {
         let Some((line, after)) = next_raw_line(rest) else {
             return Ok(());
         };
-        add_raw_line(alloc, sketch, selection, line)?;
+        add_raw_line(alloc, sketch, selection, line, not_utf8)?;
         rest = after;
     }
 }
 
-/// Adds 1 to the weight of each item of a line of bytes.
+/// Adds 1 to the weight of each item of a line of bytes. Increments `not_utf8` if the line is not UTF-8.
 fn add_raw_line(
     alloc: Global,
     sketch: &mut FrequentItemsSketch<String>,
     selection: Selection,
     line: &[u8],
+    not_utf8: &mut u64,
 ) -> Result<(), Failure>
     ensures added { OnOk result (AddsStrings sketch.old (items_of_raw_line selection line.now) sketch.new) }
     ensures failed { IfErr result (FailsAdding sketch.old (items_of_raw_line selection line.now)) }
+    ensures counted { GrowsBy not_utf8.old (not_utf8_in (line.now ∷ [])) not_utf8.new }
 {
-    match from_utf8(line) {
-        Ok(text) => add_line(sketch, selection, text),
-        Err(_) => {
+    match str_of(line, not_utf8) {
+        Some(text) => add_line(sketch, selection, text),
+        None => {
             let text = String::from_utf8_lossy(alloc, line)?;
             add_line(sketch, selection, text.as_str())
         }

@@ -5,9 +5,9 @@ use crate::image_files::ImageFiles;
 use crate::images::ImageFailure;
 use crate::keys::key_of;
 use crate::merge::{MergeOptions, merge};
-use crate::shared_options::{BAD_THRESHOLD, rows_of, threshold_of};
+use crate::shared_options::{BAD_THRESHOLD, layout_of, rows_of, threshold_of};
 use crate::show::show;
-use crate::{ERROR, end_of_output, fail, fail_at, message_of, number_of};
+use crate::{ERROR, end_of_output, fail, fail_at, fail_inexact, message_of, number_of};
 use clap::ArgMatches;
 use sketch_frequencies::{FrequentItemsImageOptions, TableKey};
 
@@ -27,7 +27,7 @@ pub fn run_merge(rt: &HostRuntime, matches: &ArgMatches<'_>) -> u8 {
         },
         threshold,
         rows: rows_of(matches),
-        header: !matches.get_flag("no-header"),
+        layout: layout_of(matches),
     };
     let names = matches.get_strs("images").unwrap_or(&[]);
     let Some(mut image) = image_file(rt, matches) else {
@@ -41,7 +41,8 @@ pub fn run_merge(rt: &HostRuntime, matches: &ArgMatches<'_>) -> u8 {
         &mut image,
         &mut rt.stdout(),
     ) {
-        Ok(()) => 0,
+        Ok(None) => 0,
+        Ok(Some(error)) => fail_inexact(rt, error),
         Err(failure) => end(rt, failure, images.current()),
     };
     if image.has_failed() { ERROR } else { status }

@@ -36,10 +36,12 @@ mod item_weigher;
 mod join;
 mod join_options;
 mod joined;
+mod json;
 mod key_lines;
 mod key_weights;
 mod keyed_options;
 mod keys;
+mod layout;
 mod line_count;
 mod line_items;
 mod line_sink;
@@ -61,6 +63,7 @@ mod threshold;
 mod top;
 mod uniq;
 mod unseen;
+mod utf8_lines;
 mod weigh;
 mod weigh_commands;
 mod weigh_options;
@@ -75,7 +78,7 @@ use filter_commands::{run_join, run_uniq};
 use image_commands::{image_file, run_merge, run_show};
 use keys::{KeyFault, key_of};
 use options::{BAD_ERROR, command, size_of, weighing_of};
-use shared_options::{BAD_THRESHOLD, rows_of, threshold_of};
+use shared_options::{BAD_THRESHOLD, layout_of, rows_of, threshold_of};
 use std::io::ErrorKind;
 use std::process::ExitCode;
 use std::{env, io};
@@ -149,7 +152,7 @@ fn run_top(rt: &HostRuntime, matches: &ArgMatches<'_>) -> u8 {
         rows: rows_of(matches),
         size,
         max_line: max_line_of(matches),
-        header: !matches.get_flag("no-header"),
+        layout: layout_of(matches),
         key,
     };
     let names = matches
@@ -166,10 +169,27 @@ fn run_top(rt: &HostRuntime, matches: &ArgMatches<'_>) -> u8 {
         &mut image,
         &mut rt.stdout(),
     ) {
-        Ok(complete) => u8::from(!complete || files.has_failed()),
+        Ok(summary) => {
+            if !matches.get_flag("no-note") {
+                note_not_utf8(rt, summary.not_utf8);
+            }
+            match summary.inexact {
+                Some(error) => fail_inexact(rt, error),
+                None => u8::from(!summary.complete || files.has_failed()),
+            }
+        }
         Err(failure) => end(rt, failure, files.current(), BAD_TABLE),
     };
     if image.has_failed() { ERROR } else { status }
+}
+
+/// Prints how many lines are not UTF-8, if any.
+fn note_not_utf8(rt: &HostRuntime, lines: u64) {
+    if lines > 0 {
+        let _ = eprintln!(rt;
+            "sketches: {lines} lines are not UTF-8: their bytes are shown as U+FFFD"
+        );
+    }
 }
 
 /// Returns the maximum number of bytes of a line.
@@ -198,6 +218,14 @@ fn end(rt: &HostRuntime, failure: Failure, file: &str, bad_size: &str) -> u8 {
         Failure::LineTooLong => fail_at(rt, file, "a line is longer than --max-line"),
         Failure::Write(error) => end_of_output(rt, error),
     }
+}
+
+/// Prints that the numbers are not exact. Returns the status.
+fn fail_inexact(rt: &HostRuntime, error: u64) -> u8 {
+    let _ = eprintln!(rt;
+        "sketches: the numbers are not exact: the error is {error}; use a larger --size"
+    );
+    ERROR
 }
 
 /// Prints why the output could not be written, unless its reader closed it. Returns the status.

@@ -1,5 +1,5 @@
 //! Merges of images.
-ghost use Rattle.std.specs.Prelude.{◌≡◌, ◌⊎◌, ◌+◌, IfErr, IfOk, IfSome, OnOk};
+ghost use Rattle.std.specs.Prelude.{◌≡◌, ◌⊎◌, ◌+◌, ◌<◌, true, IfErr, IfNone, IfOk, IfSome, OnOk};
 ghost use Rattle.std.specs.String.{string_eq};
 ghost use Rattle.sketch_frequencies.specs.History.FrequentHistory.{Merge};
 ghost use Rattle.sketch_frequencies.specs.Stands.{ExtendsBoth, ExtendsBothBudgets};
@@ -9,6 +9,7 @@ ghost use Rattle.sketches.specs.ImageFailures.{EndsAdding, EndsMerge, IsWriteFai
 ghost use Rattle.sketches.specs.Images.{Merges, WritesMerge};
 
 use crate::images::{ImageFailure, Images, read_image};
+use crate::layout::Layout;
 use crate::report::report;
 use crate::save::Keeper;
 use crate::threshold::Threshold;
@@ -26,13 +27,14 @@ pub struct MergeOptions {
     pub threshold: Threshold,
     /// The maximum number of rows.
     pub rows: usize,
-    /// Whether the first line shows the error and the weight of all items.
-    pub header: bool,
+    /// How the report is written.
+    pub layout: Layout,
 }
 
 /// Writes a report on the items of all images. The merged sketch is kept before.
 ///
-/// The report is written as a whole after all images are read.
+/// The report is written as a whole after all images are read. If exact numbers are wanted and the error is not 0,
+/// returns the error and writes nothing.
 ///
 /// # Errors
 ///
@@ -43,9 +45,11 @@ pub fn merge<I: Images, K: Keeper, W: Write>(
     images: &mut I,
     keeper: &mut K,
     writer: &mut W,
-) -> Result<(), ImageFailure>
-    ensures written { OnOk result (IfSome (I.images images.old)
-        (λ all. WritesMerge options all (W.contents writer.old) (W.contents writer.new))) }
+) -> Result<Option<u64>, ImageFailure>
+    ensures written { IfOk result (λ inexact. IfNone inexact (IfSome (I.images images.old)
+        (λ all. WritesMerge options all (W.contents writer.old) (W.contents writer.new)))) }
+    ensures inexact { IfOk result (λ inexact. IfSome inexact
+        (λ error. (options.layout.exact ≡ true) × (0 < error) × (writer.new ≡ writer.old))) }
     ensures kept { OnOk result (IfSome (I.images images.old)
         (λ all. IfSome (K.kept keeper.new) (Merges options.images.max_bytes all))) }
     ensures err { IfErr result (λ failure. IfSome (I.images images.old) (λ all. EndsMerge options.images.max_bytes all failure)) }
@@ -53,17 +57,20 @@ pub fn merge<I: Images, K: Keeper, W: Write>(
 {
     let sketch = merge_images(alloc, &options.images, images)?;
     keeper.keep(&sketch);
-    let Ok(text) = report(
+    let Ok(shown) = report(
         alloc,
         &sketch,
-        options.header,
+        options.layout,
         options.threshold,
         options.rows,
     ) else {
         return Err(ImageFailure::Memory);
     };
-    match writer.write_all(text.as_bytes()) {
-        Ok(()) => Ok(()),
+    let Some(text) = shown else {
+        return Ok(Some(sketch.maximum_error()));
+    };
+    match writer.write_all(&text) {
+        Ok(()) => Ok(None),
         Err(error) => Err(ImageFailure::Write(error)),
     }
 }

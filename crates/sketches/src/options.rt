@@ -5,7 +5,7 @@ use crate::image_options::{merge_command, show_command};
 use crate::join_options::join_command;
 use crate::percent::percent_of;
 use crate::selection::{Part, Selection};
-use crate::shared_options::{above, key, no_header, rows, save};
+use crate::shared_options::{above, exact, json, key, no_header, rows, save};
 use crate::table_size::size_for;
 use crate::weigh_options::weigh_command;
 use crate::weighing::{WeighedPart, Weighing};
@@ -66,7 +66,15 @@ fn top_command<'a>(alloc: Global) -> Result<Command<'a>, AllocError> {
     let command = with_max_line(alloc, command)?
         .arg(save(alloc))?
         .arg(key(alloc))?
-        .arg(no_header(alloc))?;
+        .arg(no_header(alloc))?
+        .arg(exact(alloc))?
+        .arg(json(alloc))?
+        .arg(
+            Arg::new(alloc, "no-note")
+                .long("no-note")
+                .action(ArgAction::SetTrue)
+                .help("Omits the note at the end on lines that are not UTF-8"),
+        )?;
     with_files(alloc, command)
 }
 

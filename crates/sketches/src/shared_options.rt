@@ -1,4 +1,5 @@
 //! Options of several commands.
+use crate::layout::{Layout, Style};
 use crate::percent::percent_of;
 use crate::threshold::Threshold;
 use crate::weights::number_of;
@@ -55,6 +56,35 @@ pub fn no_header<'a>(alloc: Global) -> Arg<'a> {
         .long("no-header")
         .action(ArgAction::SetTrue)
         .help("Omits the first line, which has the error and the total weight")
+}
+
+/// Returns the option that chooses JSON.
+pub fn json<'a>(alloc: Global) -> Arg<'a> {
+    Arg::new(alloc, "json")
+        .long("json")
+        .action(ArgAction::SetTrue)
+        .help("Prints each line as a JSON object")
+}
+
+/// Returns the option that wants exact numbers.
+pub fn exact<'a>(alloc: Global) -> Arg<'a> {
+    Arg::new(alloc, "exact")
+        .long("exact")
+        .action(ArgAction::SetTrue)
+        .help("Prints one number for each item, or ends with an error if numbers are not exact")
+}
+
+/// Returns how the options want a report to be written.
+pub fn layout_of(matches: &ArgMatches<'_>) -> Layout {
+    Layout {
+        header: !matches.get_flag("no-header"),
+        exact: matches.get_flag("exact"),
+        style: if matches.get_flag("json") {
+            Style::Json
+        } else {
+            Style::Plain
+        },
+    }
 }
 
 /// Returns the option that fixes the key.

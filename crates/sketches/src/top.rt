@@ -1,5 +1,5 @@
 //! The most frequent items of inputs.
-ghost use Rattle.std.specs.Prelude.{◌≡◌, ◌⊎◌, IfErr, IfOk, IsErrOf, IsSome};
+ghost use Rattle.std.specs.Prelude.{◌≡◌, ◌⊎◌, ◌<◌, true, IfErr, IfNone, IfOk, IfSome, IsErrOf, IsSome};
 ghost use Rattle.sketch_frequencies.specs.Sizes.{size_fault};
 ghost use Rattle.sketches.specs.Failures.{FailsTop, IsOfOutput};
 ghost use Rattle.sketches.specs.Images.{KeepsItems};
@@ -8,6 +8,7 @@ ghost use Rattle.sketches.specs.Reports.{WritesReport};
 use crate::counting::ItemCounter;
 use crate::failure::Failure;
 use crate::inputs::{Inputs, read_inputs};
+use crate::layout::Layout;
 use crate::reading::BLOCK;
 use crate::report::report;
 use crate::save::Keeper;
@@ -30,13 +31,24 @@ pub struct Options {
     pub size: usize,
     /// The maximum number of bytes of a line before its line feed.
     pub max_line: u32,
-    /// Whether the first line shows the error and the weight of all items.
-    pub header: bool,
+    /// How the report is written.
+    pub layout: Layout,
     /// How the table hashes.
     pub key: TableKey,
 }
 
-/// Writes a report on the most frequent items of the inputs' lines. Returns whether no read failed.
+/// What a run read, and how it ended.
+#[derive(Drop)]
+pub struct Summary {
+    /// Whether no read failed.
+    pub complete: bool,
+    /// The number of lines that are not UTF-8, at most `u64::MAX`.
+    pub not_utf8: u64,
+    /// The error, if exact numbers are wanted and it is not 0. No report is written then.
+    pub inexact: Option<u64>,
+}
+
+/// Writes a report on the most frequent items of the inputs' lines. Writes nothing if exact numbers are wanted and the error is not 0.
 ///
 /// The report is written as a whole, after all inputs are read and the sketch is kept.
 ///
@@ -51,10 +63,12 @@ pub fn top<I: Inputs, K: Keeper, W: Write>(
     inputs: &mut I,
     keeper: &mut K,
     writer: &mut W,
-) -> Result<bool, Failure>
-    ensures written { IfOk result (λ complete. WritesReport options (I.inputs inputs.old) complete
-        (W.contents writer.old) (W.contents writer.new)) }
-    ensures kept { IfOk result (λ complete. KeepsItems options (I.inputs inputs.old) complete (K.kept keeper.new)) }
+) -> Result<Summary, Failure>
+    ensures written { IfOk result (λ summary. IfNone summary.inexact (WritesReport options (I.inputs inputs.old) summary
+        (W.contents writer.old) (W.contents writer.new))) }
+    ensures inexact { IfOk result (λ summary. IfSome summary.inexact
+        (λ error. (options.layout.exact ≡ true) × (0 < error) × (writer.new ≡ writer.old))) }
+    ensures kept { IfOk result (λ summary. KeepsItems options (I.inputs inputs.old) summary.complete (K.kept keeper.new)) }
 
     // When each error comes, and what it leaves unchanged.
     ensures failed { IfErr result (FailsTop options (I.inputs inputs.old)) }
@@ -67,20 +81,33 @@ pub fn top<I: Inputs, K: Keeper, W: Write>(
         sketch,
         weighing: options.weighing,
         count: 0,
+        not_utf8: 0,
     };
     let limit = options.max_line as usize + 1;
     let mut buffer = vec![in alloc; 0; limit.min(BLOCK)]?;
     let complete = read_inputs(alloc, &mut counter, &mut (), inputs, &mut buffer, limit)?;
+    let not_utf8 = counter.lines_not_utf8();
     keeper.keep(&counter.sketch);
-    let text = report(
+    let Some(text) = report(
         alloc,
         &counter.sketch,
-        options.header,
+        options.layout,
         options.threshold,
         options.rows,
-    )?;
-    match writer.write_all(text.as_bytes()) {
-        Ok(()) => Ok(complete),
+    )?
+    else {
+        return Ok(Summary {
+            complete,
+            not_utf8,
+            inexact: Some(counter.sketch.maximum_error()),
+        });
+    };
+    match writer.write_all(&text) {
+        Ok(()) => Ok(Summary {
+            complete,
+            not_utf8,
+            inexact: None,
+        }),
         Err(e) => Err(Failure::Write(e)),
     }
 }

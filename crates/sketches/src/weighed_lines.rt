@@ -1,23 +1,26 @@
 //! Adds the items of lines with the weights that stand in the lines.
-ghost use Rattle.std.specs.Prelude.{◌≡◌, IfErr, OnOk};
+ghost use Rattle.std.specs.Prelude.{◌≡◌, [], ◌∷◌, IfErr, OnOk};
+ghost use Rattle.std.specs.Str.Lines.{lines};
 ghost use Rattle.std.specs.Str.Lossy.{utf8_lossy};
 ghost use Rattle.sketches.specs.Added.{AddsLine, AddsLines};
 ghost use Rattle.sketches.specs.Failures.{FailsLine, FailsLines, IsBadWeight};
+ghost use Rattle.sketches.specs.Utf8Lines.{GrowsBy, not_utf8_in};
 
 use crate::failure::{BadWeight, Failure};
 use crate::raw_lines::next_raw_line;
 use crate::raw_parts::raw_part_of;
 use crate::selection::{Part, part_of};
+use crate::utf8_lines::str_of;
 use crate::weighing::{WeighedPart, Weighing};
 use crate::weights::weight_of;
-use sketch_base::from_utf8;
 use sketch_frequencies::FrequentItemsSketch;
 use std::alloc::{AllocError, Global};
 
 /// The maximum number of characters of a bad weight in a message.
 const SHOWN: usize = 40;
 
-/// Adds the item of each line with the weight of the line. Increments `count` for each line.
+/// Adds the item of each line with the weight of the line. Increments `count` for each line, and `not_utf8` for each that is not
+/// UTF-8.
 ///
 /// # Errors
 ///
@@ -30,9 +33,11 @@ pub fn add_weighed_lines(
     part: WeighedPart,
     bytes: &[u8],
     count: &mut u64,
+    not_utf8: &mut u64,
 ) -> Result<(), Failure>
     ensures added { OnOk result (AddsLines (Weighing.Field part) sketch.old bytes.now sketch.new) }
     ensures failed { IfErr result (FailsLines (Weighing.Field part) sketch.old bytes.now) }
+    ensures counted { OnOk result (GrowsBy not_utf8.old (not_utf8_in (lines bytes.now)) not_utf8.new) }
 {
     let mut rest = bytes;
     'each: loop {
@@ -40,12 +45,12 @@ pub fn add_weighed_lines(
             return Ok(());
         };
         *count = count.saturating_add(1);
-        add_raw_line(alloc, sketch, part, line, *count)?;
+        add_raw_line(alloc, sketch, part, line, *count, not_utf8)?;
         rest = after;
     }
 }
 
-/// Adds the item of a line of bytes with the weight of the line.
+/// Adds the item of a line of bytes with the weight of the line. Increments `not_utf8` if the line is not UTF-8.
 #[inline(always)]
 fn add_raw_line(
     alloc: Global,
@@ -53,13 +58,15 @@ fn add_raw_line(
     part: WeighedPart,
     line: &[u8],
     number: u64,
+    not_utf8: &mut u64,
 ) -> Result<(), Failure>
     ensures added { OnOk result (AddsLine (Weighing.Field part) sketch.old line.now sketch.new) }
     ensures failed { IfErr result (FailsLine (Weighing.Field part) sketch.old line.now) }
+    ensures counted { GrowsBy not_utf8.old (not_utf8_in (line.now ∷ [])) not_utf8.new }
 {
-    match from_utf8(line) {
-        Ok(text) => add_line(alloc, sketch, part, line, text, number),
-        Err(_) => {
+    match str_of(line, not_utf8) {
+        Some(text) => add_line(alloc, sketch, part, line, text, number),
+        None => {
             let text = String::from_utf8_lossy(alloc, line)?;
             add_line(alloc, sketch, part, line, text.as_str(), number)
         }

@@ -1,11 +1,10 @@
-use Rattle.std.specs.String.{string_bytes}
 use Rattle.sketches.proofs.Reported.{merge_kept, merge_reported}
 use Rattle.sketches.proofs.merge.merge.Goals as goal
 
 pub returns-in-Ok-write_all-clause-written : goal.returns-in-Ok-write_all-clause-written
 returns-in-Ok-write_all-clause-written g c =
-    merge_reported c.args.options (g.I.Images.images c.args.images.now) c.in_ok-sketch.sketch (g.W.Write.contents c.args.writer.now) (g.W.Write.contents c.write_all.new.self) (string_bytes c.in-Ok.text)
-    c.in_ok-sketch.ensures.merged c.in-Ok.ensures.shown (rw c.as_bytes.ensures.value at c.in-Ok-write_all.ensures.bytes)
+    merge_reported c.args.options (g.I.Images.images c.args.images.now) c.in_ok-sketch.sketch (g.W.Write.contents c.args.writer.now) (g.W.Write.contents c.write_all.new.self) c.in-Some.text.items
+    c.in_ok-sketch.ensures.merged (rw c.in-Some.is at c.in-Ok.ensures.shown) (rw c.deref.ensures.value at c.in-Ok-write_all.ensures.bytes)
 
 pub returns-in-Ok-write_all-clause-kept : goal.returns-in-Ok-write_all-clause-kept
 returns-in-Ok-write_all-clause-kept g c =

@@ -2,10 +2,11 @@ use Rattle.std.proofs.Common.{length}
 use Rattle.std.specs.Str.Lines.{lines}
 use Rattle.sketches.specs.declared.weighing.Weighing.TheVariants.{Field}
 use Rattle.sketches.proofs.WeighedLines.{HasWeighedLines}
+use Rattle.sketches.proofs.Utf8Strings.{HasGrown}
 use Rattle.sketches.proofs.weighed_lines.add_weighed_lines.Given as goal
 
 abbrev pub invariant-each : goal.invariant-each
-invariant-each l = HasWeighedLines (Field l.part) l.fn.sketch (lines l.bytes) (lines l.rest) l.sketch
+invariant-each l = HasWeighedLines (Field l.part) l.fn.sketch (lines l.bytes) (lines l.rest) l.sketch × HasGrown l.fn.not_utf8 (lines l.bytes) (lines l.rest) l.not_utf8
 
 abbrev pub decreases-each : goal.decreases-each
 decreases-each l = length l.rest
