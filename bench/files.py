@@ -12,6 +12,7 @@ turns, RUNS times each, and their last results are checked:
 - `sketches join` must print each line that is a key, in order, and at most twice the share of others that its note states.
 """
 import collections
+import csv
 import datetime
 import itertools
 import os
@@ -27,6 +28,7 @@ OUT = f"{TOP}/bench/out/files"
 PROGRAM, SIZE, RUNS = sys.argv[1], int(sys.argv[2]), int(sys.argv[3])
 DATA = f"{OUT}/{SIZE}"
 LOG, LINES, WORDS, EMPTY = f"{DATA}/log", f"{DATA}/lines", f"{DATA}/words", f"{DATA}/empty"
+PLAIN, QUOTED = f"{DATA}/plain.csv", f"{DATA}/quoted.csv"
 EXACT, MEASURE, RESULT = f"{OUT}/exact", f"{OUT}/measure", f"{OUT}/result"
 PARTS = 8
 DEFAULT = 100  # MB
@@ -82,11 +84,29 @@ def text_lines(rng):
         yield [" ".join(chosen[place:place + 12]) + "\n" for place in range(0, len(chosen), 12)]
 
 
+def plain_rows(rng):
+    """Yields lists of rows of CSV without quotes."""
+    pages = [f"/shop/{n % 97}/article-{n:05}" for n in range(50_000)]
+    yield ["time,host,page,status,bytes\n"]
+    while True:
+        yield [f"2026-11-28T{rng.randrange(24):02}:{rng.randrange(60):02},10.4.{rng.randrange(256)}.{rng.randrange(256)},{page},200,{rng.randrange(90_000)}\n"
+               for page in zipf(rng, pages, 1.0, 20_000)]
+
+
+def quoted_rows(rng):
+    """Yields lists of rows of CSV with quotes around two of the fields."""
+    titles = [f'"Tea, ""green"", no. {n:05}"' if n % 3 == 0 else f'"Tea, black, no. {n:05}"' for n in range(50_000)]
+    yield ["time,host,title,agent,bytes\r\n"]
+    while True:
+        yield [f'2026-11-28T{rng.randrange(24):02}:{rng.randrange(60):02},10.4.{rng.randrange(256)}.{rng.randrange(256)},{title},"Mozilla/5.0 (X11, Linux)",{rng.randrange(90_000)}\r\n'
+               for title in zipf(rng, titles, 1.0, 20_000)]
+
+
 def write_files():
     """Writes the files that are not there."""
     os.makedirs(DATA, exist_ok=True)
     open(EMPTY, "wb").close()
-    for path, lists in ((LOG, log_lines), (LINES, short_lines), (WORDS, text_lines)):
+    for path, lists in ((LOG, log_lines), (LINES, short_lines), (WORDS, text_lines), (PLAIN, plain_rows), (QUOTED, quoted_rows)):
         if os.path.exists(path):
             continue
         written, chunks = 0, lists(random.Random(7))
@@ -231,6 +251,40 @@ def top_job(name, path, what, options):
         Tool("sort, uniq -c, sort", shell(f"{sort} | uniq -c | sort -rn | head -n 10"), exact_check(counts)),
         Tool("datamash, sort", shell(group), exact_check(counts, TAB_ROWS)),
     ], RUNS)
+
+
+BY_CSV = """
+import collections, csv, sys
+counts = collections.Counter()
+with open(sys.argv[1], newline="") as file:
+    rows = csv.reader(file)
+    next(rows)
+    for row in rows:
+        counts[row[2]] += int(row[4]) if len(sys.argv) > 2 else 1
+for item, count in counts.most_common(10):
+    print(count, item)
+"""
+
+
+def csv_job(name, path, weighed):
+    """Returns a job for the ten heaviest items of field 3 of CSV, by number or by the sums of field 5."""
+    counts, number = collections.Counter(), 0
+    with open(path, newline="", encoding="ascii") as file:
+        for number, row in enumerate(itertools.islice(csv.reader(file), 1, None), 1):
+            counts[row[2].encode()] += int(row[4]) if weighed else 1
+    options = ["--csv", "-f", "3"] + (["-w", "5"] if weighed else [])
+    tools = [
+        Tool(" ".join(["sketches top", *options]), [PROGRAM, "top", "-n", "10", *options, path], bounds_check(counts)),
+        Tool("Python's csv, Counter", [sys.executable, "-c", BY_CSV, path] + (["weighed"] if weighed else []), exact_check(counts)),
+    ]
+    if path == PLAIN:
+        add, group = ("n[$3] += $5", "sum 5") if weighed else ("n[$3]++", "count 3")
+        tools += [
+            Tool("mawk -F,, sort", shell("mawk -F , 'NR > 1 { %s } END { for (k in n) printf \"%%.0f %%s\\n\", n[k], k }' %s | sort -rn | head -n 10" % (add, path)), exact_check(counts)),
+            Tool("datamash -t,, sort", shell(f"datamash -t , -s --header-in -g 3 {group} <{path} | sort -t , -k 2,2rn | head -n 10"),
+                 exact_check(counts, rb"(?P<item>.*),(?P<count>\d+)")),
+        ]
+    return Job(f"{name}, {SIZE} MB", "row", number, tools, RUNS)
 
 
 def unseen_job():
@@ -383,6 +437,9 @@ def main():
         lambda: top_job("most frequent lines", LINES, "lines", []),
         lambda: top_job("field 7 of a log", LOG, "7", ["-f", "7"]),
         lambda: top_job("most frequent words", WORDS, "words", ["--words"]),
+        lambda: csv_job("field 3 of CSV", PLAIN, False),
+        lambda: csv_job("field 3 of CSV, quoted", QUOTED, False),
+        lambda: csv_job("field 3 of CSV, quoted, by weights", QUOTED, True),
         unseen_job, joined_job, merge_job, empty_job]
     for maker in makers:
         job = maker()

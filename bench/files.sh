@@ -2,7 +2,7 @@
 # Times the program `sketches` on files beside what people use today: bench/files.sh [PROGRAM].
 #
 # PROGRAM is the one that `rt run` has built in crates/sketches, unless an argument names another. Beyond Debian's base it needs
-# python3, mawk, datamash and rustc, an idle machine, and 700 MB of bench/out for SIZE=100. SIZE is the size of each file in MB,
+# python3, mawk, datamash and rustc, an idle machine, and 900 MB of bench/out for SIZE=100. SIZE is the size of each file in MB,
 # and RUNS the number of runs of each tool. The table goes to standard output. With the default sizes the plot goes to
 # bench/files.svg, and else to bench/out/files/files.svg. The exit status is 1 if a tool's result is wrong.
 set -euo pipefail

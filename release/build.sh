@@ -4,6 +4,7 @@
 #     datasketches-VERSION-linux-x86_64.tar.gz    C library, crate for Rust and program, for any folder
 #     libdatasketches0, libdatasketches-dev, python3-datasketches-rattle, datasketches-tools, datasketches-doc    Debian packages
 #     postgresql-15-sketches-rattle    Debian package, which needs postgresql-server-dev-15 to be built
+#     redis-sketches-rattle    Debian package, which needs REDISMODULE_H or apt's sources to be built
 #     datasketches_rattle-VERSION-..whl           wheel for the Python of `PYTHON`, by default /usr/bin/python3
 #     SHA256SUMS
 #
@@ -60,12 +61,14 @@ bash "$source/bindings/c/build.sh" "$work/c" "$archive"
 bash "$source/bindings/python/build.sh" "$work/python" "$archive"
 make -s -C "$source/bindings/postgresql" PG_CONFIG="$pg_config" ARCHIVE="$work/c/libdatasketches.a" \
     DESTDIR="$work/postgresql" COPT=-g0 install
+bash "$source/bindings/redis/build.sh" "$work/redis" "$work/c/libdatasketches.a"
 install -m 755 "$program" "$work/datasketches_cli"
 install -m 755 "$sketches" "$work/sketches"
 unneeded=(--remove-section=.comment --remove-section=.note)
 strip --strip-debug --enable-deterministic-archives "${unneeded[@]}" "$work/c/libdatasketches.a"
 strip --strip-unneeded "${unneeded[@]}" "$work/c/libdatasketches.so.0" "$work/datasketches_cli" "$work/sketches" \
-    "$work"/python/datasketches_rattle/_sketches*.so "$work/postgresql$("$pg_config" --pkglibdir)/sketches_rattle.so"
+    "$work"/python/datasketches_rattle/_sketches*.so "$work/postgresql$("$pg_config" --pkglibdir)/sketches_rattle.so" \
+    "$work/redis/rattle_sketches.so"
 
 # The man page and the completions of `sketches`.
 mkdir "$work/manual"

@@ -60,6 +60,15 @@ cp -r "$work/postgresql/usr" postgresql/
 find postgresql/usr -type f -exec chmod 644 {} +
 page bindings/postgresql/README.md postgresql/usr/share/doc/postgresql-15-sketches-rattle/README.md
 
+mkdir -p redis/DEBIAN
+# The server loads a module only if its file may be executed, which lintian has to be told.
+install -D -m 755 "$work/redis/rattle_sketches.so" redis/usr/lib/redis/modules/rattle_sketches.so
+install -D -m 644 "$source/bindings/redis/redis.conf" redis/usr/share/doc/redis-sketches-rattle/examples/redis.conf
+mkdir -p redis/usr/share/lintian/overrides
+echo 'redis-sketches-rattle: shared-library-is-executable 0755 [usr/lib/redis/modules/rattle_sketches.so]' \
+    >redis/usr/share/lintian/overrides/redis-sketches-rattle
+page bindings/redis/README.md redis/usr/share/doc/redis-sketches-rattle/README.md
+
 # The pages with all files that they link to. The licence is in the file `copyright`, as in each package.
 pages=doc/usr/share/doc/datasketches-doc
 mkdir -p doc/DEBIAN "$pages"
@@ -113,4 +122,5 @@ pack dev libdatasketches-dev
 pack python python3-datasketches-rattle
 pack tools datasketches-tools
 pack postgresql postgresql-15-sketches-rattle
+pack redis redis-sketches-rattle
 pack doc datasketches-doc

@@ -1,6 +1,6 @@
 """Builds the packages in two folders and compares them byte by byte. Then installs each in a fresh Debian without the toolchain,
-runs the first examples of the pages, and removes it again. It needs root, for `debootstrap` and `chroot`. A server of PostgreSQL
-runs in that Debian on a unix socket alone, and is stopped.
+runs the first examples of the pages, and removes it again. It needs root, for `debootstrap` and `chroot`. Servers of PostgreSQL and
+Redis run in that Debian on unix sockets alone, and are stopped.
 
     python3 release/tests/run.py [--after 'N passed, M failed'] PROGRAM ARCHIVE SKETCHES
 
@@ -19,9 +19,11 @@ import tempfile
 import zipfile
 
 TOP = os.path.dirname(os.path.dirname(os.path.dirname(os.path.abspath(__file__))))
-sys.path[:0] = [f"{TOP}/bindings/postgresql/tests", f"{TOP}/tests/docs"]
+sys.path[:0] = [f"{TOP}/bindings/postgresql/tests", f"{TOP}/bindings/redis/tests", f"{TOP}/tests/docs"]
 
+import blocks  # noqa: E402
 import links  # noqa: E402
+import redis_page  # noqa: E402
 import page  # noqa: E402
 import sketches  # noqa: E402
 
@@ -54,8 +56,8 @@ def read(path):
 def install_blocks(page):
     """Returns the indented blocks of a page's section 'Install'."""
     section = re.search(r"^## Install\n(.*?)(?=^## |\Z)", read(f"{TOP}/{page}"), re.MULTILINE | re.DOTALL)[1]
-    blocks = re.findall(r"(?:^    .*\n)+", section, re.MULTILINE)
-    return [re.sub("^    ", "", block, flags=re.MULTILINE) for block in blocks]
+    found = re.findall(r"(?:^    .*\n)+", section, re.MULTILINE)
+    return [re.sub("^    ", "", block, flags=re.MULTILINE) for block in found]
 
 
 class Tests:
@@ -102,11 +104,11 @@ class Tests:
                            stdout=subprocess.DEVNULL if outs else None)
             outs.append(out)
         names = sorted(os.listdir(outs[0]))
-        self.check("the packages", len(names) == 9 and names == sorted(os.listdir(outs[1])), names)
+        self.check("the packages", len(names) == 10 and names == sorted(os.listdir(outs[1])), names)
         for name in names:
             self.check(f"two builds of {name}", filecmp.cmp(f"{outs[0]}/{name}", f"{outs[1]}/{name}", shallow=False))
         sums = subprocess.run(["sha256sum", "--strict", "-c", "SHA256SUMS"], cwd=outs[0], capture_output=True, text=True)
-        self.check("the checksums", sums.returncode == 0 and sums.stdout.count(": OK\n") == 8, sums)
+        self.check("the checksums", sums.returncode == 0 and sums.stdout.count(": OK\n") == 9, sums)
         packages = glob.glob(f"{outs[0]}/*.deb")
         lint = subprocess.run(["lintian", "--allow-root", "--fail-on", "error,warning", *packages], capture_output=True,
                               text=True)
@@ -119,7 +121,7 @@ class Tests:
         for package in glob.glob(f"{built}/*.deb"):
             subprocess.run(["dpkg-deb", "-x", package, files], check=True)
         objects = [it for it in glob.glob(f"{files}/usr/lib/**/*.so*", recursive=True) if not os.path.islink(it)]
-        self.check("the library, the module and the extension", len(objects) == 3, objects)
+        self.check("the library, the modules and the extension", len(objects) == 4, objects)
         for it in objects:
             needs = subprocess.run(["nm", "-D", "-u", it], check=True, capture_output=True, text=True).stdout
             self.check(f"{os.path.basename(it)} has the stack protector", "__stack_chk_fail" in needs, needs)
@@ -150,15 +152,15 @@ class Tests:
         self.nothing_left(f"after {names[0]}")
 
     def nothing_left(self, name):
-        names = ["*datasketches*", "*sketches[_-]rattle*", "sketches", "sketches.*", "_sketches"]
+        names = ["*datasketches*", "*sketches[_-]rattle*", "*rattle_sketches*", "sketches", "sketches.*", "_sketches"]
         found = " -o ".join(f"-name '{it}'" for it in names)
         left = self.run(f"find / -xdev \\( {found} \\) -not -path '/release*' -not -path '/proc/*'; ldconfig -p | "
                         "grep datasketches || true")
         self.check(f"nothing is left {name}", left == "", left)
 
     def tools(self):
-        blocks = install_blocks("README.md")
-        self.prints("README.md: the program", blocks[0], ROWS)
+        command, wanted = blocks.transcripts(read(f"{TOP}/README.md"))[0]
+        self.prints("README.md: the program", install_blocks("README.md")[0] + command, wanted)
         page = self.run("zcat /usr/share/man/man1/datasketches_cli.1.gz")
         self.check("the example of the manual", page is not None and ROWS in page)
         sketches.check(self)
@@ -183,12 +185,12 @@ class Tests:
         links = "ldd built/example | grep -c libdatasketches.so.0; ldd built/example_static | grep -c datasketches || true"
         self.prints("what CMake links", links, "1\n0\n", folder=project)
         self.removed("libdatasketches-dev", "libdatasketches0")
-        blocks = install_blocks("release/README.md")
+        shell = install_blocks("release/README.md")
         files = "/release/any folder"
         os.mkdir(self.root + files)
         shutil.copy(glob.glob(f"{self.root}/release/*.tar.gz")[0], self.root + files)
-        self.prints("release/README.md: the program", blocks[0], ROWS, folder=files)
-        self.prints("release/README.md: pkg-config", blocks[1], wanted, folder=files)
+        self.prints("release/README.md: the program", shell[0], ROWS, folder=files)
+        self.prints("release/README.md: pkg-config", shell[1], wanted, folder=files)
         folder = self.run("ls -d datasketches-*/", folder=files).strip()
         for target in ["example", "example_static"]:
             self.prints(f"release/README.md: CMake, {target}", of_cmake.format("moved", target), wanted, folder=project,
@@ -201,13 +203,13 @@ class Tests:
 
     def postgresql(self):
         """Debian's server with the extension runs the queries of the page. It listens on a unix socket alone."""
-        blocks = install_blocks("bindings/postgresql/README.md")
+        shell = install_blocks("bindings/postgresql/README.md")
         start = f"su postgres -c \"{CLUSTER} -l /tmp/log -o '-c listen_addresses=' start\""
         self.run("apt-get install postgresql-15")
-        self.check("the extension is installed", self.run(blocks[0]) is not None)
+        self.check("the extension is installed", self.run(shell[0]) is not None)
         self.check("the server starts", self.run(start) is not None)
         try:
-            self.prints("bindings/postgresql/README.md: the extension", blocks[1], "CREATE EXTENSION\n")
+            self.prints("bindings/postgresql/README.md: the extension", shell[1], "CREATE EXTENSION\n")
             for number, (query, wanted) in enumerate(page.examples(), 1):
                 self.write("query.sql", query)
                 got = self.run("su postgres -c 'psql -X -q -v ON_ERROR_STOP=1 -f /release/query.sql'")
@@ -215,6 +217,28 @@ class Tests:
         finally:
             self.run(f"su postgres -c '{CLUSTER} -m immediate stop'")
         self.removed("postgresql-15-sketches-rattle")
+
+    def redis(self):
+        """Debian's server with the module runs the commands of the page. It listens on a unix socket alone."""
+        self.run("apt-get install redis-server")
+        install = install_blocks("bindings/redis/README.md")[0].splitlines()
+        for line in install[:2]:  # the third starts the server of the system, which nothing here has
+            self.check(f"bindings/redis/README.md: {line}", self.run(line) is not None)
+        line = self.run("grep -h ^loadmodule /etc/redis/redis.conf /usr/share/doc/redis-sketches-rattle/examples/redis.conf")
+        self.check("the line for redis.conf", line is not None and len(line.splitlines()) == 2 and len(set(line.splitlines())) == 1, line)
+        start = ("su redis -s /bin/sh -c '/usr/bin/redis-server /etc/redis/redis.conf --port 0 --unixsocket /tmp/redis.socket "
+                 "--save \"\" --dir /tmp --pidfile /tmp/redis.pid --logfile /tmp/redis.log --daemonize yes'; "
+                 "for i in $(seq 100); do redis-cli -s /tmp/redis.socket ping 2>/dev/null && break; sleep 0.1; done")
+        self.prints("the server starts with the module", start, "PONG\n")
+
+        def commands(command):
+            self.write("command", command + "\n")
+            return self.run("redis-cli --no-raw -s /tmp/redis.socket </release/command") or ""
+        wrong = redis_page.run_examples(commands)
+        self.check("bindings/redis/README.md: the commands", not wrong, wrong)
+        self.run("redis-cli -s /tmp/redis.socket shutdown nosave || true")
+        self.run("sed -i '/^loadmodule/d' /etc/redis/redis.conf")
+        self.removed("redis-sketches-rattle")
 
     def write(self, name, text):
         with open(f"{self.root}/release/{name}", "w", encoding="utf-8") as file:
@@ -272,6 +296,7 @@ def main():
             tests.check("there is no toolchain", tests.run("! command -v rt && ! command -v cc && ! command -v python3") == "")
             tests.tools()
             tests.postgresql()
+            tests.redis()
             tests.python()
             tests.libraries()
         print(f"{tests.passed} passed, {tests.failed} failed")

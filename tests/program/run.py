@@ -19,12 +19,14 @@ sys.path[:0] = [os.path.join(TESTS, name) for name in ("docs", "memory")]
 import cluster  # noqa: E402
 import counted  # noqa: E402
 import examples  # noqa: E402
+import faults  # noqa: E402
 import keys  # noqa: E402
 import links  # noqa: E402
 import loads  # noqa: E402
 import manual  # noqa: E402
 import sessions  # noqa: E402
 import streams  # noqa: E402
+import times  # noqa: E402
 import trials  # noqa: E402
 
 NO_MEMORY = b"refused NoMemory"
@@ -621,8 +623,10 @@ def main():
         tests.failing_streams()
         tests.sizes()
         examples.check(tests)
+        faults.check(tests)
         links.check(tests)
         manual.check(tests)
+        times.check(tests)
         print(f"requests refused in turn: {worked} and {many} of the program, {run} of a run of a session")
         print(f"{before[0] + tests.passed} passed, {before[1] + tests.failed} failed")
     sys.exit(1 if before[1] + tests.failed else 0)

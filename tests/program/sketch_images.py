@@ -297,6 +297,17 @@ class Tests:
             self.check("a full device", (ran[0], ran[2]) == (2, b"sketches: output: No space left on device (os error 28)\n"), ran)
         ran = self.run("merge", "kept")
         self.check("the image was saved before", ran == (0, report, b""), ran)
+        os.mkdir(self.path("elsewhere"))
+        self.file("elsewhere/image", b"")
+        os.symlink("elsewhere/image", self.path("link"))
+        ran = self.run("top", "--save", "link", data=b"a\n")
+        self.check("a symbolic link stays", os.readlink(self.path("link")) == "elsewhere/image", ran)
+        self.check("its file is replaced", ran == (0, report, b"") and self.run("merge", "elsewhere/image") == (0, report, b""), ran)
+        self.check("nothing else is there", os.listdir(self.path("elsewhere")) == ["image"])
+        with open(self.path("sent"), "wb") as sent:
+            ran = self.run("top", "-n", 0, "--no-header", "--save", "/dev/stdout", data=b"a\n", stdout=sent)
+        self.check("standard output stays what it was", os.path.islink("/dev/stdout") or not os.path.isfile("/dev/stdout"))
+        self.check("into standard output", (ran[0], ran[2]) == (0, b"") and self.run("merge", "sent") == (0, report, b""), ran)
         os.mkfifo(self.path("fifo"))
         with subprocess.Popen([self.program, "merge", self.path("fifo")], stdout=subprocess.PIPE, env={VARIABLE: "plain"}) as merging:
             ran = self.run("top", "--save", "fifo", data=b"a\n")
@@ -449,18 +460,6 @@ class Tests:
             ran = self.run("show", "image", stdout=full)
             self.check("show to a full device", (ran[0], ran[2]) == (2, b"sketches: output: No space left on device (os error 28)\n"), ran)
 
-    def page(self):
-        """Runs the example of the page of the program."""
-        with open(os.path.join(os.path.dirname(TESTS), "crates", "sketches", "README.md")) as file:
-            blocks = re.findall(r"(?ms)^```console\n(.*?)^```$", file.read())
-        examples = [example for block in blocks for example in re.findall(r"(?m)^\$ (.*)\n((?:[^$\n].*\n)*)", block)]
-        self.check("number of examples", len(examples) >= 6, examples)
-        os.mkdir(self.path("page"))
-        env = {"PATH": f"{os.path.dirname(self.program)}:/usr/bin:/bin"}
-        for command, output in examples:
-            ran = subprocess.run(["sh", "-c", command], capture_output=True, text=True, env=env, cwd=self.path("page"), timeout=60)
-            self.check(f"{command}", (ran.returncode, ran.stdout, ran.stderr) == (0, output, ""), ran)
-
     def statuses(self):
         """Checks images that cannot be read, and wrong use."""
         self.file("one", image_of({b"a": 1}))
@@ -500,7 +499,6 @@ def main():
         tests.saving()
         tests.failures_in_turn()
         tests.shown()
-        tests.page()
         tests.statuses()
     print(f"{before[0] + tests.passed} passed, {before[1] + tests.failed} failed")
     sys.exit(1 if before[1] + tests.failed else 0)

@@ -118,6 +118,7 @@ class Tests:
             (["-f", "1", "-w", "2"], b"a 0\nb 2\n\n a 007 x\r\n", b"# error 0 of 9\n7\t7\ta\n2\t2\tb\n"),
             (["-d", ",", "-f", "1", "-w", "2"], b"a,18446744073709551615\n", b"# error 0 of 18446744073709551615\n%d\t%d\ta\n" % (LAST, LAST)),
             (["-f", "2", "-w", "1"], b"x\n5 a\n1\n2 b", b"# error 0 of 7\n5\t5\ta\n2\t2\tb\n"),
+            (["-d", ",", "-w", "2"], b"a b,3\nb,2\na b,3\n", b"# error 0 of 8\n6\t6\ta b,3\n2\t2\tb,2\n"),
             (["-f", "1", "-w", "2", "--above", "3"], b"a 3\nb 2\na 1\nc 3\n", b"# error 0 of 9\n4\t4\ta\n"),
             (["--above", "50%"], b"a\nb\na\nb\n", b"# error 0 of 4\n"),
             (["--above", "49.999999%", "-n", "1"], b"a\na\nb\nc\n", b"# error 0 of 4\n2\t2\ta\n"),
@@ -213,7 +214,7 @@ class Tests:
         for value in ["", "5", "0%", "0.195312%", "0.1%", "101%", "-1%", "x%"]:
             ran = self.run("top", f"--error={value}", data=b"a\n")
             self.check(f"--error={value}", ran == (2, b"", error), ran)
-        for words in [["-w", "0"], ["-w", "x"], ["-w", "-1"], ["--words", "-w", "1"], ["--error", "1%", "--size", "64"], ["-d", ",", "-w", "1"],
+        for words in [["-w", "0"], ["-w", "x"], ["-w", "-1"], ["--words", "-w", "1"], ["--error", "1%", "--size", "64"], ["-d", ","],
                       ["-d", ",,", "-f", "1", "-w", "2"]]:
             ran = self.run("top", *words, data=b"a 1\n")
             self.check(f"{words}", ran[:2] == (2, b"") and ran[2], ran)

@@ -412,18 +412,6 @@ class Tests:
                     missing = [item for item, count in counts.items() if count > max(error, least) and item not in listed]
                     self.check(f"{name}: none is missing", not missing, missing[:3])
 
-    def pages(self):
-        """Runs the examples of the pages, at the top of the repository."""
-        top = os.path.dirname(TESTS)
-        for page, number in [("README.md", 1), ("crates/sketches/README.md", 2)]:
-            with open(os.path.join(top, page)) as file:
-                examples = re.findall(r"(?m)^    \$ sketches (.*)\n((?:    .*\n)+)", file.read())
-            self.check(f"{page}: number of examples", len(examples) == number, examples)
-            for words, output in examples:
-                wanted = "".join(line[4:] for line in output.splitlines(keepends=True))
-                ran = subprocess.run([self.program, *words.split()], capture_output=True, text=True, cwd=top, timeout=60)
-                self.check(f"{page}: {words}", (ran.returncode, ran.stdout, ran.stderr) == (0, wanted, ""), ran)
-
     def statuses(self):
         """Checks files that cannot be read, wrong use, and devices that fail."""
         names = [self.file("one", b"a\nb"), self.file("two", b"b\nc\n")]
@@ -528,7 +516,6 @@ def main():
         tests.cuts()
         tests.long_lines()
         tests.many_items()
-        tests.pages()
         tests.statuses()
         tests.failures_in_turn()
         tests.uniq_worked()

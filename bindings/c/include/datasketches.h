@@ -484,9 +484,10 @@ int32_t ds_num_items(const ds_items *items, size_t *count);
  * with 1 to 32767 hashes. Returns DS_BAD_NUM_BITS, DS_BAD_NUM_HASHES, or DS_NO_MEMORY. */
 int32_t ds_bloom_new(ds_sketch *handle, uint64_t num_bits, uint16_t num_hashes, uint64_t seed);
 
-/* Inserts an item. */
+/* Inserts an item. Calls that end in `_fed` take the bytes that are hashed, as `ds_items_fed` does. */
 int32_t ds_bloom_insert_u64(ds_sketch *handle, uint64_t item);
 int32_t ds_bloom_insert_string(ds_sketch *handle, const uint8_t *item, size_t length);
+int32_t ds_bloom_insert_fed(ds_sketch *handle, const uint8_t *item, size_t length);
 
 /* Inserts many items, as one after another. */
 int32_t ds_bloom_insert_all(ds_sketch *handle, const ds_items *items);
@@ -494,6 +495,7 @@ int32_t ds_bloom_insert_all(ds_sketch *handle, const ds_items *items);
 /* Returns DS_YES if the filter contains the item, and DS_NO otherwise. */
 int32_t ds_bloom_contains_u64(ds_sketch *handle, uint64_t item);
 int32_t ds_bloom_contains_string(ds_sketch *handle, const uint8_t *item, size_t length);
+int32_t ds_bloom_contains_fed(ds_sketch *handle, const uint8_t *item, size_t length);
 
 /* Writes for each item whether the filter contains it. Returns DS_NO_ROOM unless `num_results` is the number of items. */
 int32_t ds_bloom_contains_all(ds_sketch *handle, const ds_items *items, bool *results, size_t num_results);
@@ -501,6 +503,7 @@ int32_t ds_bloom_contains_all(ds_sketch *handle, const ds_items *items, bool *re
 /* Inserts an item. Returns DS_YES if the filter contained it before, and DS_NO otherwise. */
 int32_t ds_bloom_contains_and_insert_u64(ds_sketch *handle, uint64_t item);
 int32_t ds_bloom_contains_and_insert_string(ds_sketch *handle, const uint8_t *item, size_t length);
+int32_t ds_bloom_contains_and_insert_fed(ds_sketch *handle, const uint8_t *item, size_t length);
 
 /* Inserts many items, as one after another. Writes for each whether the filter contained it before, so also whether an earlier
  * item of the same call put it there. Returns DS_NO_ROOM unless `num_results` is the number of items. */
@@ -560,10 +563,12 @@ int32_t ds_count_min_new(ds_sketch *handle, int32_t kind, uint8_t num_hashes, ui
 /* Adds a weight to the item's. Returns DS_WEIGHT_OVERFLOW if the total would exceed 2^64 - 1. */
 int32_t ds_count_min_u64_update_u64(ds_sketch *handle, uint64_t item, uint64_t weight);
 int32_t ds_count_min_u64_update_string(ds_sketch *handle, const uint8_t *item, size_t length, uint64_t weight);
+int32_t ds_count_min_u64_update_fed(ds_sketch *handle, const uint8_t *item, size_t length, uint64_t weight);
 
 /* Writes the estimate of the item's weight: the minimum of its cells. */
 int32_t ds_count_min_u64_estimate_u64(ds_sketch *handle, uint64_t item, uint64_t *estimate);
 int32_t ds_count_min_u64_estimate_string(ds_sketch *handle, const uint8_t *item, size_t length, uint64_t *estimate);
+int32_t ds_count_min_u64_estimate_fed(ds_sketch *handle, const uint8_t *item, size_t length, uint64_t *estimate);
 
 /* Writes the estimate of each item's weight. Returns DS_NO_ROOM unless `num_estimates` is the number of items. */
 int32_t ds_count_min_u64_estimate_all(ds_sketch *handle, const ds_items *items, uint64_t *estimates, size_t num_estimates);
@@ -571,6 +576,7 @@ int32_t ds_count_min_u64_estimate_all(ds_sketch *handle, const ds_items *items, 
 /* Writes the estimate plus a margin: e times the total over the buckets, rounded down. The sum stops at 2^64 - 1. */
 int32_t ds_count_min_u64_upper_bound_u64(ds_sketch *handle, uint64_t item, uint64_t *bound);
 int32_t ds_count_min_u64_upper_bound_string(ds_sketch *handle, const uint8_t *item, size_t length, uint64_t *bound);
+int32_t ds_count_min_u64_upper_bound_fed(ds_sketch *handle, const uint8_t *item, size_t length, uint64_t *bound);
 
 /* Halves each cell and the total, rounded down. */
 int32_t ds_count_min_u64_halve(ds_sketch *handle);
@@ -588,6 +594,8 @@ int32_t ds_count_min_u64_image_estimate_u64(const uint8_t *image, size_t length,
                                             uint64_t *estimate);
 int32_t ds_count_min_u64_image_estimate_string(const uint8_t *image, size_t length, uint64_t seed, const uint8_t *item,
                                                size_t item_length, uint64_t *estimate);
+int32_t ds_count_min_u64_image_estimate_fed(const uint8_t *image, size_t length, uint64_t seed, const uint8_t *item,
+                                            size_t item_length, uint64_t *estimate);
 
 /* --- Count-Min sketches with weights in int64_t, which may be below 0. --- */
 
@@ -596,16 +604,21 @@ int32_t ds_count_min_u64_image_estimate_string(const uint8_t *image, size_t leng
  * weight if no weight is below 0. If some weight is below 0, it may be less. There is no halving and no decay. */
 int32_t ds_count_min_i64_update_u64(ds_sketch *handle, uint64_t item, int64_t weight);
 int32_t ds_count_min_i64_update_string(ds_sketch *handle, const uint8_t *item, size_t length, int64_t weight);
+int32_t ds_count_min_i64_update_fed(ds_sketch *handle, const uint8_t *item, size_t length, int64_t weight);
 int32_t ds_count_min_i64_update_all_weighted(ds_sketch *handle, const ds_items *items, const int64_t *weights,
                                              size_t num_weights);
 int32_t ds_count_min_i64_estimate_u64(ds_sketch *handle, uint64_t item, int64_t *estimate);
 int32_t ds_count_min_i64_estimate_string(ds_sketch *handle, const uint8_t *item, size_t length, int64_t *estimate);
+int32_t ds_count_min_i64_estimate_fed(ds_sketch *handle, const uint8_t *item, size_t length, int64_t *estimate);
 int32_t ds_count_min_i64_estimate_all(ds_sketch *handle, const ds_items *items, int64_t *estimates, size_t num_estimates);
 int32_t ds_count_min_i64_upper_bound_u64(ds_sketch *handle, uint64_t item, int64_t *bound);
 int32_t ds_count_min_i64_upper_bound_string(ds_sketch *handle, const uint8_t *item, size_t length, int64_t *bound);
+int32_t ds_count_min_i64_upper_bound_fed(ds_sketch *handle, const uint8_t *item, size_t length, int64_t *bound);
 int32_t ds_count_min_i64_image_estimate_u64(const uint8_t *image, size_t length, uint64_t seed, uint64_t item, int64_t *estimate);
 int32_t ds_count_min_i64_image_estimate_string(const uint8_t *image, size_t length, uint64_t seed, const uint8_t *item,
                                                size_t item_length, int64_t *estimate);
+int32_t ds_count_min_i64_image_estimate_fed(const uint8_t *image, size_t length, uint64_t seed, const uint8_t *item,
+                                            size_t item_length, int64_t *estimate);
 
 /* --- Items in int64_t. Of filters and Count-Min sketches, a number in int64_t is the same item as the one of the same bits in
  * uint64_t. So these functions of the header make the calls for uint64_t. --- */

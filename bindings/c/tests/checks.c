@@ -387,8 +387,11 @@ static void weights(void){MANY(ds_update_all) MANY_WITH(ds_update_all_weighted, 
     { \
         weight found = 7; \
         BYTES_AND(ds_count_min_##kind##_update_string, 1) \
+        BYTES_AND(ds_count_min_##kind##_update_fed, 1) \
         BYTES_AND(ds_count_min_##kind##_estimate_string, &found) \
+        BYTES_AND(ds_count_min_##kind##_estimate_fed, &found) \
         BYTES_AND(ds_count_min_##kind##_upper_bound_string, &found) \
+        BYTES_AND(ds_count_min_##kind##_upper_bound_fed, &found) \
         MANY_WITH(ds_count_min_##kind##_estimate_all, weight) \
         CHECK(found == 7); \
     }

@@ -62,6 +62,72 @@ static void filters(int form)
     }
 }
 
+/* So are filters that got them one by one, and each answer is that of the plain item. */
+static void single(int form)
+{
+    ds_sketch one = DS_NONE, other = DS_NONE, counts = DS_NONE, signs = DS_NONE, plain_counts = DS_NONE, plain_signs = DS_NONE;
+    const ds_items as_plain = plain(form);
+    const uint64_t weights[ITEMS] = {3, 1, 4, 1, 5};
+    const int64_t differences[ITEMS] = {3, -1, 4, -1, 5};
+    uint64_t estimates[ITEMS], estimate = 0, bound = 0, plain_bound = 0;
+    int64_t signed_estimates[ITEMS], signed_estimate = 0, signed_bound = 0;
+    uint8_t image[1 << 15];
+    size_t written = 0;
+    CHECK(ds_bloom_new(&one, 4096, 5, 9001) == DS_OK && ds_bloom_new(&other, 4096, 5, 9001) == DS_OK);
+    CHECK(ds_bloom_insert_all(&other, &as_plain) == DS_OK);
+    for (size_t i = 0; i < ITEMS; i++) {
+        const uint8_t *item = fed[form][i].bytes;
+        const size_t length = fed[form][i].length;
+        CHECK(ds_bloom_contains_fed(&one, item, length) == DS_NO);
+        if (i % 2) CHECK(ds_bloom_insert_fed(&one, item, length) == DS_OK);
+        else CHECK(ds_bloom_contains_and_insert_fed(&one, item, length) == DS_NO);
+        CHECK(ds_bloom_contains_fed(&one, item, length) == DS_YES);
+        CHECK(ds_bloom_contains_and_insert_fed(&one, item, length) == DS_YES);
+    }
+    CHECK(ds_equal(&one, &other) == DS_YES);
+    CHECK(ds_count_min_new(&counts, DS_COUNT_MIN_U64, 4, 512, 9001) == DS_OK);
+    CHECK(ds_count_min_new(&signs, DS_COUNT_MIN_I64, 4, 512, 9001) == DS_OK);
+    CHECK(ds_count_min_new(&plain_counts, DS_COUNT_MIN_U64, 4, 512, 9001) == DS_OK);
+    CHECK(ds_count_min_new(&plain_signs, DS_COUNT_MIN_I64, 4, 512, 9001) == DS_OK);
+    CHECK(ds_update_all_weighted(&plain_counts, &as_plain, weights, ITEMS) == DS_OK);
+    CHECK(ds_count_min_i64_update_all_weighted(&plain_signs, &as_plain, differences, ITEMS) == DS_OK);
+    for (size_t i = 0; i < ITEMS; i++) {
+        CHECK(ds_count_min_u64_update_fed(&counts, fed[form][i].bytes, fed[form][i].length, weights[i]) == DS_OK);
+        CHECK(ds_count_min_i64_update_fed(&signs, fed[form][i].bytes, fed[form][i].length, differences[i]) == DS_OK);
+    }
+    CHECK(ds_equal(&counts, &plain_counts) == DS_YES && ds_equal(&signs, &plain_signs) == DS_YES);
+    CHECK(ds_count_min_u64_estimate_all(&plain_counts, &as_plain, estimates, ITEMS) == DS_OK);
+    CHECK(ds_count_min_i64_estimate_all(&plain_signs, &as_plain, signed_estimates, ITEMS) == DS_OK);
+    CHECK(ds_count_min_u64_upper_bound_u64(&counts, 7, &plain_bound) == DS_OK);
+    CHECK(ds_count_min_u64_estimate_u64(&counts, 7, &estimate) == DS_OK);
+    plain_bound -= estimate; /* the margin */
+    for (size_t i = 0; i < ITEMS; i++) {
+        const uint8_t *item = fed[form][i].bytes;
+        const size_t length = fed[form][i].length;
+        CHECK(ds_count_min_u64_estimate_fed(&counts, item, length, &estimate) == DS_OK && estimate == estimates[i]);
+        CHECK(ds_count_min_u64_upper_bound_fed(&counts, item, length, &bound) == DS_OK && bound == estimate + plain_bound);
+        CHECK(ds_count_min_i64_estimate_fed(&signs, item, length, &signed_estimate) == DS_OK);
+        CHECK(signed_estimate == signed_estimates[i]);
+        CHECK(ds_count_min_i64_upper_bound_fed(&signs, item, length, &signed_bound) == DS_OK);
+        CHECK(signed_bound == signed_estimate + (int64_t)plain_bound);
+        CHECK(ds_serialize(&counts, image, sizeof image, &written) == DS_OK);
+        CHECK(ds_count_min_u64_image_estimate_fed(image, written, 9001, item, length, &estimate) == DS_OK);
+        CHECK(estimate == estimates[i]);
+        CHECK(ds_serialize(&signs, image, sizeof image, &written) == DS_OK);
+        CHECK(ds_count_min_i64_image_estimate_fed(image, written, 9001, item, length, &signed_estimate) == DS_OK);
+        CHECK(signed_estimate == signed_estimates[i]);
+        CHECK(ds_bloom_insert_fed(&counts, item, length) == DS_WRONG_KIND);
+        CHECK(ds_count_min_u64_update_fed(&one, item, length, 1) == DS_WRONG_KIND);
+        CHECK(ds_count_min_u64_update_fed(&counts, item, length, UINT64_MAX) == DS_WEIGHT_OVERFLOW);
+    }
+    ds_free(&one);
+    ds_free(&other);
+    ds_free(&counts);
+    ds_free(&signs);
+    ds_free(&plain_counts);
+    ds_free(&plain_signs);
+}
+
 /* So are counts, with weights and without. */
 static void counts(int form)
 {
@@ -113,6 +179,7 @@ int main(void)
     make_items();
     for (int form = 0; form < 2; form++) {
         filters(form);
+        single(form);
         counts(form);
     }
     others();

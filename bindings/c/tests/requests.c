@@ -467,14 +467,15 @@ static void frequent_strings(void)
 }
 
 /* Combining many sketches allocates two lists: of the sketches, and of their addresses. A merge of frequent items also copies the
- * slots and the fingerprints of the sketch that it changes, once. */
+ * slots and the fingerprints of the sketch that it changes, once, if its table may grow. */
 static void many(void)
 {
-    ds_sketch filter = DS_NONE, count = DS_NONE, frequent = DS_NONE, none[1] = {DS_NONE};
+    ds_sketch filter = DS_NONE, count = DS_NONE, frequent = DS_NONE, growing = DS_NONE, none[1] = {DS_NONE};
     ds_sketch filters[3] = {DS_NONE}, counts[3] = {DS_NONE}, others[3] = {DS_NONE};
     DO(ds_bloom_new(&filter, 256, 3, 9001));
     DO(ds_count_min_new(&count, DS_COUNT_MIN_I64, 3, 64, 9001));
     DO(ds_frequent_items_new(&frequent, DS_FREQUENT_ITEMS_U64, 8, 6, NULL));
+    DO(ds_frequent_items_new(&growing, DS_FREQUENT_ITEMS_U64, 16, 6, NULL));
     for (int i = 0; i < 3; i++) {
         DO(ds_bloom_new(&filters[i], 256, 3, 9001));
         DO(ds_count_min_new(&counts[i], DS_COUNT_MIN_I64, 3, 64, 9001));
@@ -492,8 +493,10 @@ static void many(void)
     /* nothing is copied if the others are empty */
     ROW(2, 2, DS_OK, ds_merge_all(&frequent, others, 3));
     for (int i = 0; i < 3; i++) DO(ds_frequent_items_u64_update(&others[i], ITEMS[i], 1));
-    ROW(4, 4, DS_OK, ds_merge_all(&frequent, others, 3));
-    ROW(4, 4, DS_OK, ds_merge_all(&frequent, others, 3));
+    /* nor into a table of the maximum size, since clones of numbers need no memory */
+    ROW(2, 2, DS_OK, ds_merge_all(&frequent, others, 3));
+    ROW(4, 4, DS_OK, ds_merge_all(&growing, others, 3));
+    ROW(4, 4, DS_OK, ds_merge_all(&growing, others, 3));
     FREE(DS_WRONG_KIND, ds_merge_all(&frequent, counts, 3));
     DO(ds_frequent_items_u64_update(&others[2], 7, UINT64_MAX - 1));
     ROW(2, 2, DS_WEIGHT_OVERFLOW, ds_merge_all(&frequent, others, 3));
@@ -505,6 +508,7 @@ static void many(void)
     ds_free(&filter);
     ds_free(&count);
     ds_free(&frequent);
+    ds_free(&growing);
 }
 
 /* Rows of which the second is missing. Only the weights of the others are copied. */

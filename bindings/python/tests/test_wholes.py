@@ -133,14 +133,14 @@ class OthersRun(unittest.TestCase):
     def test_frequent_items(self):
         for items, item in ((LARGE, int), (WORDS, str)):
             heavy, few = frequent(items, item=item), frequent(items[:1], item=item)
-            image = bytes(heavy)
+            twin, image = copy.copy(heavy), bytes(heavy)
             shared = bytearray(image)
             self.each(
                 image=lambda heavy=heavy: bytes(heavy), copy=lambda heavy=heavy: copy.copy(heavy),
                 read=lambda image=image, item=item: ds.FrequentItemsSketch.deserialize(image, item=item),
                 read_shared=lambda shared=shared, item=item: ds.FrequentItemsSketch.deserialize(shared, item=item),
-                sum=lambda heavy=heavy, few=few: heavy + few, sum_into=lambda heavy=heavy, few=few: heavy.__iadd__(few),
-                sum_of_all=lambda heavy=heavy, few=few: heavy.merge_all([few]),
+                sum=lambda heavy=heavy, few=few: heavy + few, sum_into=lambda heavy=heavy, twin=twin: heavy.__iadd__(twin),
+                sum_of_all=lambda heavy=heavy, twin=twin: heavy.merge_all([twin]),
                 no_rows=lambda heavy=heavy: heavy.rows(GREATEST), rows=lambda heavy=heavy: heavy.rows())
         self.each(size=lambda: sys.getsizeof(heavy))
 

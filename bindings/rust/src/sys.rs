@@ -137,9 +137,11 @@ extern "C" {
     pub fn ds_bloom_new(handle: *mut ds_sketch, num_bits: u64, num_hashes: u16, seed: u64) -> i32;
     pub fn ds_bloom_insert_u64(handle: *mut ds_sketch, item: u64) -> i32;
     pub fn ds_bloom_insert_string(handle: *mut ds_sketch, item: *const u8, length: usize) -> i32;
+    pub fn ds_bloom_insert_fed(handle: *mut ds_sketch, item: *const u8, length: usize) -> i32;
     pub fn ds_bloom_insert_all(handle: *mut ds_sketch, items: *const ds_items) -> i32;
     pub fn ds_bloom_contains_u64(handle: *mut ds_sketch, item: u64) -> i32;
     pub fn ds_bloom_contains_string(handle: *mut ds_sketch, item: *const u8, length: usize) -> i32;
+    pub fn ds_bloom_contains_fed(handle: *mut ds_sketch, item: *const u8, length: usize) -> i32;
     pub fn ds_bloom_contains_all(
         handle: *mut ds_sketch,
         items: *const ds_items,
@@ -149,6 +151,7 @@ extern "C" {
     pub fn ds_bloom_contains_and_insert_u64(handle: *mut ds_sketch, item: u64) -> i32;
     pub fn ds_bloom_contains_and_insert_string(handle: *mut ds_sketch, item: *const u8, length: usize)
         -> i32;
+    pub fn ds_bloom_contains_and_insert_fed(handle: *mut ds_sketch, item: *const u8, length: usize) -> i32;
     pub fn ds_bloom_contains_and_insert_all(
         handle: *mut ds_sketch,
         items: *const ds_items,
@@ -194,8 +197,20 @@ extern "C" {
         length: usize,
         weight: u64,
     ) -> i32;
+    pub fn ds_count_min_u64_update_fed(
+        handle: *mut ds_sketch,
+        item: *const u8,
+        length: usize,
+        weight: u64,
+    ) -> i32;
     pub fn ds_count_min_u64_estimate_u64(handle: *mut ds_sketch, item: u64, estimate: *mut u64) -> i32;
     pub fn ds_count_min_u64_estimate_string(
+        handle: *mut ds_sketch,
+        item: *const u8,
+        length: usize,
+        estimate: *mut u64,
+    ) -> i32;
+    pub fn ds_count_min_u64_estimate_fed(
         handle: *mut ds_sketch,
         item: *const u8,
         length: usize,
@@ -209,6 +224,12 @@ extern "C" {
     ) -> i32;
     pub fn ds_count_min_u64_upper_bound_u64(handle: *mut ds_sketch, item: u64, bound: *mut u64) -> i32;
     pub fn ds_count_min_u64_upper_bound_string(
+        handle: *mut ds_sketch,
+        item: *const u8,
+        length: usize,
+        bound: *mut u64,
+    ) -> i32;
+    pub fn ds_count_min_u64_upper_bound_fed(
         handle: *mut ds_sketch,
         item: *const u8,
         length: usize,
@@ -231,8 +252,22 @@ extern "C" {
         item_length: usize,
         estimate: *mut u64,
     ) -> i32;
+    pub fn ds_count_min_u64_image_estimate_fed(
+        image: *const u8,
+        length: usize,
+        seed: u64,
+        item: *const u8,
+        item_length: usize,
+        estimate: *mut u64,
+    ) -> i32;
     pub fn ds_count_min_i64_update_u64(handle: *mut ds_sketch, item: u64, weight: i64) -> i32;
     pub fn ds_count_min_i64_update_string(
+        handle: *mut ds_sketch,
+        item: *const u8,
+        length: usize,
+        weight: i64,
+    ) -> i32;
+    pub fn ds_count_min_i64_update_fed(
         handle: *mut ds_sketch,
         item: *const u8,
         length: usize,
@@ -251,6 +286,12 @@ extern "C" {
         length: usize,
         estimate: *mut i64,
     ) -> i32;
+    pub fn ds_count_min_i64_estimate_fed(
+        handle: *mut ds_sketch,
+        item: *const u8,
+        length: usize,
+        estimate: *mut i64,
+    ) -> i32;
     pub fn ds_count_min_i64_estimate_all(
         handle: *mut ds_sketch,
         items: *const ds_items,
@@ -264,6 +305,12 @@ extern "C" {
         length: usize,
         bound: *mut i64,
     ) -> i32;
+    pub fn ds_count_min_i64_upper_bound_fed(
+        handle: *mut ds_sketch,
+        item: *const u8,
+        length: usize,
+        bound: *mut i64,
+    ) -> i32;
     pub fn ds_count_min_i64_image_estimate_u64(
         image: *const u8,
         length: usize,
@@ -272,6 +319,14 @@ extern "C" {
         estimate: *mut i64,
     ) -> i32;
     pub fn ds_count_min_i64_image_estimate_string(
+        image: *const u8,
+        length: usize,
+        seed: u64,
+        item: *const u8,
+        item_length: usize,
+        estimate: *mut i64,
+    ) -> i32;
+    pub fn ds_count_min_i64_image_estimate_fed(
         image: *const u8,
         length: usize,
         seed: u64,

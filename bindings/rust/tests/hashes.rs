@@ -3,7 +3,7 @@
 mod model;
 
 use datasketches_rattle::bloom::{BloomFilter, BloomFilterBuilder, BloomFilterView};
-use datasketches_rattle::countmin::CountMinSketch;
+use datasketches_rattle::countmin::{CountMinSketch, CountMinView};
 use datasketches_rattle::frequencies::FrequentItemsSketch;
 use datasketches_rattle::items::Batch;
 use model::{Counts, Filter};
@@ -57,6 +57,9 @@ impl Pair {
         let margin = self.counts.upper_bound(0u64) - self.counts.estimate(0u64);
         assert_eq!(self.counts.upper_bound(item), estimate as u64 + margin);
         assert_eq!(self.signed.upper_bound(item), (estimate as u64 + margin) as i64);
+        let (counts, signed) = (self.counts.serialize(), self.signed.serialize());
+        assert_eq!(i128::from(CountMinView::<u64>::new(&counts).unwrap().estimate(item)), estimate);
+        assert_eq!(i128::from(CountMinView::<i64>::new(&signed).unwrap().estimate(item)), estimate);
     }
 
     /// Makes each call on many items.

@@ -78,7 +78,7 @@ NOT_RUST = [
     ("let image = vec![0; 9]; let view = BloomFilterView::new(&image).unwrap(); drop(image); view.contains(&1);", "E0505"),
     ("let mut image = [0; 9]; let view = CountMinView::<u64>::new(&image).unwrap(); image[0] = 1; view.estimate(1u64);", "E0506"),
     ("let image = [0; 9]; CountMinView::<u8>::new(&image).unwrap();", "E0277 E0599"),
-    ("let image = [0; 9]; CountMinView::<u64>::new(&image).unwrap().estimate(1u32);", "E0277"),
+    ("let image = [0; 9]; CountMinView::<u64>::new(&image).unwrap().estimate(1.5);", "E0277"),
     ("let text = words(&String::new()); filter.insert_all(&text).unwrap();", "E0716"),
     ("struct Mine; impl Sketch for Mine {}", "E0277"),
     ("struct Mine; impl Batch for Mine { type Item = u64; }", "E0277"),

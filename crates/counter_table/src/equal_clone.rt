@@ -1,5 +1,5 @@
 //! Types whose clones equal their originals.
-ghost use Rattle.std.specs.Prelude.{IsTrue};
+ghost use Rattle.std.specs.Prelude.{◌≡◌, false, IsTrue};
 ghost use Rattle.std.specs.Cmp.Lexicographic.{bytes_decides};
 ghost use Rattle.std.specs.String.{string_bytes};
 ghost use Rattle.std.proofs.Common.{rules, sym, ap, subst};
@@ -25,64 +25,129 @@ use std::cmp::Eq;
 /// }
 /// ```
 pub trait EqualClone: Clone + Eq {
+    /// Returns whether a clone may fail, as for a type that owns memory. `true` is always right.
+    ///
+    /// A merge into a table of its maximum size works in place if no clone fails.
+    fn may_fail() -> bool
+        ensures { result ≡ false → (x : Self) → Self.is_infallible x }
+    {
+        true
+    }
+
     // Each clone equals its original.
     ghost clones_equal: { (x y : Self) → Self.is_clone x y → IsTrue (Self.eq x y) };
 }
 
 impl EqualClone for u8 {
     ghost clones_equal = { Prim.search rules };
+
+    fn may_fail() -> bool {
+        false
+    }
 }
 
 impl EqualClone for u16 {
     ghost clones_equal = { Prim.search rules };
+
+    fn may_fail() -> bool {
+        false
+    }
 }
 
 impl EqualClone for u32 {
     ghost clones_equal = { Prim.search rules };
+
+    fn may_fail() -> bool {
+        false
+    }
 }
 
 impl EqualClone for u64 {
     ghost clones_equal = { Prim.search rules };
+
+    fn may_fail() -> bool {
+        false
+    }
 }
 
 impl EqualClone for u128 {
     ghost clones_equal = { Prim.search rules };
+
+    fn may_fail() -> bool {
+        false
+    }
 }
 
 impl EqualClone for usize {
     ghost clones_equal = { Prim.search rules };
+
+    fn may_fail() -> bool {
+        false
+    }
 }
 
 impl EqualClone for i8 {
     ghost clones_equal = { Prim.search rules };
+
+    fn may_fail() -> bool {
+        false
+    }
 }
 
 impl EqualClone for i16 {
     ghost clones_equal = { Prim.search rules };
+
+    fn may_fail() -> bool {
+        false
+    }
 }
 
 impl EqualClone for i32 {
     ghost clones_equal = { Prim.search rules };
+
+    fn may_fail() -> bool {
+        false
+    }
 }
 
 impl EqualClone for i64 {
     ghost clones_equal = { Prim.search rules };
+
+    fn may_fail() -> bool {
+        false
+    }
 }
 
 impl EqualClone for i128 {
     ghost clones_equal = { Prim.search rules };
+
+    fn may_fail() -> bool {
+        false
+    }
 }
 
 impl EqualClone for isize {
     ghost clones_equal = { Prim.search rules };
+
+    fn may_fail() -> bool {
+        false
+    }
 }
 
 impl EqualClone for bool {
     ghost clones_equal = { Prim.search rules };
+
+    fn may_fail() -> bool {
+        false
+    }
 }
 
 impl EqualClone for char {
     ghost clones_equal = { Prim.search rules };
+
+    fn may_fail() -> bool {
+        false
+    }
 }
 
 impl<T: Eq> EqualClone for &T {

@@ -165,6 +165,7 @@ impl<T: Eq + Hash + Drop> ReversePurgeItemHashMap<T> {
     ///
     /// An amount of 0 is inserted too. An insertion requires that a slot stays free after it, and an addition requires that the
     /// sum fits.
+    #[inline(always)]
     pub fn adjust_or_put_value(&mut self, item: T, adjust_amount: u64)
         requires room { is_tracked T.eq self.old.entries item ≡ false → length self.old.entries + 1 < self.old.size }
         requires fits { is_tracked T.eq self.old.entries item ≡ true
@@ -213,6 +214,7 @@ impl<T: Eq + Hash + Drop> ReversePurgeItemHashMap<T> {
     /// # Errors
     ///
     /// Returns `NoMemory` if the item cannot be allocated. The table is then unchanged.
+    #[inline(always)]
     pub fn adjust_or_put_by_key<K: OwnedKey<T>>(
         &mut self,
         key: K,
@@ -242,6 +244,8 @@ impl<T: Eq + Hash + Drop> ReversePurgeItemHashMap<T> {
     /// The sample has `min(sample_size, active, 1024)` entries, and m is the count at half its length in ascending order. Which
     /// entries are sampled is unspecified. In a keyed map it depends on the key and on how many purges there were. Drops at
     /// least half of the sample and one entry more. Requires an entry, and a `sample_size` above 0. It does not allocate.
+    // Inlined, it would put its buffer for the sample on the stack of each update.
+    #[inline(never)]
     pub fn purge(&mut self, sample_size: usize) -> u64
         requires active { 0 < length self.old.entries }
         requires sample { 0 < sample_size }

@@ -172,12 +172,12 @@ impl<T: Eq + Hash + Drop> Sketch<T> {
                 bounds(found.estimate, found.lower_bound, found.upper_bound)
             }
             Sketch::CountI64(sketch) => {
-                let estimate = sketch.estimate_item(item);
-                signed_bounds(estimate, estimate, sketch.upper_bound_item(item))
+                let counted = sketch.bounds_item(item);
+                signed_bounds(counted.estimate, counted.estimate, counted.upper_bound)
             }
             Sketch::CountU64(sketch) => {
-                let estimate = sketch.estimate_item(item);
-                bounds(estimate, estimate, sketch.upper_bound_item(item))
+                let counted = sketch.bounds_item(item);
+                bounds(counted.estimate, counted.estimate, counted.upper_bound)
             }
             Sketch::Bloom(filter) => Reply::Contains(filter.contains_item(item)),
         }

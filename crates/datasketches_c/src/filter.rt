@@ -58,7 +58,7 @@ pub extern "C" fn ds_bloom_new(
 
 /// Inserts an item, for the calls below.
 #[inline]
-fn insert<X: Item + Drop>(alloc: Global, handle: &mut SketchHandle, item: X) -> i32
+pub(crate) fn insert<X: Item + Drop>(alloc: Global, handle: &mut SketchHandle, item: X) -> i32
     ensures { OnFilter handle.old.value handle.new.value result (λ s.
         (result ≡ ok) × (handle.new.value ≡ Some (Filter (Own (inserted s (X.bytes item)))))
         × Extends s (inserted s (X.bytes item)) (λ h. Insert h (X.bytes item))) }
@@ -105,7 +105,7 @@ pub extern "C" fn ds_bloom_insert_string(
 
 /// Returns whether the filter contains an item, as `YES` or `NO`, for the calls below.
 #[inline]
-fn contains<X: Item + Drop>(alloc: Global, handle: &mut SketchHandle, item: X) -> i32
+pub(crate) fn contains<X: Item + Drop>(alloc: Global, handle: &mut SketchHandle, item: X) -> i32
     ensures kept { handle.new.value ≡ handle.old.value }
     ensures answer { ReadsFilter handle.old.value handle.new.value result (λ s.
         result ≡ (if contains_item s (X.bytes item) then yes else no)) }

@@ -16,7 +16,11 @@ use std::alloc::Global;
 
 /// Inserts an item and returns whether it was there, for the calls below.
 #[inline]
-fn contains_and_insert<X: Item + Drop>(alloc: Global, handle: &mut SketchHandle, item: X) -> i32
+pub(crate) fn contains_and_insert<X: Item + Drop>(
+    alloc: Global,
+    handle: &mut SketchHandle,
+    item: X,
+) -> i32
     ensures { TellsAndInserts handle.old.value handle.new.value result (X.bytes item) }
 {
     on_kind!(alloc, handle, BloomFilter, filter => {

@@ -48,7 +48,7 @@ pub extern "C" fn ds_bloom_image_contains_string(image: &[u8], item: &[u8]) -> i
 
 /// Writes the estimate of an item by the Count-Min sketch in an image, for the calls below.
 #[inline]
-fn estimate<V: CountMinValue, R: RowItem<V> + Drop>(
+pub(crate) fn estimate<V: CountMinValue, R: RowItem<V> + Drop>(
     image: &[u8],
     seed: u64,
     item: R,

@@ -16,6 +16,7 @@ mod count_sketches;
 mod count_update;
 mod equality;
 pub mod fed_bytes;
+mod fed_item;
 mod filter;
 mod filter_items;
 mod filter_joins;

@@ -2,6 +2,11 @@ mod Ascii
 pub mod BothEnds
 pub mod Blocks
 pub mod Delimited
+pub mod CsvBoth
+pub mod CsvFields
+pub mod CsvRecords
+pub mod CsvRuns
+pub mod CsvWalk
 pub mod DirectRemainder
 mod FirstWords
 pub mod KeptBytes
@@ -11,6 +16,7 @@ mod MarkedWords
 mod Marks
 pub mod ManyStrings
 pub mod Murmur3Pieces
+mod PairMarks
 pub mod PartsUtf8
 pub mod Rotation
 pub mod Searching

@@ -1,6 +1,7 @@
 pub mod Batches
 pub mod Buffer
 pub mod Checks
+pub mod Csv
 pub mod Errors
 pub mod Faults
 pub mod Fields

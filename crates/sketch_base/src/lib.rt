@@ -19,6 +19,7 @@
 //! - [`image`] reads the fields of images at fixed offsets, and has the checks that all images share.
 //! - [`Family`] names a kind of sketch in an image. An [`Error`] has a kind and a [`Fault`], its cause.
 //! - [`laws`] states the values of the constants.
+//! - [`copy_short`] copies few bytes without a function call.
 //! - [`Divisor`] computes remainders by a precomputed number without a division.
 //! - [`first_words`] splits a string into an array, and [`nth_word`] returns one of its words. [`nth_word_of_bytes`]
 //!   does so for bytes that need not be UTF-8. [`nth_field_of_bytes`] and [`nth_field`] return one field between
@@ -28,6 +29,8 @@
 mod byte_set;
 mod byte_strings;
 mod byte_words;
+mod csv_fields;
+mod csv_records;
 mod divisor;
 mod error;
 mod family;
@@ -42,6 +45,7 @@ mod machine_words;
 mod map_state;
 mod murmurhash;
 mod offset_strings;
+mod place;
 mod rehashable_item;
 mod rehashable_str;
 mod seed_hash;
@@ -55,6 +59,7 @@ mod sketch_slice;
 mod split;
 mod str_hash;
 mod strings;
+mod two_bytes;
 mod utf8;
 mod validity;
 mod words;
@@ -62,6 +67,8 @@ mod xxhash;
 
 pub use byte_strings::ByteStrings;
 pub use byte_words::nth_word_of_bytes;
+pub use csv_fields::{append_csv_text, nth_csv_field, plain_csv_text};
+pub use csv_records::{finished_csv_records, next_csv_record};
 pub use divisor::Divisor;
 pub use error::{Error, ErrorKind};
 pub use family::Family;
@@ -73,11 +80,13 @@ pub use lines::Lines;
 pub use map_state::{MapHasher, MapState};
 pub use murmurhash::{DEFAULT_UPDATE_SEED, MurmurHash3X64128};
 pub use offset_strings::{OffsetStrings, Offsets, are_offsets};
+pub use place::Place;
 pub use rehashable_item::{Rehashable, RehashableItem};
 pub use rehashable_str::RehashableStr;
 pub use seed_hash::{check_seed_hash, compute_seed_hash};
 pub use separator::{Separator, first_separator};
 pub use short_bytes::ShortBytes;
+pub use short_copy::copy_short;
 pub use sip_hash::{HashKey, keyed_hash};
 pub use sketch_bytes::SketchBytes;
 pub use sketch_slice::SketchSlice;

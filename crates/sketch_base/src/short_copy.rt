@@ -1,7 +1,7 @@
 //! Copies of few bytes, without a function call.
 ghost use Rattle.std.specs.Prelude.{◌≡◌, ◌*◌, ◌<◌, ◌≤◌, length};
 
-/// Copies all bytes of `from`, at most 32, to `to`, which has the same length.
+/// Copies all bytes of `from`, at most 32, to `to`, which has the same length. Calls no function.
 #[inline(always)]
 pub fn copy_short(to: &mut [u8], from: &[u8])
     requires same_length { length to.old ≡ length from.now }

@@ -148,6 +148,63 @@ pub fn write_full(out: &mut [u8], num_hashes: u16, seed: u64, bits_used: u64, wo
     write_words(&mut out[32..], words);
 }
 
+/// Returns the image of an empty filter. Allocates it.
+pub fn empty_image(
+    alloc: Global,
+    num_hashes: u16,
+    seed: u64,
+    num_words: usize,
+) -> Result<Vec<u8>, AllocError>
+    requires { num_words ≤ MAX_NUM_WORDS }
+    ensures { IfOk result (λ image. image.items ≡ preamble 3 4 num_hashes seed num_words) }
+{
+    let longs = PREAMBLE_LONGS_EMPTY;
+    let mut image = Vec::with_capacity(alloc, 24)?;
+    image.extend_from_slice(&preamble_bytes(longs, EMPTY_FLAG_MASK, num_hashes, seed, num_words))?;
+    Ok(image)
+}
+
+/// Returns the image of a filter that is not empty. Allocates it once, and writes each of its bytes once.
+///
+/// [`write_full`] needs a buffer with the image's length, so all of it would be zeroed first.
+pub fn full_image(
+    alloc: Global,
+    num_hashes: u16,
+    seed: u64,
+    bits_used: u64,
+    words: &[u64],
+) -> Result<Vec<u8>, AllocError>
+    requires { length words.now ≤ MAX_NUM_WORDS }
+    ensures { IfOk result (λ image. image.items ≡ preamble 4 0 num_hashes seed (length words.now)
+        ++ to_le_bytes w64 bits_used ++ bytes_of_words words.now) }
+{
+    let longs = PREAMBLE_LONGS_NONEMPTY;
+    let mut image = Vec::with_capacity(alloc, 32 + 8 * words.len())?;
+    image.extend_from_slice(&preamble_bytes(longs, 0, num_hashes, seed, words.len()))?;
+    image.extend_from_slice(&bits_used.to_le_bytes())?;
+    append_words(&mut image, words)?;
+    Ok(image)
+}
+
+/// The number of words that are appended at once.
+const BLOCK: usize = 64;
+
+/// Appends the bytes of the words to `image`, 8 for each.
+fn append_words(image: &mut Vec<u8>, words: &[u64]) -> Result<(), AllocError>
+    ensures { OnOk result (image.new.items ≡ image.old.items ++ bytes_of_words words.now) }
+{
+    let mut block = [0; 512];
+    let mut start = 0;
+    'appends: while start < words.len() {
+        let count = BLOCK.min(words.len() - start);
+        let bytes = &mut block[..8 * count];
+        write_words(bytes, &words[start..start + count]);
+        image.extend_from_slice(bytes)?;
+        start += count;
+    }
+    Ok(())
+}
+
 /// Returns the bytes of an image's preamble.
 fn preamble_bytes(longs: u8, flags: u8, num_hashes: u16, seed: u64, num_words: usize) -> [u8; 24]
     requires { num_words ≤ MAX_NUM_WORDS }

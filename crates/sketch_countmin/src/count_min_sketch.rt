@@ -14,6 +14,7 @@ mod batches;
 mod images;
 
 use crate::cells::zeros;
+use crate::count_min_bounds::CountMinBounds;
 use crate::count_min_sizes::CountMinSizes;
 use crate::count_min_value::CountMinValue;
 use crate::grid::Grid;
@@ -410,7 +411,29 @@ impl<T: CountMinValue> CountMinSketch<T> {
         ensures { (estimate : ℤ) → IsMinCell self.now (R.bytes item) estimate
             → T.number result ≡ upper_bound_of T.greatest self.now estimate }
     {
-        with_margin(self.estimate_item(item), self.total, self.grid.buckets())
+        self.bounds_item(item).upper_bound
+    }
+
+    /// Returns the estimate and the upper bound of the item's weight, as [`estimate_item`](Self::estimate_item) and
+    /// [`upper_bound_item`](Self::upper_bound_item) do. Hashes the item once. Does not allocate.
+    #[inline(always)]
+    pub fn bounds_item<R: RowItem<T> + Drop>(&self, item: R) -> CountMinBounds<T>
+        ensures least { IsMinCell self.now (R.bytes item) (T.number result.estimate) }
+        ensures encloses { (h : CountHistory) → StandsFor self.now h → IsNonnegative h
+            → (own_value h (R.bytes item) ≤ℤ T.number result.estimate)
+            × (T.number result.estimate ≤ℤ pos self.now.total) }
+        ensures raised { (h : CountHistory) → StandsFor self.now h → IsExact h
+            → IsMin self.now.hashes (others_share self.now.buckets self.now.seed h (R.bytes item))
+            (T.number result.estimate -ℤ own_value h (R.bytes item)) }
+        ensures upper { T.number result.upper_bound
+            ≡ upper_bound_of T.greatest self.now (T.number result.estimate) }
+    {
+        let estimate = self.estimate_item(item);
+        let upper_bound = with_margin(estimate, self.total, self.grid.buckets());
+        CountMinBounds {
+            estimate,
+            upper_bound,
+        }
     }
 
     /// Adds the cells and the total of another sketch of the same shape and seed. Does not allocate.

@@ -12,7 +12,7 @@ use crate::count_min_value::CountMinValue;
 use crate::limits::{MAX_TABLE_ENTRIES, MIN_NUM_BUCKETS};
 use sketch_base::image::{SERIAL_VERSION, opening_fault, u16_at, u32_at};
 use sketch_base::{Error, ErrorKind, Family, Fault, compute_seed_hash};
-use std::alloc::Global;
+use std::alloc::{AllocError, Global};
 
 /// The preamble longs.
 pub const PREAMBLE_LONGS: u8 = 2;
@@ -188,6 +188,42 @@ pub fn write_full<T: CountMinValue>(
     write_cells(&mut out[24..], counts);
 }
 
+/// Returns the image of a sketch whose total is 0. Allocates it.
+pub fn empty_image(
+    alloc: Global,
+    num_buckets: u32,
+    num_hashes: u8,
+    hash: u16,
+) -> Result<Vec<u8>, AllocError>
+    ensures { IfOk result (λ image. image.items ≡ preamble 1 num_buckets num_hashes hash) }
+{
+    let mut image = Vec::with_capacity(alloc, 16)?;
+    image.extend_from_slice(&preamble_bytes(EMPTY_FLAG_MASK, num_buckets, num_hashes, hash))?;
+    Ok(image)
+}
+
+/// Returns the image of a sketch whose total is not 0. Allocates it once, and writes each of its bytes once.
+///
+/// [`write_full`] needs a buffer with the image's length, so all of it would be zeroed first.
+pub fn full_image<T: CountMinValue>(
+    alloc: Global,
+    num_buckets: u32,
+    num_hashes: u8,
+    hash: u16,
+    total: T,
+    counts: &[T],
+) -> Result<Vec<u8>, AllocError>
+    requires { length counts.now < MAX_TABLE_ENTRIES }
+    ensures { IfOk result (λ image. image.items ≡ preamble 0 num_buckets num_hashes hash ++ bytes_of (T.number total)
+        ++ flat_map bytes_of (map T.number counts.now)) }
+{
+    let mut image = Vec::with_capacity(alloc, 24 + 8 * counts.len())?;
+    image.extend_from_slice(&preamble_bytes(0, num_buckets, num_hashes, hash))?;
+    image.extend_from_slice(&total.to_bytes())?;
+    append_cells(&mut image, counts)?;
+    Ok(image)
+}
+
 /// Returns the bytes of an image's preamble.
 fn preamble_bytes(flags: u8, num_buckets: u32, num_hashes: u8, hash: u16) -> [u8; 16]
     ensures { result ≡ preamble flags num_buckets num_hashes hash }
@@ -201,6 +237,25 @@ fn preamble_bytes(flags: u8, num_buckets: u32, num_hashes: u8, hash: u16) -> [u8
         longs, version, family, flags, 0, 0, 0, 0, buckets[0], buckets[1], buckets[2], buckets[3],
         num_hashes, hash[0], hash[1], 0,
     ]
+}
+
+/// The number of cells whose bytes are appended at once.
+const BLOCK: usize = 64;
+
+/// Appends the bytes of the cells to `image`, 8 for each.
+fn append_cells<T: CountMinValue>(image: &mut Vec<u8>, counts: &[T]) -> Result<(), AllocError>
+    ensures { OnOk result (image.new.items ≡ image.old.items ++ flat_map bytes_of (map T.number counts.now)) }
+{
+    let mut block = [0; 512];
+    let mut start = 0;
+    'appends: while start < counts.len() {
+        let count = BLOCK.min(counts.len() - start);
+        let bytes = &mut block[..8 * count];
+        write_cells(bytes, &counts[start..start + count]);
+        image.extend_from_slice(bytes)?;
+        start += count;
+    }
+    Ok(())
 }
 
 /// Writes the cells to `out`, which has 8 bytes for each.

@@ -16,6 +16,7 @@
 
 mod cell_list;
 mod cells;
+mod count_min_bounds;
 mod count_min_image_options;
 mod count_min_items;
 mod count_min_sizes;
@@ -35,6 +36,7 @@ mod rows;
 mod sizes;
 mod unsigned_count_min_value;
 
+pub use count_min_bounds::CountMinBounds;
 pub use count_min_image_options::CountMinImageOptions;
 pub use count_min_items::CountMinItems;
 pub use count_min_sizes::CountMinSizes;

@@ -12,7 +12,7 @@ use Rattle.counter_table.specs.declared.slot.Slot.{Slot}
 use Rattle.counter_table.specs.declared.slot.Slot.TheVariants.{Taken}
 use Rattle.sketch_frequencies.specs.Image.{AreEncoded, contents_of, items_bytes, used_by}
 use Rattle.sketch_frequencies.specs.Items.{Codec, IsLawful, IsWithin}
-use Rattle.sketch_frequencies.specs.Writing.{TakeBytes}
+use Rattle.sketch_frequencies.specs.Writing.{TakeBytes, TakeCapped, TakeEach}
 use Rattle.sketch_frequencies.proofs.SlotEntries.{entries_taken}
 use Rattle.sketch_frequencies.proofs.Spellings.{encoded_push}
 
@@ -92,11 +92,28 @@ module _ {T C : Type 0} (codec : Codec C) (content : T → C) where
 
   -- the bytes that the items so far take, or `usize::MAX` if they take more
   abbrev pub TakeSoFar : List (T × ℕ) → ℕ → Type 0
-  TakeSoFar es n = (items : List ℕ) × AreEncoded codec (contents_of content es) items × (n ≡ min (length items) (2 ^ 64 - 1))
+  TakeSoFar es n = TakeCapped codec (contents_of content es) n
 
   pub size_more : (slots : List (Slot T)) (i drift count : ℕ) (x : T) (d : Slot T) (n one new : ℕ) (first : List ℕ) → i < length slots → get_or slots i d ≡ Taken drift count x → codec.encoding (content x) ≡ Ok first → one ≡ length first → new ≡ min (n + one) (2 ^ 64 - 1) → TakeSoFar (entries_of (take i slots)) n → TakeSoFar (entries_of (take (i + 1) slots)) new
   size_more slots i drift count x d n one new first lt is enc one_is new_is h =
       (h.0 ++ first, encoded_more slots i drift count x d h.0 first (h.0 ++ first) lt is enc h.1 refl, omega (arith, h.2, new_is, one_is, length-append h.0 first))
+
+  -- one item more, if each takes the same number of bytes
+  pub each_more : (slots : List (Slot T)) (i drift count : ℕ) (x : T) (d : Slot T) (n one : ℕ) (first : List ℕ) → i < length slots → get_or slots i d ≡ Taken drift count x → codec.encoding (content x) ≡ Ok first → one ≡ length first → one ≡ n → TakeEach codec (contents_of content (entries_of (take i slots))) n → TakeEach codec (contents_of content (entries_of (take (i + 1) slots))) n
+  each_more slots i drift count x d n one first lt is enc one_is same h =
+      let f : T × ℕ → C × ℕ = λ e. (content e.0, e.1) in
+      let front = entries_of (take i slots) in
+      let long : length (contents_of content (entries_of (take (i + 1) slots))) ≡ suc (length (contents_of content front)) =
+      omega (arith, length-map (entries_of (take (i + 1) slots)) f, length-map front f, ap length (entries_taken slots i drift count x d lt is), length-append front ((x, count) ∷ [])) in
+      let more : n * suc (length (contents_of content front)) ≡ n * length (contents_of content front) + n = mul-suc n (length (contents_of content front)) in
+      let next : n * length (contents_of content (entries_of (take (i + 1) slots))) ≡ n * suc (length (contents_of content front)) = ap (λ k. n * k) long in
+      (h.0 ++ first, encoded_more slots i drift count x d h.0 first (h.0 ++ first) lt is enc h.1 refl, omega (arith, h.2, one_is, same, length-append h.0 first, more, next))
+
+  -- the items take so many bytes in all
+  pub each_capped : (es : List (T × ℕ)) (n all size : ℕ) → TakeEach codec (contents_of content es) n → all ≡ n * length es → size ≡ min all (2 ^ 64 - 1) → TakeCapped codec (contents_of content es) size
+  each_capped es n all size h all_is is =
+      let many : length (contents_of content es) ≡ length es = length-map es (λ e. (content e.0, e.1)) in
+      (h.0, h.1, omega (arith, h.2, ap (λ k. n * k) many, all_is, is))
 
   -- there is room for the weight of the entry of a slot
   pub weight_next : (slots : List (Slot T)) (i drift count : ℕ) (x : T) (d : Slot T) → i < length slots → get_or slots i d ≡ Taken drift count x → length (entries_of (take i slots)) + 1 ≤ length (entries_of slots)

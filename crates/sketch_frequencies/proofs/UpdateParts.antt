@@ -129,3 +129,22 @@ module _ {T : Type 0} {eq : T → T → Bool} (laws : IsEquivalence eq) (old mid
           left = record { counters = IsPermutation-trans _ _ _ (purged-permutation k.m (put eq old.counters x w) (put eq mid.counters x w) put_made) k.left.counters; error = k.left.error ∙ ap (λ n. n + k.m) made.error; size = k.left.size ∙ same };
         };
   }
+
+-- the step of an item in a table of the greatest size
+pub step_at_max : {T : Type 0} (eq : T → T → Bool) (old new : FrequentState T) (x : T) (w : ℕ) → old.size ≡ old.max_size → Adds eq old x w new → Steps eq old x w new
+step_at_max eq old new x w at adds = record {
+  total = adds.total;
+  max_size = adds.max_size;
+  sample_size = adds.sample_size;
+  key = adds.key;
+  kept = adds.kept;
+  doubled = λ _ below. absurd (omega (arith, at, below));
+  purge = λ over _. adds.purge over;
+}
+
+-- a table of the greatest size keeps it
+pub size_stays : {T : Type 0} (eq : T → T → Bool) (old new : FrequentState T) (x : T) (w : ℕ) → Steps eq old x w new → old.size ≡ old.max_size → new.size ≡ new.max_size
+size_stays eq old new x w step at =
+    by_cases (cases_lt (capacity old.size) (length (put eq old.counters x w)))
+    (λ over. (step.purge over at).left.size ∙ (at ∙ sym step.max_size))
+    (λ room. (step.kept room).size ∙ (at ∙ sym step.max_size))

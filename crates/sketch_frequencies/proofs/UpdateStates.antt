@@ -13,7 +13,7 @@ use Rattle.std.specs.Prelude.{IsTrue}
 use Rattle.std.specs.Int.{is_power_of_two}
 use Rattle.counter_table.specs.Tables.{Table, put, sum_of, purged, IsSampleMiddle}
 use Rattle.sketch_frequencies.specs.State.{FrequentState, IsState, IsSampleSize, capacity, state_of}
-use Rattle.sketch_frequencies.specs.Growth.{Adds}
+use Rattle.sketch_frequencies.specs.Growth.{Adds, PurgesExcess}
 use Rattle.sketch_frequencies.proofs.Puts.{IsDistinct-put, positive-put, sum_of-put, length_put_le}
 use Rattle.sketch_frequencies.proofs.Permutations.{IsDistinct-purged, purged-permutation, IsSampleMiddle-permutation}
 use Rattle.sketch_frequencies.proofs.Cases.{by_cases}
@@ -123,3 +123,15 @@ state_made {T} {eq} laws old t ok p size fits some =
 pub length_le_sum : {T : Type 0} (es : List (T × ℕ)) → All (λ e. 0 < e.1) es → length es ≤ sum_of es
 length_le_sum [] h = omega arith
 length_le_sum {T} (e ∷ es) h = omega (arith, length_le_sum es (All-tail (λ (p : T × ℕ). 0 < p.1) e es h), All-head (λ (p : T × ℕ). 0 < p.1) e es h, sum_by-cons (λ (p : T × ℕ). p.1) e es)
+
+-- w was added at x, and a purge followed if there was then one counter too many
+pub adds_excess : {T : Type 0} (eq : T → T → Bool) (old : FrequentState T) (x : T) (w : ℕ) (t u : Table T) (m : ℕ) → IsPermutation (put eq old.counters x w) t.entries → t.size ≡ old.size → t.key ≡ old.key → (capacity old.size < length (put eq old.counters x w) → old.size ≡ old.max_size) → IsState eq old → PurgesExcess old.sample_size t u m → Adds eq old x w (state_of u (old.error + m) (old.total + w) old.max_size old.sample_size)
+adds_excess {T} eq old x w t u m p size key room ok excess =
+    by_cases (cases_lt (capacity t.size) (length t.entries))
+    (λ over.
+    let at = room (omega (arith, over, length_permutation (put eq old.counters x w) t.entries p, size)) in
+    adds_purged eq old x w t u m old.sample_size p size over at refl ok (excess.middle over) (excess.entries over) excess.size (excess.key ∙ key))
+    (λ fits.
+    let same = excess.kept fits in
+    let none : old.error + m ≡ old.error = omega (arith, same.0) in
+    rw (none, same.1) (adds_kept eq old x w t p size key fits))

@@ -1,6 +1,6 @@
 -- The two parts of an update. No public clause cites this module.
-use Rattle.std.specs.Prelude.{◌≡◌, ℕ, ◌+◌, ◌*◌, ◌<◌, ◌≤◌, Bool, true, false, List, length, IsPermutation}
-use Rattle.counter_table.specs.Tables.{put, IsSameMap}
+use Rattle.std.specs.Prelude.{◌≡◌, ℕ, ◌+◌, ◌*◌, ◌<◌, ◌≤◌, Bool, true, false, List, length, min, IsPermutation}
+use Rattle.counter_table.specs.Tables.{Table, put, purged, IsSampleMiddle, IsSameMap}
 use Rattle.sketch_frequencies.specs.State.{FrequentState, capacity, must_grow}
 use Rattle.sketch_frequencies.specs.Steps.{Becomes, Purges, StepsAlong}
 
@@ -14,6 +14,17 @@ pub record MakesRoom {T : Type 0} (old new : FrequentState T) : Type 0 where
   pub key : new.key ≡ old.key
   pub doubled : must_grow old ≡ true → new.size ≡ 2 * old.size
   pub stays : must_grow old ≡ false → new.size ≡ old.size
+
+-- If the table had too many counters, m is the middle of a sample: each count is less by m, and those at or below m are dropped.
+-- Otherwise m is 0, and nothing changed.
+pub record PurgesExcess {T : Type 0} (sample_size : ℕ) (old new : Table T) (m : ℕ) : Type 0 where
+  pub kept : length old.entries ≤ capacity old.size → (m ≡ 0) × (new ≡ old)
+  pub middle :
+      capacity old.size < length old.entries →
+      IsSampleMiddle (min sample_size (min (length old.entries) 1024)) old.entries m
+  pub entries : capacity old.size < length old.entries → IsPermutation (purged m old.entries) new.entries
+  pub size : new.size ≡ old.size
+  pub key : new.key ≡ old.key
 
 module _ {T : Type 0} (eq : T → T → Bool) where
   -- new is old after w was added at x, purged if there was then one counter too many

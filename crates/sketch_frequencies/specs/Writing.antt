@@ -1,5 +1,5 @@
 -- The length of an image that is to be written. No public clause cites this module.
-use Rattle.std.specs.Prelude.{◌≡◌, ◌⊎◌, ℕ, ◌+◌, ◌-◌, ◌*◌, ◌^◌, ◌<◌, ◌≤◌, List, ◌++◌, length}
+use Rattle.std.specs.Prelude.{◌≡◌, ◌⊎◌, ℕ, ◌+◌, ◌-◌, ◌*◌, ◌^◌, ◌<◌, ◌≤◌, List, ◌++◌, length, min}
 use Rattle.sketch_base.specs.Errors.{ErrorValue, no_memory}
 use Rattle.sketch_frequencies.specs.Image.{AreEncoded, IsItemFault, encoded_weights, preamble, contents_of}
 use Rattle.sketch_frequencies.specs.Items.{Codec}
@@ -8,6 +8,14 @@ use Rattle.sketch_frequencies.specs.State.{FrequentState}
 -- the items have an encoding, and it takes n bytes
 abbrev pub TakeBytes : {C : Type 0} → Codec C → List (C × ℕ) → ℕ → Type 0
 TakeBytes codec counters n = (items : List ℕ) × AreEncoded codec counters items × (n ≡ length items)
+
+-- the items have an encoding, and it takes n bytes, or `usize::MAX` if it takes more
+abbrev pub TakeCapped : {C : Type 0} → Codec C → List (C × ℕ) → ℕ → Type 0
+TakeCapped codec counters n = (items : List ℕ) × AreEncoded codec counters items × (n ≡ min (length items) (2 ^ 64 - 1))
+
+-- the items have an encoding, and each takes n bytes
+abbrev pub TakeEach : {C : Type 0} → Codec C → List (C × ℕ) → ℕ → Type 0
+TakeEach codec counters n = (items : List ℕ) × AreEncoded codec counters items × (length items ≡ n * length counters)
 
 -- the items of these counters take `usize::MAX` bytes or more, or one cannot be written for this fault
 abbrev pub IsItemsSizeRefusal : {T C : Type 0} → Codec C → (T → C) → List (T × ℕ) → ErrorValue → Type 0

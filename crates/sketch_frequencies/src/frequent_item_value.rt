@@ -7,7 +7,7 @@ ghost use Rattle.sketch_frequencies.specs.Image.{used_by};
 ghost use Rattle.sketch_frequencies.specs.Items.{Codec, IsLawful, Writes, Reads, IsWritingRefusal, IsReadingRefusal, AddsBytes, TakesBytes, text_codec, text_encoding, text_reading, text_taken, IsTextRefusal};
 
 use sketch_base::image::{check_length, u32_at};
-use sketch_base::{Error, Fault, SketchBytes, SketchSlice, from_utf8};
+use sketch_base::{Error, Fault, SketchBytes, SketchSlice, copy_short, from_utf8};
 use std::alloc::Global;
 use std::hash::Hash;
 
@@ -266,7 +266,11 @@ impl FrequentItemValue for String {
     fn serialize_into(&self, out: &mut [u8]) {
         let text = self.as_bytes();
         out[..4].copy_from_slice(&(text.len() as u32).to_le_bytes());
-        out[4..].copy_from_slice(text);
+        if text.len() <= 32 {
+            copy_short(&mut out[4..], text);
+        } else {
+            out[4..].copy_from_slice(text);
+        }
     }
 
     #[inline(always)]

@@ -5,13 +5,13 @@ ghost use Rattle.sketch_base.specs.Checks.{first_failing};
 ghost use Rattle.sketch_base.specs.Errors.{invalid_data, no_memory};
 ghost use Rattle.sketch_base.specs.Fields.{byte_at};
 ghost use Rattle.counter_table.specs.Bytes.{table_bytes};
-ghost use Rattle.sketch_frequencies.specs.Image.{items_bytes, header_checks, count_checks, weight_checks, active_at, weights_at, header, preamble, encoded_weights, contents_of, AreEncoded};
+ghost use Rattle.sketch_frequencies.specs.Image.{items_bytes, header_checks, count_checks, weight_checks, active_at, weights_at, header, preamble, encoded_weights, contents_of, AreEncoded, IsItemFault};
 ghost use Rattle.sketch_frequencies.specs.Items.{max_owned};
 ghost use Rattle.sketch_frequencies.specs.Memory.{owned_by, memory_bytes};
 ghost use Rattle.sketch_frequencies.specs.Reading.{IsHeader, AreNumbers, AreCounters, IsItemsRefusal};
 ghost use Rattle.counter_table.specs.Slots.{entries_of};
 ghost use Rattle.sketch_frequencies.specs.State.{capacity};
-ghost use Rattle.sketch_frequencies.specs.Writing.{TakeBytes, IsItemsSizeRefusal, IsWhole};
+ghost use Rattle.sketch_frequencies.specs.Writing.{TakeBytes, TakeCapped, TakeEach, IsItemsSizeRefusal, IsWhole};
 
 use crate::frequent_item_value::FrequentItemValue;
 use counter_table::{ReversePurgeItemHashMap, Slot, TableKey, bytes_of_table, capacity_of};
@@ -296,21 +296,68 @@ pub(crate) fn table_size(lg: u8) -> usize
     1usize << lg
 }
 
-/// Returns the number of bytes that the items in the slots take in an image.
+/// Returns the number of bytes that the items of the `active` counters in the slots take in an image.
 ///
 /// Returns the error of the first item that cannot be written, or `NoMemory` if there is none and the sum is `usize::MAX` or more.
-pub(crate) fn items_size<T: FrequentItemValue>(slots: &[Slot<T>]) -> Result<usize, Error>
+pub(crate) fn items_size<T: FrequentItemValue>(
+    slots: &[Slot<T>],
+    active: usize,
+) -> Result<usize, Error>
+    requires { active ≡ length (entries_of slots.now) }
     ensures ok { IfOk result (TakeBytes T.codec (contents_of T.content (entries_of slots.now))) }
     ensures err { IfErr result (IsItemsSizeRefusal T.codec T.content (entries_of slots.now)) }
+{
+    let each = first_size(slots);
+    let size = if take_each(slots, each) {
+        each.saturating_mul(active)
+    } else {
+        sum_of_sizes(slots)?
+    };
+    if size == usize::MAX {
+        return Err(Error::from(AllocError));
+    }
+    Ok(size)
+}
+
+/// Returns the size of the item in the first taken slot, or 0. Any number is right, and this one is the likely one.
+fn first_size<T: FrequentItemValue>(slots: &[Slot<T>]) -> usize {
+    for slot in slots {
+        if let Slot::Taken { item, .. } = slot {
+            return T::serialize_size(item);
+        }
+    }
+    0
+}
+
+/// Returns whether each item in the slots can be written and takes `size` bytes.
+///
+/// If all items of a type take the same number of bytes, as numbers do, the compiler removes the loop, and no slot is read.
+fn take_each<T: FrequentItemValue>(slots: &[Slot<T>], size: usize) -> bool
+    ensures { IsTrue result → TakeEach T.codec (contents_of T.content (entries_of slots.now)) size }
+{
+    for slot in slots {
+        if let Slot::Taken { item, .. } = slot {
+            let Ok(one) = T::checked_serialize_size(item) else {
+                return false;
+            };
+            if one != size {
+                return false;
+            }
+        }
+    }
+    true
+}
+
+/// Returns the sum of the sizes of the items in the slots, or `usize::MAX` if it exceeds that.
+fn sum_of_sizes<T: FrequentItemValue>(slots: &[Slot<T>]) -> Result<usize, Error>
+    ensures ok { IfOk result (TakeCapped T.codec (contents_of T.content (entries_of slots.now))) }
+    ensures err { IfErr result (IsItemFault T.codec T.content (entries_of slots.now)) }
 {
     let mut size = 0usize;
     for slot in slots {
         if let Slot::Taken { item, .. } = slot {
             size = size.saturating_add(T::checked_serialize_size(item)?);
         }
-    }
-    if size == usize::MAX {
-        return Err(Error::from(AllocError));
     }
     Ok(size)
 }

@@ -2,14 +2,13 @@
 use Rattle.std.proofs.Common.{◌≡◌, ⊎_elim, ℕ, ◌+◌, ◌^◌, ◌<◌, ◌≤◌, Bool, List, [], ◌∷◌, ◌++◌, length, Option, None, Some, IfSome, append-nil, refl, sym, ◌∙◌, ap, subst, arith, length-append}
 use Rattle.std.proofs.lemmas.List.Concat.{flat_map-append}
 use Rattle.std.specs.List.{AllZip, flat_map}
-use Rattle.std.specs.Str.Lines.{lines}
 use Rattle.sketches.specs.Added.{Sketch, AddsLines, AddsWeighed}
 use Rattle.sketches.specs.Failures.{FailsLines, FailsTop}
-use Rattle.sketches.specs.Inputs.{AreRead, FailsAmong, FailsInputs, FailsTakingInputs, TakesEach, TakesInputs}
-use Rattle.sketches.specs.Reading.{AreFirstLines}
+use Rattle.sketches.specs.Inputs.{AreReadBy, FailsAmongBy, FailsInputsBy, HaveLongRecord, FailsTakingInputsBy, TakesEach, TakesInputsBy}
+use Rattle.sketches.specs.Reading.{AreFirstRecords}
 use Rattle.sketches.specs.Utf8LineLaws.{grows_none, not_utf8_append}
 use Rattle.sketches.specs.Utf8Lines.{GrowsBy, not_utf8_in}
-use Rattle.sketches.specs.Weighed.{total_of, unweighed_of, weighed_of}
+use Rattle.sketches.specs.Weighed.{records_of, splits_of, total_of, unweighed_of, weighed_of}
 use Rattle.sketches.specs.WeighingLaws.{total_both, weighed_none, weighed_both, weighed_append}
 use Rattle.sketches.specs.declared.counting.ItemCounter.{ItemCounter}
 use Rattle.sketches.specs.declared.failure.BadWeight.{BadWeight}
@@ -26,7 +25,7 @@ Counter = ItemCounter × Unit {0}
 abbrev pub Counts : Counter → List ℕ → Counter → Type 0
 Counts old bytes new =
     (AddsLines old.0.weighing old.0.sketch bytes new.0.sketch × (new.0.weighing ≡ old.0.weighing))
-    × GrowsBy old.0.not_utf8 (not_utf8_in (lines bytes)) new.0.not_utf8
+    × GrowsBy old.0.not_utf8 (not_utf8_in (records_of old.0.weighing bytes)) new.0.not_utf8
 
 abbrev pub FailsCounting : Counter → List ℕ → Failure → Type 0
 FailsCounting old bytes failure = FailsLines old.0.weighing old.0.sketch bytes failure
@@ -50,38 +49,39 @@ each_counted old new (bytes ∷ read) (mid, ((first, kept), _), rest) =
     )
 
 -- the number of lines that are not UTF-8 grew by those of each list
-each_grown : (old new : Counter) (read : List (List ℕ)) → TakesEach Counts old read new → GrowsBy old.0.not_utf8 (not_utf8_in (flat_map lines read)) new.0.not_utf8
+each_grown : (old new : Counter) (read : List (List ℕ)) → TakesEach Counts old read new → GrowsBy old.0.not_utf8 (not_utf8_in (flat_map (records_of old.0.weighing) read)) new.0.not_utf8
 each_grown old new [] same = subst (λ (s : Counter). GrowsBy old.0.not_utf8 (not_utf8_in []) s.0.not_utf8) (sym same) (grows_none old.0.not_utf8)
-each_grown old new (bytes ∷ read) (mid, (_, first), rest) =
-    let later = each_grown mid new read rest in
-    omega (arith, first, later, not_utf8_append (lines bytes) (flat_map lines read))
+each_grown old new (bytes ∷ read) (mid, ((_, kept), first), rest) =
+    let p : Weighing = old.0.weighing in
+    let later = subst (λ (q : Weighing). GrowsBy mid.0.not_utf8 (not_utf8_in (flat_map (records_of q) read)) new.0.not_utf8) kept (each_grown mid new read rest) in
+    omega (arith, first, later, not_utf8_append (records_of p bytes) (flat_map (records_of p) read))
 
 -- the items of what was read of each input were added, and its lines that are not UTF-8 were counted
 abbrev pub CountsInputs : Weighing → Option (List (List ℕ)) → Bool → (old new : Sketch) → (before after : ℕ) → Type 0
 CountsInputs p was complete old new before after = IfSome was (λ inputs.
-    (read : List (List ℕ)) × AreRead complete inputs read × AddsEach p old read new × GrowsBy before (not_utf8_in (flat_map lines read)) after)
+    (read : List (List ℕ)) × AreReadBy (splits_of p) complete inputs read × AddsEach p old read new × GrowsBy before (not_utf8_in (flat_map (records_of p) read)) after)
 
-pub counted : (was : Option (List (List ℕ))) (complete : Bool) (old new : Counter) → TakesInputs Counts was complete old new → CountsInputs old.0.weighing was complete old.0.sketch new.0.sketch old.0.not_utf8 new.0.not_utf8
+pub counted : (was : Option (List (List ℕ))) (complete : Bool) (old new : Counter) → TakesInputsBy (splits_of old.0.weighing) Counts was complete old new → CountsInputs old.0.weighing was complete old.0.sketch new.0.sketch old.0.not_utf8 new.0.not_utf8
 counted None complete old new taken = tt
 counted (Some inputs) complete old new (read, are, each) = (read, are, (each_counted old new read each).0, each_grown old new read each)
 
 -- ---- too many items
 
 -- the first lines have at most the weight of all lines
-few_first : (p : Weighing) (bytes read : List ℕ) → AreFirstLines bytes read → total_of (weighed_of p read) ≤ total_of (weighed_of p bytes)
+few_first : (p : Weighing) (bytes read : List ℕ) → AreFirstRecords (splits_of p) bytes read → total_of (weighed_of p read) ≤ total_of (weighed_of p bytes)
 few_first p bytes read ([], parts, whole) = let same = ap (λ (l : List ℕ). total_of (weighed_of p l)) (parts ∙ append-nil read) in omega (arith, same)
 few_first p bytes read (x ∷ rest, parts, whole) =
     let both = ap total_of (ap (weighed_of p) parts ∙ weighed_append p read (x ∷ rest) (whole (omega arith))) in
     omega (arith, both, total_both (weighed_of p read) (weighed_of p (x ∷ rest)))
 
-few_of_each : (p : Weighing) (inputs read : List (List ℕ)) → AllZip AreFirstLines inputs read → total_of (flat_map (weighed_of p) read) ≤ total_of (flat_map (weighed_of p) inputs)
+few_of_each : (p : Weighing) (inputs read : List (List ℕ)) → AllZip (AreFirstRecords (splits_of p)) inputs read → total_of (flat_map (weighed_of p) read) ≤ total_of (flat_map (weighed_of p) inputs)
 few_of_each p [] [] fronts = omega arith
 few_of_each p [] (r ∷ read) fronts = absurd fronts
 few_of_each p (bytes ∷ inputs) [] fronts = absurd fronts
 few_of_each p (bytes ∷ inputs) (r ∷ read) fronts =
     omega (arith, few_first p bytes r fronts.0, few_of_each p inputs read fronts.1, total_both (weighed_of p r) (flat_map (weighed_of p) read), total_both (weighed_of p bytes) (flat_map (weighed_of p) inputs))
 
-too_many : (old : Counter) (inputs : List (List ℕ)) → old.0.sketch.total ≡ 0 → FailsAmong Counts FailsCounting inputs old TooManyItems → 2 ^ 64 ≤ total_of (flat_map (weighed_of old.0.weighing) inputs)
+too_many : (old : Counter) (inputs : List (List ℕ)) → old.0.sketch.total ≡ 0 → FailsAmongBy (splits_of old.0.weighing) Counts FailsCounting inputs old TooManyItems → 2 ^ 64 ≤ total_of (flat_map (weighed_of old.0.weighing) inputs)
 too_many old inputs new f =
     let p : Weighing = old.0.weighing in
     let (added, same) = each_counted old f.mid f.read f.taken in
@@ -91,7 +91,7 @@ too_many old inputs new f =
 
 -- ---- a line without a weight
 
-bad_weight : (old : Counter) (inputs : List (List ℕ)) (found : BadWeight) → FailsAmong Counts FailsCounting inputs old (failures.BadWeight found) → 0 < length (flat_map (unweighed_of old.0.weighing) inputs)
+bad_weight : (old : Counter) (inputs : List (List ℕ)) (found : BadWeight) → FailsAmongBy (splits_of old.0.weighing) Counts FailsCounting inputs old (failures.BadWeight found) → 0 < length (flat_map (unweighed_of old.0.weighing) inputs)
 bad_weight old inputs found f =
     let p : Weighing = old.0.weighing in
     let (added, same) = each_counted old f.mid f.read f.taken in
@@ -101,7 +101,7 @@ bad_weight old inputs found f =
 
 -- ---- a failure
 
-taking_failed : (options : Options) (was : Option (List (List ℕ))) (old : Counter) (e : Failure) → old.0.sketch.total ≡ 0 → old.0.weighing ≡ options.weighing → FailsTakingInputs Counts FailsCounting was old e → FailsTop options was e
+taking_failed : (options : Options) (was : Option (List (List ℕ))) (old : Counter) (e : Failure) → old.0.sketch.total ≡ 0 → old.0.weighing ≡ options.weighing → FailsTakingInputsBy (splits_of old.0.weighing) Counts FailsCounting was old e → FailsTop options was e
 taking_failed options was old Memory new same f = tt
 taking_failed options was old LineTooLong new same f = absurd f.some.2
 taking_failed options None old TooManyItems new same f = tt
@@ -111,8 +111,8 @@ taking_failed options (Some inputs) old (failures.BadWeight found) new same f = 
 taking_failed options was old BadSize new same f = absurd f.some.2
 taking_failed options was old (Write error) new same f = tt
 
-pub count_failed : (options : Options) (was : Option (List (List ℕ))) (old : Counter) (e : Failure) → old.0.sketch.total ≡ 0 → old.0.weighing ≡ options.weighing → FailsInputs Counts FailsCounting (options.max_line + 1) was old e → FailsTop options was e
+pub count_failed : (options : Options) (was : Option (List (List ℕ))) (old : Counter) (e : Failure) → old.0.sketch.total ≡ 0 → old.0.weighing ≡ options.weighing → FailsInputsBy (splits_of old.0.weighing) Counts FailsCounting (options.max_line + 1) was old e → FailsTop options was e
 count_failed options was old e new same failed = ⊎_elim
     (λ memory. rw memory tt)
-    (λ other. ⊎_elim (λ long. rw long.0 long.1) (λ taking. taking_failed options was old e new same taking) other)
+    (λ other. ⊎_elim (λ long. rw long.0 (subst (λ (p : Weighing). IfSome was (HaveLongRecord (splits_of p) (options.max_line + 1))) same long.1)) (λ taking. taking_failed options was old e new same taking) other)
     failed

@@ -33,6 +33,7 @@ use Rattle.sketches.specs.declared.failure.Failure.TheVariants.{Memory, LineTooL
 use Rattle.sketches.specs.declared.item_weigher.ItemWeigher.{ItemWeigher}
 use Rattle.sketches.specs.declared.item_weigher.WeighedLine.{WeighedLine}
 use Rattle.sketches.specs.declared.key_weights.KeyWeights.{KeyWeights}
+use Rattle.sketches.specs.declared.records.Records.TheVariants.{Lines}
 use Rattle.sketches.specs.declared.selection.Part.{Part}
 use Rattle.sketches.specs.declared.weigh.WeighOptions.{WeighOptions}
 use Rattle.sketches.proofs.ReadInputs.{IsTaken, taken_one}
@@ -173,7 +174,7 @@ module _ {W : Type 0} (contents : W → Option (List ℕ)) where
   weights_written options None bytes complete failure made weigher weighed total held old new empty begin part weighs sum wrote sketch keys_part taken = tt
   weights_written options (Some inputs) None complete failure made weigher weighed total held old new empty begin part weighs sum wrote sketch keys_part taken = tt
   weights_written {E = E} options (Some inputs) (Some keys) complete failure made weigher weighed total held old new empty begin part (read, are, each) sum wrote sketch keys_part taken =
-      let one : IsTaken WritesKeys keys (failure ≡ None) old new = taken_one WritesKeys keys failure old new taken in
+      let one : IsTaken Lines WritesKeys keys (failure ≡ None) old new = taken_one Lines WritesKeys keys failure old new taken in
       let items : Weighed = weighed_in options.chosen read in
       let counts : CountsLines options.chosen made (flat_map lines read) weighed.0.sketch =
       subst (λ (p : WeighedLine). CountsLines p made (flat_map lines read) weighed.0.sketch) part (subst (λ (s : CountState). CountsLines weigher.0.chosen s (flat_map lines read) weighed.0.sketch) begin (each_weighed weigher weighed read each).0) in

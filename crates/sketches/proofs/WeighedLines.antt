@@ -6,7 +6,7 @@ use Rattle.std.proofs.lemmas.List.Concat.{flat_map-append}
 use Rattle.std.proofs.lemmas.List.Sums.{sum_by-cons}
 use Rattle.std.specs.Cmp.Lexicographic.{bytes_decides}
 use Rattle.std.specs.Global.{Global}
-use Rattle.std.specs.List.{flat_map}
+use Rattle.std.specs.List.{flat_map, slice_get}
 use Rattle.std.specs.String.{string_bytes, string_eq}
 use Rattle.std.specs.Prelude.{IsTrue, nat_lt}
 use Rattle.std.specs.Str.Lines.{lines}
@@ -26,8 +26,11 @@ use Rattle.sketches.specs.Added.{Sketch, AddsLine, AddsLines, AddsStrings, AddsW
 use Rattle.sketches.specs.Failures.{FailsAdding, FailsLine, FailsLines, FailsWeighing, IsBadWeight}
 use Rattle.sketches.specs.Faults.{failure_of}
 use Rattle.sketches.specs.Items.{items_of, items_of_raw_line, part_of}
-use Rattle.sketches.specs.Weighed.{Weighed, once, total_of, unweighed_of, unweighed_of_line, weighed_of, weighed_of_line, with_weight, without_weight}
-use Rattle.sketches.specs.Weights.{weight_in}
+use Rattle.sketches.specs.Weighed.{Weighed, csv_items, field_weight, once, records_of, total_of, unweighed_of, unweighed_of_line, weighed_of, weighed_of_line, with_weight, without_weight}
+use Rattle.sketches.specs.Weights.{number_in, weight_in}
+use Rattle.sketches.specs.declared.weighing.CsvPart.{CsvPart}
+use Rattle.sketch_base.specs.Csv.{field_at, text_of_field}
+use Rattle.std.specs.Option.{option_and_then}
 use Rattle.sketches.specs.WeighingLaws.{weighed_none, weighed_both, weighing_fails_more, weighing_fails_after}
 use Rattle.sketches.specs.declared.failure.Failure.{Failure}
 use Rattle.sketches.specs.declared.failure.Failure.TheVariants.{Memory, LineTooLong, TooManyItems, BadSize, Write}
@@ -119,19 +122,19 @@ weighed_lines_more chosen old mid new all left later line so next (more, weighed
 }
 
 -- all lines
-pub weighed_lines_all : (chosen : Weighing) (old new : Sketch) (bytes : List ℕ) (left : List (List ℕ)) → HasWeighedLines chosen old (lines bytes) left new → left ≡ [] → AddsLines chosen old bytes new
+pub weighed_lines_all : (chosen : Weighing) (old new : Sketch) (bytes : List ℕ) (left : List (List ℕ)) → HasWeighedLines chosen old (records_of chosen bytes) left new → left ≡ [] → AddsLines chosen old bytes new
 weighed_lines_all chosen old new bytes left so none =
-    let whole : so.done ≡ lines bytes = sym (so.parts ∙ (ap (λ (l : List (List ℕ)). so.done ++ l) none ∙ append-nil so.done)) in (
+    let whole : so.done ≡ records_of chosen bytes = sym (so.parts ∙ (ap (λ (l : List (List ℕ)). so.done ++ l) none ∙ append-nil so.done)) in (
       subst (λ (l : List (List ℕ)). AddsWeighed old (flat_map (weighed_of_line chosen) l) new) whole so.added,
       ap (flat_map (unweighed_of_line chosen)) (sym whole) ∙ so.weighed,
     )
 
 -- a failure at one more line
-pub weighed_lines_failed : (chosen : Weighing) (old mid : Sketch) (bytes : List ℕ) (left later : List (List ℕ)) (line : List ℕ) (e : Failure) → HasWeighedLines chosen old (lines bytes) left mid → left ≡ line ∷ later → FailsLine chosen mid line e → FailsLines chosen old bytes e
+pub weighed_lines_failed : (chosen : Weighing) (old mid : Sketch) (bytes : List ℕ) (left later : List (List ℕ)) (line : List ℕ) (e : Failure) → HasWeighedLines chosen old (records_of chosen bytes) left mid → left ≡ line ∷ later → FailsLine chosen mid line e → FailsLines chosen old bytes e
 weighed_lines_failed chosen old mid bytes left later line e so next f =
     let items : List ℕ → Weighed = weighed_of_line chosen in
     let bad : List ℕ → List (List ℕ) = unweighed_of_line chosen in
-    let parts : lines bytes ≡ so.done ++ line ∷ later = so.parts ∙ ap (λ (l : List (List ℕ)). so.done ++ l) next in
+    let parts : records_of chosen bytes ≡ so.done ++ line ∷ later = so.parts ∙ ap (λ (l : List (List ℕ)). so.done ++ l) next in
     let pairs : weighed_of chosen bytes ≡ flat_map items so.done ++ flat_map items (line ∷ later) = ap (flat_map items) parts ∙ flat_map-append items so.done (line ∷ later) in
     let unweighed : unweighed_of chosen bytes ≡ flat_map bad so.done ++ flat_map bad (line ∷ later) = ap (flat_map bad) parts ∙ flat_map-append bad so.done (line ∷ later) in
     subst (λ (l : Weighed). FailsWeighing old l (unweighed_of chosen bytes) e) (sym pairs)
@@ -162,6 +165,21 @@ total_with bytes weight = ⊎_elim
     (λ some. ap (λ (b : Bool). total_of (cond b ((bytes, weight) ∷ []) [])) (lt-ltb 0 weight some) ∙ (sum_by-cons (λ (pair : List ℕ × ℕ). pair.1) (bytes, weight) [] ∙ omega arith))
     (λ none. ap (λ (b : Bool). total_of (cond b ((bytes, weight) ∷ []) [])) (le-ltb 0 weight none) ∙ omega (arith, none))
     (cases_lt 0 weight)
+
+-- an item with a weight was added, unless the weight is 0
+pub item_added : (old new : Sketch) (item : List ℕ) (weight : ℕ) → (weight ≡ 0 → new ≡ old) → (0 < weight → StepsByKey string_eq old (names_string item) weight new) → (0 < weight → (x : String Global) → IsTrue (names_string item x) → Extends string_eq old new (λ h. Update h x weight))
+    → (0 < weight → (x : String Global) → IsTrue (names_string item x) → ExtendsBudget string_eq old new (λ h. Update h x weight)) → AddsWeighed old (with_weight (item ∷ []) (Some weight)) new
+item_added old new item weight zero step stands budget = ⊎_elim
+    (λ some. add_some old new item weight (lt-ltb 0 weight some) (step some) (stands some) (budget some))
+    (λ none. add_zero old new item weight (le-ltb 0 weight none) (zero (omega (arith, none))))
+    (cases_lt 0 weight)
+
+-- it was not added
+pub item_failed : (old : Sketch) (item : List ℕ) (weight : ℕ) (unweighed : List (List ℕ)) (e : ErrorValue) → (Overflows old weight → e ≡ invalid_argument WeightOverflow) → (TotalHasRoom old weight → e ≡ no_memory) → FailsWeighing old (with_weight (item ∷ []) (Some weight)) unweighed (failure_of e.fault)
+item_failed old item weight unweighed e overflow memory = ⊎_elim
+    (λ room. rw (memory room) tt)
+    (λ full. rw (overflow full) (omega (arith, full, total_with item weight)))
+    (cases_lt (old.total + weight) (2 ^ 64))
 
 module _ (part : WeighedPart) (line item : List ℕ) (weight : ℕ) (is : part_of part.item (utf8_lossy line) ≡ item ∷ []) (weighs : weight_in part.weight line ≡ Some weight) where
   of_line : weighed_of_line (weighing.Field part) line ≡ with_weight (item ∷ []) (Some weight)
@@ -213,3 +231,51 @@ line_without_weight part old line item (failures.BadWeight found) is none fails 
     let one : unweighed_of_line (weighing.Field part) line ≡ item ∷ [] = ap (without_weight (part_of part.item (utf8_lossy line))) (sym none) ∙ is in
     omega (arith, ap (λ (l : List (List ℕ)). length l) one)
 line_without_weight part old line item (Write error) is none fails = absurd fails
+
+-- ---- one record of CSV
+
+module _ (part : CsvPart) (row field : List ℕ) (is : field_at part.delimiter part.item row ≡ field ∷ []) where
+  csv_item : csv_items part row ≡ utf8_lossy (text_of_field field) ∷ []
+  csv_item = ap (λ (l : List (List ℕ)). map utf8_lossy (map text_of_field l)) is
+
+  module _ (weight : ℕ) (weighs : Some weight ≡ field_weight part.delimiter part.weight row) where
+    of_row : weighed_of_line (weighing.Csv part) row ≡ with_weight (utf8_lossy (text_of_field field) ∷ []) (Some weight)
+    of_row = ap (λ (l : List (List ℕ)). with_weight l (field_weight part.delimiter part.weight row)) csv_item ∙ ap (with_weight (utf8_lossy (text_of_field field) ∷ [])) (sym weighs)
+
+    row_weighed : unweighed_of_line (weighing.Csv part) row ≡ []
+    row_weighed = ap (without_weight (csv_items part row)) (sym weighs)
+
+    pub row_added : (old new : Sketch) → AddsWeighed old (with_weight (utf8_lossy (text_of_field field) ∷ []) (Some weight)) new → AddsLine (weighing.Csv part) old row new
+    row_added old new added = (subst (λ (l : Weighed). AddsWeighed old l new) (sym of_row) added, row_weighed)
+
+    pub row_failed : (old : Sketch) (e : Failure) → FailsWeighing old (with_weight (utf8_lossy (text_of_field field) ∷ []) (Some weight)) [] e → FailsLine (weighing.Csv part) old row e
+    row_failed old e f =
+        subst (λ (l : List (List ℕ)). FailsWeighing old (weighed_of_line (weighing.Csv part) row) l e) (sym row_weighed)
+        (subst (λ (l : Weighed). FailsWeighing old l [] e) (sym of_row) f)
+
+  -- a record has an item and no weight
+  pub row_without_weight : (old : Sketch) (e : Failure) → None ≡ field_weight part.delimiter part.weight row → IsBadWeight e → FailsLine (weighing.Csv part) old row e
+  row_without_weight old Memory none fails = tt
+  row_without_weight old LineTooLong none fails = absurd fails
+  row_without_weight old TooManyItems none fails = absurd fails
+  row_without_weight old BadSize none fails = absurd fails
+  row_without_weight old (failures.BadWeight found) none fails =
+      let one : unweighed_of_line (weighing.Csv part) row ≡ utf8_lossy (text_of_field field) ∷ [] = ap (without_weight (csv_items part row)) (sym none) ∙ csv_item in
+      omega (arith, ap (λ (l : List (List ℕ)). length l) one)
+  row_without_weight old (Write error) none fails = absurd fails
+
+-- a record has no item
+pub row_without_item : (part : CsvPart) (old : Sketch) (row : List ℕ) → field_at part.delimiter part.item row ≡ [] → AddsLine (weighing.Csv part) old row old
+row_without_item part old row none =
+    let items : csv_items part row ≡ [] = ap (λ (l : List (List ℕ)). map utf8_lossy (map text_of_field l)) none in (
+      subst (λ (l : Weighed). AddsWeighed old l old) (sym (ap (λ (l : List (List ℕ)). with_weight l (field_weight part.delimiter part.weight row)) items ∙ none_with (field_weight part.delimiter part.weight row))) (weighed_none old),
+      ap (λ (l : List (List ℕ)). without_weight l (field_weight part.delimiter part.weight row)) items ∙ none_without (field_weight part.delimiter part.weight row),
+    )
+
+-- the weight in a field
+pub field_weighs : (delimiter index : ℕ) (row field text : List ℕ) (weight : Option ℕ) → field_at delimiter index row ≡ field ∷ [] → text ≡ text_of_field field → weight ≡ number_in text → weight ≡ field_weight delimiter (Some index) row
+field_weighs delimiter index row field text weight is same number =
+    number ∙ (ap number_in same ∙ ap (λ (l : List (List ℕ)). option_and_then number_in (slice_get (map text_of_field l) 0)) (sym is))
+
+pub no_field_weighs : (delimiter index : ℕ) (row : List ℕ) → field_at delimiter index row ≡ [] → None ≡ field_weight delimiter (Some index) row
+no_field_weighs delimiter index row none = ap (λ (l : List (List ℕ)). option_and_then number_in (slice_get (map text_of_field l) 0)) (sym none)

@@ -8,6 +8,7 @@ use Rattle.std.specs.String.{string_bytes, string_eq}
 use Rattle.std.specs.declared.string.String.{String}
 use Rattle.sketch_base.specs.Split.{IsBehindLast, separates}
 use Rattle.sketch_base.specs.declared.separator.Separator.TheVariants.{LineFeed}
+use Rattle.sketch_base.proofs.CsvBoth.{csv_both}
 use Rattle.sketch_base.proofs.SplitEnds.{lines_split, none_behind_end}
 use Rattle.sketch_frequencies.specs.Batches.{all_updated}
 use Rattle.sketch_frequencies.specs.History.{FrequentHistory}
@@ -15,7 +16,10 @@ use Rattle.sketch_frequencies.specs.History.FrequentHistory.{Update}
 use Rattle.sketch_frequencies.specs.Stands.{StandsFor, KeepsTailBudget}
 use Rattle.sketches.specs.Added.{Sketch, AddsStrings}
 use Rattle.sketches.specs.Failures.{FailsAdding}
-use Rattle.sketches.specs.Reading.{AreWholeLines}
+use Rattle.sketches.specs.Reading.{AreWholeLines, AreWholeRecords}
+use Rattle.sketches.specs.Weighed.{records_in}
+use Rattle.sketches.specs.declared.records.Records.{Records}
+use Rattle.sketches.specs.declared.records.Records.TheVariants.{Lines, Csv}
 use Rattle.sketches.specs.declared.failure.Failure.{Failure}
 use Rattle.sketches.specs.declared.failure.Failure.TheVariants.{Memory, LineTooLong, TooManyItems, BadSize, BadWeight, Write}
 
@@ -64,3 +68,11 @@ lines_both read more whole =
     lines_split read (length read) (omega arith) (ends_behind_feed read whole) more
     ∙ (ap (λ l. lines l ++ lines (drop (length read) read ++ more)) (take_all (length read) read (omega arith))
     ∙ ap (λ l. lines read ++ lines (l ++ more)) (drop_all (length read) read (omega arith)))
+
+-- ---- records
+
+-- the records of whole records and of the bytes after them
+pub records_both : (records : Records) (read more : List ℕ) → AreWholeRecords records read → records_in records (read ++ more) ≡ records_in records read ++ records_in records more
+records_both Lines read more whole = lines_both read more whole
+records_both (Csv delimiter) [] more whole = refl
+records_both (Csv delimiter) (x ∷ read) more whole = csv_both delimiter (x ∷ read) more (whole (omega arith))

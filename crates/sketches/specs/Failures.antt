@@ -4,8 +4,8 @@ use Rattle.std.specs.List.{flat_map}
 use Rattle.sketch_bloom.specs.Sizes.{AreEnoughBitsRounded, IsLn2TimesWithin}
 use Rattle.sketch_frequencies.specs.Sizes.{size_fault}
 use Rattle.sketches.specs.Added.{Sketch}
-use Rattle.sketches.specs.Inputs.{HaveLongLine}
-use Rattle.sketches.specs.Weighed.{Weighed, total_of, unweighed_of, unweighed_of_line, weighed_of, weighed_of_line}
+use Rattle.sketches.specs.Inputs.{HaveLongLine, HaveLongRecord}
+use Rattle.sketches.specs.Weighed.{Weighed, splits_of, total_of, unweighed_of, unweighed_of_line, weighed_of, weighed_of_line}
 use Rattle.sketches.specs.declared.failure.Failure.{Failure}
 use Rattle.sketches.specs.declared.failure.Failure.TheVariants.{Memory, LineTooLong, TooManyItems, BadSize, BadWeight, Write}
 use Rattle.sketches.specs.declared.filter_size.FilterSize.{FilterSize}
@@ -50,7 +50,7 @@ FailsLine chosen old line failure = FailsWeighing old (weighed_of_line chosen li
 -- limit, the weights of all items are at least 2^64, a line with an item has no weight, or the size is not allowed.
 abbrev pub FailsTop : Options → Option (List (List ℕ)) → Failure → Type 0
 FailsTop options was Memory = Unit {0}
-FailsTop options was LineTooLong = IfSome was (HaveLongLine (options.max_line + 1))
+FailsTop options was LineTooLong = IfSome was (HaveLongRecord (splits_of options.weighing) (options.max_line + 1))
 FailsTop options was TooManyItems = IfSome was (λ inputs. 2 ^ 64 ≤ total_of (flat_map (weighed_of options.weighing) inputs))
 FailsTop options was (BadWeight found) = IfSome was (λ inputs. 0 < length (flat_map (unweighed_of options.weighing) inputs))
 FailsTop options was BadSize = IsSome (size_fault options.size)

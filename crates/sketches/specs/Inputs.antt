@@ -1,58 +1,80 @@
 -- What is taken of inputs that are opened one after another.
 use Rattle.std.specs.Prelude.{◌≡◌, ◌⊎◌, ℕ, Bool, true, List, [], ◌∷◌, ◌++◌, Option, Some, IfSome, MatchOption}
 use Rattle.std.specs.List.{AllZip}
-use Rattle.sketches.specs.Reading.{AreFirstLines, HasLongLine}
+use Rattle.sketches.specs.Reading.{AreFirstRecords, HasLongRecord}
 use Rattle.sketches.specs.declared.failure.Failure.{Failure}
 use Rattle.sketches.specs.declared.failure.Failure.TheVariants.{Memory, LineTooLong}
+use Rattle.sketches.specs.declared.records.Records.{Records}
+use Rattle.sketches.specs.declared.records.Records.TheVariants.{Lines}
 
 -- the next input was opened, and is left no more; or none is left
 abbrev pub OpensNext : {R : Type 0} → (R → Option (List ℕ)) → Option (List (List ℕ)) → Option (List (List ℕ)) → Option R → Type 0
 OpensNext remaining was is next = IfSome was (λ inputs. MatchOption next (inputs ≡ []) (λ reader.
     (bytes : List ℕ) × (later : List (List ℕ)) × (inputs ≡ bytes ∷ later) × (remaining reader ≡ Some bytes) × (is ≡ Some later)))
 
--- what was read of each input: the first lines of each, and all of them if no read failed
-pub record AreRead (complete : Bool) (inputs read : List (List ℕ)) : Type 0 where
-  pub fronts : AllZip AreFirstLines inputs read
+-- what was read of each input: the first records of each, and all of them if no read failed
+pub record AreReadBy (records : Records) (complete : Bool) (inputs read : List (List ℕ)) : Type 0 where
+  pub fronts : AllZip (AreFirstRecords records) inputs read
   pub whole : complete ≡ true → read ≡ inputs
 
--- one of the inputs has a line of at least `limit` bytes
-pub record HaveLongLine (limit : ℕ) (inputs : List (List ℕ)) : Type 0 where
+-- one of the inputs has a record of at least `limit` bytes
+pub record HaveLongRecord (records : Records) (limit : ℕ) (inputs : List (List ℕ)) : Type 0 where
   pub earlier : List (List ℕ)
   pub input : List ℕ
   pub later : List (List ℕ)
   pub parts : inputs ≡ earlier ++ input ∷ later
-  pub long : HasLongLine limit input
+  pub long : HasLongRecord records limit input
 
 module _ {S : Type 0} (takes : S → List ℕ → S → Type 0) where
-  -- the lines of each list were taken, in order
+  -- the records of each list were taken, in order
   abbrev pub TakesEach : S → List (List ℕ) → S → Type 0
   TakesEach old [] new = new ≡ old
   TakesEach old (bytes ∷ later) new = (mid : S) × takes old bytes mid × TakesEach mid later new
 
-  -- the lines of what was read of each input were taken
-  abbrev pub TakesInputs : Option (List (List ℕ)) → Bool → (old new : S) → Type 0
-  TakesInputs was complete old new = IfSome was (λ inputs.
-      (read : List (List ℕ)) × AreRead complete inputs read × TakesEach old read new)
+module _ (records : Records) {S : Type 0} (takes : S → List ℕ → S → Type 0) where
+  -- the records of what was read of each input were taken
+  abbrev pub TakesInputsBy : Option (List (List ℕ)) → Bool → (old new : S) → Type 0
+  TakesInputsBy was complete old new = IfSome was (λ inputs.
+      (read : List (List ℕ)) × AreReadBy records complete inputs read × TakesEach takes old read new)
 
   module _ (fails : S → List ℕ → Failure → Type 0) where
-    -- the failure may come while the lines of an input are taken, after those of what was read of the inputs before
-    pub record FailsAmong (inputs : List (List ℕ)) (old : S) (failure : Failure) : Type 0 where
+    -- the failure may come while the records of an input are taken, after those of what was read of the inputs before
+    pub record FailsAmongBy (inputs : List (List ℕ)) (old : S) (failure : Failure) : Type 0 where
       pub earlier : List (List ℕ)
       pub input : List ℕ
       pub later : List (List ℕ)
       pub parts : inputs ≡ earlier ++ input ∷ later
       pub read : List (List ℕ)
-      pub fronts : AllZip AreFirstLines earlier read
+      pub fronts : AllZip (AreFirstRecords records) earlier read
       pub mid : S
-      pub taken : TakesEach old read mid
+      pub taken : TakesEach takes old read mid
       pub reason : fails mid input failure
 
-    -- the failure may come while lines are taken, and while those of these inputs are, if they are known
-    pub record FailsTakingInputs (was : Option (List (List ℕ))) (old : S) (failure : Failure) : Type 0 where
+    -- the failure may come while records are taken, and while those of these inputs are, if they are known
+    pub record FailsTakingInputsBy (was : Option (List (List ℕ))) (old : S) (failure : Failure) : Type 0 where
       pub some : (s : S) × (bytes : List ℕ) × fails s bytes failure
-      pub known : IfSome was (λ inputs. FailsAmong inputs old failure)
+      pub known : IfSome was (λ inputs. FailsAmongBy inputs old failure)
 
-    -- no memory, a line of at least `limit` bytes, or a failure while lines are taken
-    abbrev pub FailsInputs : ℕ → Option (List (List ℕ)) → S → Failure → Type 0
-    FailsInputs limit was old failure =
-        (failure ≡ Memory) ⊎ (((failure ≡ LineTooLong) × IfSome was (HaveLongLine limit)) ⊎ FailsTakingInputs was old failure)
+    -- no memory, a record of at least `limit` bytes, or a failure while records are taken
+    abbrev pub FailsInputsBy : ℕ → Option (List (List ℕ)) → S → Failure → Type 0
+    FailsInputsBy limit was old failure =
+        (failure ≡ Memory) ⊎ (((failure ≡ LineTooLong) × IfSome was (HaveLongRecord records limit)) ⊎ FailsTakingInputsBy was old failure)
+
+-- the same of lines
+abbrev pub AreRead : Bool → (inputs read : List (List ℕ)) → Type 0
+AreRead complete inputs read = AreReadBy Lines complete inputs read
+
+abbrev pub HaveLongLine : ℕ → List (List ℕ) → Type 0
+HaveLongLine limit inputs = HaveLongRecord Lines limit inputs
+
+abbrev pub TakesInputs : {S : Type 0} → (S → List ℕ → S → Type 0) → Option (List (List ℕ)) → Bool → (old new : S) → Type 0
+TakesInputs takes was complete old new = TakesInputsBy Lines takes was complete old new
+
+abbrev pub FailsAmong : {S : Type 0} → (S → List ℕ → S → Type 0) → (S → List ℕ → Failure → Type 0) → List (List ℕ) → S → Failure → Type 0
+FailsAmong takes fails inputs old failure = FailsAmongBy Lines takes fails inputs old failure
+
+abbrev pub FailsTakingInputs : {S : Type 0} → (S → List ℕ → S → Type 0) → (S → List ℕ → Failure → Type 0) → Option (List (List ℕ)) → S → Failure → Type 0
+FailsTakingInputs takes fails was old failure = FailsTakingInputsBy Lines takes fails was old failure
+
+abbrev pub FailsInputs : {S : Type 0} → (S → List ℕ → S → Type 0) → (S → List ℕ → Failure → Type 0) → ℕ → Option (List (List ℕ)) → S → Failure → Type 0
+FailsInputs takes fails limit was old failure = FailsInputsBy Lines takes fails limit was old failure

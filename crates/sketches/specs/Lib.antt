@@ -22,6 +22,7 @@ pub mod Reading
 pub mod Reports
 pub mod SaveFailures
 pub mod Shown
+pub mod TextEscapes
 pub mod Thresholds
 pub mod Unseen
 pub mod UnseenLaws

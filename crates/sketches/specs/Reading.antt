@@ -1,27 +1,59 @@
--- What is taken of the bytes of an input, line by line.
+-- What is taken of the bytes of an input, record by record.
 use Rattle.std.specs.Prelude.{◌≡◌, ℕ, ◌+◌, ◌-◌, ◌<◌, ◌≤◌, ◌⊎◌, false, List, ◌++◌, length, take, drop, slice_index, All, Option, IfSome, MatchOption, Result, MatchResult}
 use Rattle.std.specs.Io.KnownBytes.{Consumes, IsAtEnd, Keeps}
-use Rattle.sketch_base.specs.Split.{separates}
+use Rattle.sketch_base.specs.Csv.{EndsRecord, IsBehindLastEnd, IsInOneRecord, place_after}
+use Rattle.sketch_base.specs.Split.{IsBehindLast, separates}
+use Rattle.sketch_base.specs.declared.place.Place.{Place}
+use Rattle.sketch_base.specs.declared.place.Place.TheVariants.{Start}
 use Rattle.sketch_base.specs.declared.separator.Separator.TheVariants.{LineFeed}
 use Rattle.sketches.specs.declared.failure.Failure.{Failure}
 use Rattle.sketches.specs.declared.failure.Failure.TheVariants.{Memory, LineTooLong}
+use Rattle.sketches.specs.declared.records.Records.{Records}
+use Rattle.sketches.specs.declared.records.Records.TheVariants.{Lines, Csv}
 
 -- these bytes are whole lines: none, or the last is a line feed
 abbrev pub AreWholeLines : List ℕ → Type 0
 AreWholeLines bytes = 0 < length bytes → slice_index bytes (length bytes - 1) ≡ 10
 
--- these bytes are the first lines of an input: all of it, or whole lines
+-- these bytes are whole records: whole lines, or for CSV none, or the last of them ends a record
+abbrev pub AreWholeRecords : Records → List ℕ → Type 0
+AreWholeRecords Lines bytes = AreWholeLines bytes
+AreWholeRecords (Csv delimiter) bytes = 0 < length bytes → EndsRecord delimiter Start bytes
+
+-- these bytes are the first records of an input: all of it, or whole records
+abbrev pub AreFirstRecords : Records → List ℕ → List ℕ → Type 0
+AreFirstRecords records bytes read = (rest : List ℕ) × (bytes ≡ read ++ rest) × (0 < length rest → AreWholeRecords records read)
+
 abbrev pub AreFirstLines : List ℕ → List ℕ → Type 0
-AreFirstLines bytes read = (rest : List ℕ) × (bytes ≡ read ++ rest) × (0 < length rest → AreWholeLines read)
+AreFirstLines bytes read = AreFirstRecords Lines bytes read
 
 -- none of these bytes is a line feed
 abbrev pub IsInOneLine : List ℕ → Type 0
 IsInOneLine bytes = All (λ byte. separates LineFeed byte ≡ false) bytes
 
--- a line has at least `limit` bytes before its line feed or the end
+-- none of these bytes, from this place in a field on, ends a record
+abbrev pub IsInOne : Records → Place → List ℕ → Type 0
+IsInOne Lines place bytes = IsInOneLine bytes
+IsInOne (Csv delimiter) place bytes = IsInOneRecord delimiter place bytes
+
+-- the place in a field after bytes, which matters for CSV
+abbrev pub place_of : Records → Place → List ℕ → Place
+place_of Lines place bytes = Start
+place_of (Csv delimiter) place bytes = place_after delimiter place bytes
+
+-- the index is behind the last end of a record among bytes that begin at this place, or it is 0 and there is none
+abbrev pub IsBehindEnd : Records → Place → List ℕ → ℕ → Type 0
+IsBehindEnd Lines place bytes at = IsBehindLast (separates LineFeed) bytes at
+IsBehindEnd (Csv delimiter) place bytes at = IsBehindLastEnd delimiter place bytes at
+
+-- after whole records, a record has at least `limit` bytes before its line feed or the end
+abbrev pub HasLongRecord : Records → ℕ → List ℕ → Type 0
+HasLongRecord records limit bytes =
+    (before line after : List ℕ) × (bytes ≡ before ++ (line ++ after)) × AreWholeRecords records before × (limit ≤ length line)
+    × IsInOne records Start line
+
 abbrev pub HasLongLine : ℕ → List ℕ → Type 0
-HasLongLine limit bytes =
-    (before line after : List ℕ) × (bytes ≡ before ++ (line ++ after)) × (limit ≤ length line) × IsInOneLine line
+HasLongLine limit bytes = HasLongRecord Lines limit bytes
 
 -- a read put bytes after the first `held` ones of the buffer, was interrupted, or failed. If it put none, the input is at its end
 abbrev pub Fills : {E : Type 0} → Option (List ℕ) → Option (List ℕ) → ℕ → List ℕ → List ℕ → Result (Option ℕ) E → Type 0
@@ -31,39 +63,47 @@ Fills was is held old new result =
     × Consumes was is (take count (drop held new)) × (count ≡ 0 → IsAtEnd is)))
     (λ _. Keeps was is)
 
--- `takes old bytes new`: the bytes of lines were taken between two states
-module _ {S : Type 0} (takes : S → List ℕ → S → Type 0) where
-  -- the lines of an input were taken. If a read failed, they are the lines that were read whole before
-  abbrev pub TakesInput : {E : Type 0} → Option (List ℕ) → Option E → (old new : S) → Type 0
-  TakesInput input failure old new =
+-- `takes old bytes new`: the bytes of records were taken between two states
+module _ (records : Records) {S : Type 0} (takes : S → List ℕ → S → Type 0) where
+  -- the records of an input were taken. If a read failed, they are the records that were read whole before
+  abbrev pub TakesInputBy : {E : Type 0} → Option (List ℕ) → Option E → (old new : S) → Type 0
+  TakesInputBy input failure old new =
       IfSome input (λ bytes. MatchOption failure (takes old bytes new)
-      (λ _. (read : List ℕ) × AreFirstLines bytes read × takes old read new))
+      (λ _. (read : List ℕ) × AreFirstRecords records bytes read × takes old read new))
 
-  -- whole lines of these bytes were taken, and the bytes after them, which are in one line, are at the front of the buffer
-  pub record TakesLines (old new : S) (bytes buffer : List ℕ) (kept : ℕ) : Type 0 where
+  -- whole records of these bytes were taken, and the bytes after them, which are in one record, are at the front of the buffer
+  pub record TakesRecords (old new : S) (bytes buffer : List ℕ) (kept : ℕ) (place : Place) : Type 0 where
     pub within : kept ≤ length buffer
     pub taken : List ℕ
     pub parts : bytes ≡ taken ++ take kept buffer
-    pub whole : AreWholeLines taken
+    pub whole : AreWholeRecords records taken
     pub change : takes old taken new
-    pub rest : IsInOneLine (take kept buffer)
+    pub rest : IsInOne records Start (take kept buffer)
+    pub place_is : place ≡ place_of records Start (take kept buffer)
 
--- `fails old bytes failure`: the failure may come while the bytes of lines are taken
-module _ {S : Type 0} (fails : S → List ℕ → Failure → Type 0) where
-  -- the failure may come while the first of these bytes are taken, which are whole lines
+-- `fails old bytes failure`: the failure may come while the bytes of records are taken
+module _ (records : Records) {S : Type 0} (fails : S → List ℕ → Failure → Type 0) where
+  -- the failure may come while the first of these bytes are taken, which are whole records
   pub record FailsWithin (old : S) (bytes : List ℕ) (failure : Failure) : Type 0 where
     pub taken : List ℕ
     pub rest : List ℕ
     pub parts : bytes ≡ taken ++ rest
-    pub whole : AreWholeLines taken
+    pub whole : AreWholeRecords records taken
     pub reason : fails old taken failure
 
-  -- the failure may come while lines are taken, and while those of this input are, if it is known
+  -- the failure may come while records are taken, and while those of this input are, if it is known
   pub record FailsTaking (input : Option (List ℕ)) (old : S) (failure : Failure) : Type 0 where
     pub some : (s : S) × (bytes : List ℕ) × fails s bytes failure
     pub known : IfSome input (λ bytes. fails old bytes failure)
 
-  -- no memory, a line of at least `limit` bytes, or a failure while lines are taken
-  abbrev pub FailsInput : ℕ → Option (List ℕ) → S → Failure → Type 0
-  FailsInput limit input old failure =
-      (failure ≡ Memory) ⊎ (((failure ≡ LineTooLong) × IfSome input (HasLongLine limit)) ⊎ FailsTaking input old failure)
+  -- no memory, a record of at least `limit` bytes, or a failure while records are taken
+  abbrev pub FailsInputBy : ℕ → Option (List ℕ) → S → Failure → Type 0
+  FailsInputBy limit input old failure =
+      (failure ≡ Memory) ⊎ (((failure ≡ LineTooLong) × IfSome input (HasLongRecord records limit)) ⊎ FailsTaking input old failure)
+
+-- the same of lines
+abbrev pub TakesInput : {S E : Type 0} → (S → List ℕ → S → Type 0) → Option (List ℕ) → Option E → (old new : S) → Type 0
+TakesInput takes input failure old new = TakesInputBy Lines takes input failure old new
+
+abbrev pub FailsInput : {S : Type 0} → (S → List ℕ → Failure → Type 0) → ℕ → Option (List ℕ) → S → Failure → Type 0
+FailsInput fails limit input old failure = FailsInputBy Lines fails limit input old failure

@@ -5,7 +5,6 @@ use Rattle.std.specs.Global.{Global}
 use Rattle.std.specs.Io.KnownBytes.{Appends}
 use Rattle.std.specs.List.{flat_map, list_any, IsDistinct}
 use Rattle.std.specs.Str.{bytes_eq}
-use Rattle.std.specs.Str.Lines.{lines}
 use Rattle.std.specs.String.{string_bytes, string_eq}
 use Rattle.std.specs.declared.string.String.{String}
 use Rattle.sketch_frequencies.specs.RowValue.{RowValue}
@@ -14,14 +13,15 @@ use Rattle.sketch_frequencies.specs.State.{capacity}
 use Rattle.sketch_frequencies.specs.SuggestedSizes.{usual_budget}
 use Rattle.sketch_frequencies.specs.declared.error_type.ErrorType.TheVariants.{NoFalseNegatives}
 use Rattle.sketches.specs.Added.{Sketch}
-use Rattle.sketches.specs.Inputs.{AreRead}
+use Rattle.sketches.specs.Inputs.{AreReadBy}
 use Rattle.sketches.specs.Json.{json_escaped}
+use Rattle.sketches.specs.TextEscapes.{text_escaped}
 use Rattle.sketches.specs.Thresholds.{IsAbove}
 use Rattle.sketches.specs.Utf8Lines.{not_utf8_in}
-use Rattle.sketches.specs.Weighed.{Weighed, total_of, unweighed_of, weight_of, weighed_of}
+use Rattle.sketches.specs.Weighed.{Weighed, records_of, splits_of, total_of, unweighed_of, weight_of, weighed_of}
 use Rattle.sketches.specs.declared.layout.Layout.{Layout}
 use Rattle.sketches.specs.declared.layout.Style.{Style}
-use Rattle.sketches.specs.declared.layout.Style.TheVariants.{Plain, Json}
+use Rattle.sketches.specs.declared.layout.Style.TheVariants.{Plain, Escaped, Json}
 use Rattle.sketches.specs.declared.threshold.Threshold.{Threshold}
 use Rattle.sketches.specs.declared.top.Options.{Options}
 use Rattle.sketches.specs.declared.top.Summary.{Summary}
@@ -33,6 +33,7 @@ Row = RowValue (String Global)
 -- the line of the error and the weight of all items
 abbrev pub header_in : Style → ℕ → ℕ → List ℕ
 header_in Plain error total = codes "# error " ++ decimal error ++ codes " of " ++ decimal total ++ codes "\n"
+header_in Escaped error total = codes "# error " ++ decimal error ++ codes " of " ++ decimal total ++ codes "\n"
 header_in Json error total = codes "{\"error\":" ++ decimal error ++ codes ",\"total\":" ++ decimal total ++ codes "}\n"
 
 -- the first line, if it is wanted
@@ -56,6 +57,7 @@ json_numbers false row =
 -- the line of a row
 abbrev pub row_line : (exact : Bool) → Style → Row → List ℕ
 row_line exact Plain row = plain_numbers exact row ++ string_bytes row.item ++ codes "\n"
+row_line exact Escaped row = plain_numbers exact row ++ text_escaped (string_bytes row.item) ++ codes "\n"
 row_line exact Json row = json_numbers exact row ++ json_escaped (string_bytes row.item) ++ codes "\"}\n"
 
 -- the header and the lines of the rows
@@ -102,12 +104,12 @@ pub record ShowsTop (s : Sketch) (layout : Layout) (threshold : Threshold) (coun
   pub descends : Descends rows
   pub misses : MissesNone string_eq floor s rows
 
--- The writer received a report on the items of what was read of the inputs, whose lines all have weights. If exact numbers are
--- wanted, the error is 0. The summary has the number of these lines that are not UTF-8.
+-- The writer received a report on the items of what was read of the inputs, whose records all have weights. If exact numbers are
+-- wanted, the error is 0. The summary has the number of these records that are not UTF-8.
 abbrev pub WritesReport : Options → Option (List (List ℕ)) → Summary → Option (List ℕ) → Option (List ℕ) → Type 0
 WritesReport options inputs summary held holds = IfSome inputs (λ all.
-    (read : List (List ℕ)) × (error : ℕ) × (rows : List Row) × AreRead summary.complete all read
-    × (summary.not_utf8 ≡ min (not_utf8_in (flat_map lines read)) (2 ^ 64 - 1))
+    (read : List (List ℕ)) × (error : ℕ) × (rows : List Row) × AreReadBy (splits_of options.weighing) summary.complete all read
+    × (summary.not_utf8 ≡ min (not_utf8_in (flat_map (records_of options.weighing) read)) (2 ^ 64 - 1))
     × (flat_map (unweighed_of options.weighing) read ≡ [])
     × Appends held holds (report_text options.layout error (total_of (flat_map (weighed_of options.weighing) read)) rows)
     × Reports (flat_map (weighed_of options.weighing) read) options.size options.threshold options.rows error rows

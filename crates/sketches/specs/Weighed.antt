@@ -1,11 +1,16 @@
--- The items of lines with their weights.
+-- The items of records with their weights.
 use Rattle.std.specs.Prelude.{ℕ, nat_lt, List, [], map, sum_by, Option, Some, None, if◌then◌else◌}
-use Rattle.std.specs.List.{flat_map}
+use Rattle.std.specs.List.{flat_map, slice_get}
+use Rattle.std.specs.Option.{option_and_then}
 use Rattle.std.specs.Str.{bytes_eq}
 use Rattle.std.specs.Str.Lines.{lines}
 use Rattle.std.specs.Str.Lossy.{utf8_lossy}
+use Rattle.sketch_base.specs.Csv.{csv_records, field_text}
 use Rattle.sketches.specs.Items.{items_of_raw_line, part_of}
-use Rattle.sketches.specs.Weights.{weight_in}
+use Rattle.sketches.specs.Weights.{number_in, weight_in}
+use Rattle.sketches.specs.declared.records.Records.{Records}
+use Rattle.sketches.specs.declared.records.Records.TheVariants as records
+use Rattle.sketches.specs.declared.weighing.CsvPart.{CsvPart}
 use Rattle.sketches.specs.declared.weighing.Weighing.{Weighing}
 use Rattle.sketches.specs.declared.weighing.Weighing.TheVariants as weighing
 
@@ -35,20 +40,46 @@ abbrev pub without_weight : List (List ℕ) → Option ℕ → List (List ℕ)
 without_weight items None = items
 without_weight items (Some weight) = []
 
--- the items of a line with their weights. An item of weight 0 is left out
+-- how inputs are split into records
+abbrev pub splits_of : Weighing → Records
+splits_of (weighing.Once chosen) = records.Lines
+splits_of (weighing.Field part) = records.Lines
+splits_of (weighing.Csv part) = records.Csv part.delimiter
+
+-- the records of an input
+abbrev pub records_in : Records → List ℕ → List (List ℕ)
+records_in records.Lines bytes = lines bytes
+records_in (records.Csv delimiter) bytes = csv_records delimiter bytes
+
+abbrev pub records_of : Weighing → List ℕ → List (List ℕ)
+records_of chosen bytes = records_in (splits_of chosen) bytes
+
+-- the weight of a record of CSV: 1, or the number below 2^64 that the text of a field spells, if the record has this field and it
+-- spells one
+abbrev pub field_weight : (delimiter : ℕ) → Option ℕ → List ℕ → Option ℕ
+field_weight delimiter None row = Some 1
+field_weight delimiter (Some index) row = option_and_then number_in (slice_get (field_text delimiter index row) 0)
+
+-- the item of a record of CSV: the text of a field, with U+FFFD for bytes that are not UTF-8, if the record has this field
+abbrev pub csv_items : CsvPart → List ℕ → List (List ℕ)
+csv_items part row = map utf8_lossy (field_text part.delimiter part.item row)
+
+-- the items of a record with their weights. An item of weight 0 is left out
 abbrev pub weighed_of_line : Weighing → List ℕ → Weighed
 weighed_of_line (weighing.Once chosen) line = once (items_of_raw_line chosen line)
 weighed_of_line (weighing.Field part) line = with_weight (part_of part.item (utf8_lossy line)) (weight_in part.weight line)
+weighed_of_line (weighing.Csv part) row = with_weight (csv_items part row) (field_weight part.delimiter part.weight row)
 
--- the items of a line that has no weight
+-- the items of a record that has no weight
 abbrev pub unweighed_of_line : Weighing → List ℕ → List (List ℕ)
 unweighed_of_line (weighing.Once chosen) line = []
 unweighed_of_line (weighing.Field part) line = without_weight (part_of part.item (utf8_lossy line)) (weight_in part.weight line)
+unweighed_of_line (weighing.Csv part) row = without_weight (csv_items part row) (field_weight part.delimiter part.weight row)
 
--- the items of an input with their weights: those of each of its lines
+-- the items of an input with their weights: those of each of its records
 abbrev pub weighed_of : Weighing → List ℕ → Weighed
-weighed_of chosen bytes = flat_map (weighed_of_line chosen) (lines bytes)
+weighed_of chosen bytes = flat_map (weighed_of_line chosen) (records_of chosen bytes)
 
--- the items of the lines of an input that have no weight
+-- the items of the records of an input that have no weight
 abbrev pub unweighed_of : Weighing → List ℕ → List (List ℕ)
-unweighed_of chosen bytes = flat_map (unweighed_of_line chosen) (lines bytes)
+unweighed_of chosen bytes = flat_map (unweighed_of_line chosen) (records_of chosen bytes)

@@ -5,7 +5,6 @@ use Rattle.std.proofs.lemmas.List.Concat.{flat_map-append}
 use Rattle.std.proofs.lemmas.List.Sums.{sum_by-append}
 use Rattle.std.specs.Global.{Global}
 use Rattle.std.specs.List.{flat_map}
-use Rattle.std.specs.Str.Lines.{lines}
 use Rattle.std.specs.String.{string_bytes, string_eq}
 use Rattle.std.specs.declared.string.String.{String}
 use Rattle.sketch_frequencies.specs.History.{FrequentHistory}
@@ -13,13 +12,14 @@ use Rattle.sketch_frequencies.specs.History.FrequentHistory.{Update}
 use Rattle.sketch_frequencies.specs.Stands.{StandsFor, KeepsTailBudget}
 use Rattle.sketch_frequencies.specs.WeightedBatches.{all_weighed}
 use Rattle.sketches.specs.Added.{Sketch, AddsLines, AddsWeighed}
-use Rattle.sketches.specs.AddingLaws.{lines_both}
+use Rattle.sketches.specs.AddingLaws.{records_both}
 use Rattle.sketches.specs.Failures.{FailsLines, FailsWeighing}
-use Rattle.sketches.specs.Reading.{AreWholeLines}
-use Rattle.sketches.specs.Weighed.{Weighed, total_of, unweighed_of, unweighed_of_line, weighed_of, weighed_of_line}
+use Rattle.sketches.specs.Reading.{AreWholeRecords}
+use Rattle.sketches.specs.Weighed.{Weighed, records_of, splits_of, total_of, unweighed_of, unweighed_of_line, weighed_of, weighed_of_line}
 use Rattle.sketches.specs.declared.failure.Failure.{Failure}
 use Rattle.sketches.specs.declared.failure.Failure.TheVariants.{Memory, LineTooLong, TooManyItems, BadSize, BadWeight, Write}
 use Rattle.sketches.specs.declared.weighing.Weighing.{Weighing}
+use Rattle.sketches.specs.declared.weighing.Weighing.TheVariants as weighing
 
 -- ---- weights
 
@@ -63,16 +63,22 @@ weighing_fails_after a b xs ys us vs BadSize s f = f
 weighing_fails_after a b xs ys us vs (BadWeight found) s f = omega (arith, f, length-append us vs)
 weighing_fails_after a b xs ys us vs (Write error) s f = f
 
--- ---- the items of lines
+-- ---- the items of records
 
--- the items of whole lines and of the bytes after them
-pub weighed_append : (chosen : Weighing) (read more : List ℕ) → AreWholeLines read → weighed_of chosen (read ++ more) ≡ weighed_of chosen read ++ weighed_of chosen more
-weighed_append chosen read more whole = ap (flat_map (weighed_of_line chosen)) (lines_both read more whole) ∙ flat_map-append (weighed_of_line chosen) (lines read) (lines more)
+-- no records
+pub lines_added_none : (chosen : Weighing) (a : Sketch) → AddsLines chosen a [] a
+lines_added_none (weighing.Once selection) a = (weighed_none a, refl)
+lines_added_none (weighing.Field part) a = (weighed_none a, refl)
+lines_added_none (weighing.Csv part) a = (weighed_none a, refl)
 
-pub unweighed_append : (chosen : Weighing) (read more : List ℕ) → AreWholeLines read → unweighed_of chosen (read ++ more) ≡ unweighed_of chosen read ++ unweighed_of chosen more
-unweighed_append chosen read more whole = ap (flat_map (unweighed_of_line chosen)) (lines_both read more whole) ∙ flat_map-append (unweighed_of_line chosen) (lines read) (lines more)
+-- the items of whole records and of the bytes after them
+pub weighed_append : (chosen : Weighing) (read more : List ℕ) → AreWholeRecords (splits_of chosen) read → weighed_of chosen (read ++ more) ≡ weighed_of chosen read ++ weighed_of chosen more
+weighed_append chosen read more whole = ap (flat_map (weighed_of_line chosen)) (records_both (splits_of chosen) read more whole) ∙ flat_map-append (weighed_of_line chosen) (records_of chosen read) (records_of chosen more)
 
-module _ (p : Weighing) (xs ys : List ℕ) (whole : AreWholeLines xs) where
+pub unweighed_append : (chosen : Weighing) (read more : List ℕ) → AreWholeRecords (splits_of chosen) read → unweighed_of chosen (read ++ more) ≡ unweighed_of chosen read ++ unweighed_of chosen more
+unweighed_append chosen read more whole = ap (flat_map (unweighed_of_line chosen)) (records_both (splits_of chosen) read more whole) ∙ flat_map-append (unweighed_of_line chosen) (records_of chosen read) (records_of chosen more)
+
+module _ (p : Weighing) (xs ys : List ℕ) (whole : AreWholeRecords (splits_of p) xs) where
   pub lines_added_both : (a b c : Sketch) (q r : Weighing) → AddsLines p a xs b × (q ≡ p) → AddsLines q b ys c × (r ≡ q) → AddsLines p a (xs ++ ys) c × (r ≡ p)
   lines_added_both a b c q r (first, same) (second, same') =
       let (added, weighed) = subst (λ (s : Weighing). AddsLines s b ys c) same second in (

@@ -1,4 +1,4 @@
-//! Counts the items of lines.
+//! Counts the items of records.
 ghost use Rattle.std.specs.Prelude.{◌≡◌, refl, [], ◌∷◌, IfErr, OnOk};
 ghost use Rattle.std.specs.Str.{IsUtf8};
 ghost use Rattle.std.specs.Str.Lines.{lines};
@@ -8,9 +8,11 @@ ghost use Rattle.sketches.specs.Failures.{FailsAdding, FailsLines};
 ghost use Rattle.sketches.specs.Items.{items_of, items_of_line, items_of_raw_line};
 ghost use Rattle.sketches.specs.Utf8Lines.{GrowsBy, not_utf8_in};
 
+use crate::csv_items::add_csv_records;
 use crate::failure::Failure;
 use crate::line_sink::LineSink;
 use crate::raw_lines::next_raw_line;
+use crate::records::Records;
 use crate::selection::{Selection, part_of};
 use crate::utf8_lines::str_of;
 use crate::weighed_lines::add_weighed_lines;
@@ -19,14 +21,14 @@ use sketch_base::{Lines, Strings, Words, from_utf8};
 use sketch_frequencies::FrequentItemsSketch;
 use std::alloc::{AllocError, Global};
 
-/// Adds the items of the lines that it takes, with their weights.
+/// Adds the items of the records that it takes, with their weights.
 #[derive(Drop)]
 pub struct ItemCounter {
     pub sketch: FrequentItemsSketch<String>,
     pub weighing: Weighing,
-    /// The number of lines of this input that were taken, if weights stand in the lines.
+    /// The number of records of this input that were taken, if weights stand in them.
     pub count: u64,
-    /// The number of lines that are not UTF-8, at most `u64::MAX`.
+    /// The number of records that are not UTF-8, at most `u64::MAX`.
     pub not_utf8: u64,
 }
 
@@ -40,26 +42,36 @@ impl ItemCounter {
 }
 
 impl LineSink<()> for ItemCounter {
-    ghost use Rattle.sketches.specs.WeighingLaws.{weighed_none, lines_added_both, lines_fail_sooner, lines_fail_later};
-    ghost use Rattle.sketches.specs.Utf8LineLaws.{grows_none, grows_both};
+    ghost use Rattle.sketches.specs.WeighingLaws.{lines_added_none, lines_added_both, lines_fail_sooner, lines_fail_later};
+    ghost use Rattle.sketches.specs.Utf8LineLaws.{grows_no_records, grows_both};
+    ghost use Rattle.sketches.specs.Weighed.{records_of, splits_of};
+    ghost use Rattle.std.proofs.Common.{ap};
+
+    ghost splits = { λ s. splits_of s.weighing };
 
     ghost takes = { λ old bytes new. (AddsLines old.0.weighing old.0.sketch bytes new.0.sketch
-        × (new.0.weighing ≡ old.0.weighing)) × GrowsBy old.0.not_utf8 (not_utf8_in (lines bytes)) new.0.not_utf8 };
+        × (new.0.weighing ≡ old.0.weighing)) × GrowsBy old.0.not_utf8 (not_utf8_in (records_of old.0.weighing bytes)) new.0.not_utf8 };
 
     ghost fails = { λ old bytes failure. FailsLines old.0.weighing old.0.sketch bytes failure };
 
-    ghost takes_none = { λ s. (((weighed_none s.0.sketch, refl), refl), grows_none s.0.not_utf8) };
+    ghost takes_same = { λ r s xs taken. ap splits_of taken.0.1 };
+
+    ghost takes_none = { λ s. ((lines_added_none s.0.weighing s.0.sketch, refl), grows_no_records s.0.weighing s.0.not_utf8) };
 
     ghost takes_both = { λ r s t xs ys whole first second. (
       lines_added_both r.0.weighing xs ys whole
           r.0.sketch s.0.sketch t.0.sketch s.0.weighing t.0.weighing first.0 second.0,
-      grows_both xs ys whole r.0.not_utf8 s.0.not_utf8 t.0.not_utf8 first.1 second.1,
+      grows_both r.0.weighing xs ys whole r.0.not_utf8 s.0.not_utf8 t.0.not_utf8 s.0.weighing first.0.1 first.1 second.1,
     ) };
 
     ghost fails_sooner = { λ r xs ys e whole. lines_fail_sooner r.0.weighing xs ys whole r.0.sketch e };
 
     ghost fails_later = { λ r s xs ys e whole first. lines_fail_later r.0.weighing xs ys whole
         r.0.sketch s.0.sketch s.0.weighing e first.0 };
+
+    fn records(&self) -> Records {
+        self.weighing.records()
+    }
 
     fn begin(&mut self) {
         self.count = 0;
@@ -75,6 +87,14 @@ impl LineSink<()> for ItemCounter {
                 &mut self.not_utf8,
             ),
             Weighing::Field(part) => add_weighed_lines(
+                alloc,
+                &mut self.sketch,
+                part,
+                bytes,
+                &mut self.count,
+                &mut self.not_utf8,
+            ),
+            Weighing::Csv(part) => add_csv_records(
                 alloc,
                 &mut self.sketch,
                 part,

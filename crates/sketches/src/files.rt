@@ -1,7 +1,10 @@
 //! The files of a run.
 ghost use Rattle.sketches.specs.Inputs.{OpensNext};
 
+use crate::csv_header::{AfterHeader, Headed};
+use crate::csv_options::{Column, CsvOptions};
 use crate::inputs::Inputs;
+use crate::weighing::CsvPart;
 use std::fs::File;
 use std::io;
 use std::io::{Read, Stdin};
@@ -22,30 +25,185 @@ impl Read for Input {
     }
 }
 
+/// What is read of a file.
+#[derive(Drop)]
+pub enum Opened {
+    Whole(Input),
+    AfterHeader(AfterHeader),
+}
+
+impl Read for Opened {
+    fn read(&mut self, buf: &mut [u8]) -> io::Result<usize> {
+        match self {
+            Opened::Whole(input) => input.read(buf),
+            Opened::AfterHeader(rest) => rest.read(buf),
+        }
+    }
+}
+
+/// The columns of CSV that are read of each file.
+#[derive(Clone, Copy)]
+struct Columns<'a> {
+    options: CsvOptions<'a>,
+    part: CsvPart,
+    limit: usize,
+}
+
 /// Files that are opened one after another. A file that cannot be read is reported on standard error.
 #[derive(Drop)]
-pub struct Files<'a> {
-    rt: &'a HostRuntime,
-    names: &'a [&'a str],
+pub struct Files<'r, 's, 'n> {
+    rt: &'r HostRuntime,
+    names: &'s [&'n str],
     next: usize,
     failed: bool,
     done: bool,
+    /// The columns, if the first record of each file is a header.
+    columns: Option<Columns<'n>>,
+    /// The first file, if its header was read.
+    first: Option<AfterHeader>,
 }
 
-impl<'a> Files<'a> {
+impl<'r, 's, 'n> Files<'r, 's, 'n> {
     /// Creates the files of these names, in order. None is opened yet. The name `-` stands for standard input.
-    pub fn new(rt: &'a HostRuntime, names: &'a [&'a str]) -> Self {
+    pub fn new(rt: &'r HostRuntime, names: &'s [&'n str]) -> Self {
         Files {
             rt,
             names,
             next: 0,
             failed: false,
             done: false,
+            columns: None,
+            first: None,
         }
     }
 
+    /// Returns the fields of CSV that the options choose, and has each file read after its header, if there is one. Names are those of
+    /// the first file that can be read. Returns `None` after a message if it does not have them.
+    ///
+    /// `limit` is the maximum number of bytes of a header.
+    pub fn columns(&mut self, options: CsvOptions<'n>, limit: usize) -> Option<CsvPart> {
+        if !options.header {
+            return Some(CsvPart {
+                delimiter: options.delimiter,
+                item: index_of(options.item),
+                weight: options.weight.map(|column| index_of(column)),
+            });
+        }
+        let part = match self.first_header(options.delimiter, limit) {
+            Some((headed, input)) => {
+                let part = self.part_of(&headed, options);
+                self.first = Some(headed.into_rest(input));
+                part?
+            }
+            None => CsvPart {
+                delimiter: options.delimiter,
+                item: 0,
+                weight: None,
+            },
+        };
+        self.columns = Some(Columns {
+            options,
+            part,
+            limit,
+        });
+        Some(part)
+    }
+
+    /// Opens the first file that can be read, and reads its header. Returns `None` if there is none.
+    fn first_header(&mut self, delimiter: u8, limit: usize) -> Option<(Headed, Input)> {
+        let names = self.names;
+        for at in self.next..names.len() {
+            self.next = at + 1;
+            match open_headed(self.rt, names[at], delimiter, limit) {
+                Ok(opened) => return Some(opened),
+                Err(error) => self.report(error),
+            }
+        }
+        None
+    }
+
+    /// Returns the fields of a header that the options choose. Returns `None` after a message if it does not have a name.
+    fn part_of(&mut self, headed: &Headed, options: CsvOptions<'n>) -> Option<CsvPart> {
+        let item = self.column(headed, options.item)?;
+        let weight = match options.weight {
+            Some(column) => Some(self.column(headed, column)?),
+            None => None,
+        };
+        Some(CsvPart {
+            delimiter: options.delimiter,
+            item,
+            weight,
+        })
+    }
+
+    /// Returns the index of a column. Returns `None` after a message if the header does not have its name.
+    fn column(&mut self, headed: &Headed, column: Column<'n>) -> Option<u32> {
+        match headed.index_of(self.rt.alloc(), column) {
+            Ok(Some(index)) => Some(index),
+            Ok(None) => {
+                self.reject(column);
+                None
+            }
+            Err(_) => {
+                let _ = eprintln!(self.rt; "sketches: no memory");
+                None
+            }
+        }
+    }
+
+    /// Reports that the file that was opened last does not have a column.
+    fn reject(&mut self, column: Column<'n>) {
+        self.failed = true;
+        let _ = eprintln!(self.rt;
+            "sketches: {}: no column '{}'",
+            self.current(),
+            name_of(column)
+        );
+    }
+
+    /// Returns whether a header has the columns in the same fields as that of the first file. Reports if it does not.
+    fn has_columns(&mut self, headed: &Headed, columns: Columns<'n>) -> bool {
+        if !self.has_column(headed, columns.options.item, columns.part.item) {
+            return false;
+        }
+        match (columns.options.weight, columns.part.weight) {
+            (Some(weight), Some(index)) => self.has_column(headed, weight, index),
+            _ => true,
+        }
+    }
+
+    /// Returns whether a header has a column in a field. Reports if it does not.
+    fn has_column(&mut self, headed: &Headed, column: Column<'n>, index: u32) -> bool {
+        let Some(found) = self.column(headed, column) else {
+            return false;
+        };
+        if found != index {
+            self.failed = true;
+            let _ = eprintln!(self.rt;
+                "sketches: {}: column '{}' is field {}, and was field {} before",
+                self.current(),
+                name_of(column),
+                u64::from(found) + 1,
+                u64::from(index) + 1
+            );
+        }
+        found == index
+    }
+
+    /// Opens a file, after its header if there is one.
+    fn open_next(&mut self, name: &str) -> io::Result<Option<Opened>> {
+        let Some(columns) = self.columns else {
+            return Ok(Some(Opened::Whole(open(self.rt, name)?)));
+        };
+        let (headed, input) = open_headed(self.rt, name, columns.options.delimiter, columns.limit)?;
+        if !self.has_columns(&headed, columns) {
+            return Ok(None);
+        }
+        Ok(Some(Opened::AfterHeader(headed.into_rest(input))))
+    }
+
     /// Returns the name of the file that was opened last.
-    pub fn current(&self) -> &'a str {
+    pub fn current(&self) -> &'n str {
         match self.names.get(self.next.saturating_sub(1)) {
             Some(name) => *name,
             None => "-",
@@ -71,15 +229,47 @@ pub fn open(rt: &HostRuntime, name: &str) -> io::Result<Input> {
     Ok(Input::File(File::open(rt, name)?))
 }
 
-impl<'a> Inputs for Files<'a> {
-    type Reader = Input;
+/// Opens a file and reads its header.
+fn open_headed(
+    rt: &HostRuntime,
+    name: &str,
+    delimiter: u8,
+    limit: usize,
+) -> io::Result<(Headed, Input)> {
+    let mut input = open(rt, name)?;
+    let headed = Headed::read(rt.alloc(), &mut input, delimiter, limit)?;
+    Ok((headed, input))
+}
 
-    fn next(&mut self) -> Option<Input> {
+/// Returns the name of a column, or no bytes if it is not named.
+fn name_of<'a>(column: Column<'a>) -> &'a str {
+    match column {
+        Column::Index(_) => "",
+        Column::Name(name) => name,
+    }
+}
+
+/// Returns the index of a column that is not named.
+fn index_of(column: Column<'_>) -> u32 {
+    match column {
+        Column::Index(index) => index,
+        Column::Name(_) => 0,
+    }
+}
+
+impl<'r, 's, 'n> Inputs for Files<'r, 's, 'n> {
+    type Reader = Opened;
+
+    fn next(&mut self) -> Option<Opened> {
+        if let Some(first) = self.first.take() {
+            return Some(Opened::AfterHeader(first));
+        }
         let names = self.names;
         for at in self.next..names.len() {
             self.next = at + 1;
-            match open(self.rt, names[at]) {
-                Ok(input) => return Some(input),
+            match self.open_next(names[at]) {
+                Ok(Some(opened)) => return Some(opened),
+                Ok(None) => continue,
                 Err(error) => self.report(error),
             }
         }

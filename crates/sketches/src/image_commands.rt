@@ -27,7 +27,7 @@ pub fn run_merge(rt: &HostRuntime, matches: &ArgMatches<'_>) -> u8 {
         },
         threshold,
         rows: rows_of(matches),
-        layout: layout_of(matches),
+        layout: layout_of(matches, false),
     };
     let names = matches.get_strs("images").unwrap_or(&[]);
     let Some(mut image) = image_file(rt, matches) else {

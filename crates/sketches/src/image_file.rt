@@ -65,12 +65,21 @@ impl<'r, 'n> Keeper for ImageFile<'r, 'n> {
 
 /// Writes an image of the value to the file of a name.
 ///
-/// A regular file is written beside, under the name with `.tmp` after it, and renamed. So after an error the file is as it was.
+/// A regular file is written beside, under the name with `.tmp` after it, and renamed. So after an error the file is as it was. A
+/// symbolic link stays, and the file that it leads to is replaced.
 pub fn save<S: Saved>(rt: &HostRuntime, value: &S, name: &str) -> Result<(), SaveFailure> {
     if is_special(rt, name) {
-        let mut file = File::options().write(true).open(rt, name)?;
+        let mut file = File::options().append(true).open(rt, name)?;
         return value.write(&mut file);
     }
+    match fs::canonicalize(rt, name) {
+        Ok(path) => replace(rt, value, path.as_str()),
+        Err(_) => replace(rt, value, name),
+    }
+}
+
+/// Writes an image of the value beside a file, and renames it.
+fn replace<S: Saved>(rt: &HostRuntime, value: &S, name: &str) -> Result<(), SaveFailure> {
     let beside = format!(in rt.alloc(); "{name}.tmp")?;
     let file = File::create(rt, beside.as_str())?;
     let saved = fill(rt, value, file, beside.as_str(), name);
@@ -80,12 +89,23 @@ pub fn save<S: Saved>(rt: &HostRuntime, value: &S, name: &str) -> Result<(), Sav
     saved
 }
 
-/// Returns whether there is something of a name that is not a regular file, such as a device.
+/// Returns whether a name is that of an open file, such as standard output, or of a device or a pipe. They are written in place.
 fn is_special(rt: &HostRuntime, name: &str) -> bool {
+    if is_open(name) {
+        return true;
+    }
     match rt.metadata(name) {
         Ok(metadata) => !metadata.is_file(),
         Err(_) => false,
     }
+}
+
+/// Returns whether a name is one by which the system names an open file.
+fn is_open(name: &str) -> bool {
+    name == "/dev/stdout"
+        || name == "/dev/stderr"
+        || name.starts_with("/dev/fd/")
+        || name.starts_with("/proc/")
 }
 
 /// Writes an image of the value to a file, and renames it.

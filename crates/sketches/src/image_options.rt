@@ -1,5 +1,5 @@
 //! The command line of the commands over images.
-use crate::shared_options::{above, exact, json, key, no_header, rows, save};
+use crate::shared_options::{above, escape, exact, json, key, no_header, rows, save};
 use clap::{Arg, Command, value_parser};
 use std::alloc::{AllocError, Global};
 
@@ -15,6 +15,7 @@ pub fn merge_command<'a>(alloc: Global) -> Result<Command<'a>, AllocError> {
             .arg(key(alloc))?
             .arg(no_header(alloc))?
             .arg(exact(alloc))?
+            .arg(escape(alloc))?
             .arg(json(alloc))?
             .arg(
                 Arg::new(alloc, "images")

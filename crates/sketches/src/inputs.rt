@@ -1,7 +1,7 @@
-//! Reads the lines of inputs that are opened one after another.
-ghost use Rattle.std.specs.Prelude.{◌≡◌, ℕ, true, List, Option, None, IfErr, IfOk};
-ghost use Rattle.sketches.specs.Inputs.{FailsInputs, OpensNext, TakesInputs};
-ghost use Rattle.sketches.specs.Reading.{FailsInput, TakesInput};
+//! Reads the records of inputs that are opened one after another.
+ghost use Rattle.std.specs.Prelude.{◌≡◌, ℕ, true, List, Option, None, IfErr, IfOk, OnOk};
+ghost use Rattle.sketches.specs.Inputs.{FailsInputsBy, OpensNext, TakesInputsBy};
+ghost use Rattle.sketches.specs.Reading.{FailsInputBy, TakesInputBy};
 
 use crate::failure::Failure;
 use crate::line_sink::LineSink;
@@ -26,9 +26,9 @@ pub trait Inputs {
         ensures { inputs self.new ≡ inputs self.old };
 }
 
-/// Passes the lines of each input to a sink. The last line of an input ends with it. Returns whether no read failed.
+/// Passes the records of each input to a sink. The last record of an input ends with it. Returns whether no read failed.
 ///
-/// If a read fails, the lines of that input that were read whole are taken, and then the next input.
+/// If a read fails, the records of that input that were read whole are taken, and then the next input.
 ///
 /// # Errors
 ///
@@ -42,8 +42,8 @@ pub fn read_inputs<I: Inputs, O, S: LineSink<O>>(
     limit: usize,
 ) -> Result<bool, Failure>
     ensures taken { IfOk result (λ complete.
-        TakesInputs S.takes (I.inputs inputs.old) complete (sink.old, output.old) (sink.new, output.new)) }
-    ensures failed { IfErr result (FailsInputs S.takes S.fails limit (I.inputs inputs.old) (sink.old, output.old)) }
+        TakesInputsBy (S.splits sink.old) S.takes (I.inputs inputs.old) complete (sink.old, output.old) (sink.new, output.new)) }
+    ensures failed { IfErr result (FailsInputsBy (S.splits sink.old) S.takes S.fails limit (I.inputs inputs.old) (sink.old, output.old)) }
 {
     let mut complete = true;
     'each: for _ in 0..u64::MAX {
@@ -56,7 +56,7 @@ pub fn read_inputs<I: Inputs, O, S: LineSink<O>>(
     Err(Failure::Memory)
 }
 
-/// Passes the lines of an input to a sink, which begins with them. Returns the error of a read, if any.
+/// Passes the records of an input to a sink, which begins with them. Returns the error of a read, if any.
 fn read_input<R: Read, O, S: LineSink<O>>(
     alloc: Global,
     sink: &mut S,
@@ -66,8 +66,9 @@ fn read_input<R: Read, O, S: LineSink<O>>(
     limit: usize,
 ) -> Result<Option<io::Error>, Failure>
     ensures taken { IfOk result (λ failure.
-        TakesInput S.takes (R.remaining reader.old) failure (sink.old, output.old) (sink.new, output.new)) }
-    ensures failed { IfErr result (FailsInput S.fails limit (R.remaining reader.old) (sink.old, output.old)) }
+        TakesInputBy (S.splits sink.old) S.takes (R.remaining reader.old) failure (sink.old, output.old) (sink.new, output.new)) }
+    ensures same { OnOk result (S.splits sink.new ≡ S.splits sink.old) }
+    ensures failed { IfErr result (FailsInputBy (S.splits sink.old) S.fails limit (R.remaining reader.old) (sink.old, output.old)) }
 {
     sink.begin();
     read_lines(alloc, sink, output, reader, buffer, limit)

@@ -9,6 +9,7 @@ use crate::line_sink::LineSink;
 use crate::raw_item::RawItem;
 use crate::raw_lines::next_raw_line;
 use crate::raw_parts::raw_part_of;
+use crate::records::Records;
 use crate::selection::Part;
 use crate::weighed_lines::bad_weight;
 use crate::weights::weight_of;
@@ -33,12 +34,17 @@ pub struct ItemWeigher {
 }
 
 impl LineSink<()> for ItemWeigher {
+    ghost use Rattle.sketches.specs.declared.records.Records.TheVariants.{Lines};
     ghost use Rattle.sketches.specs.KeyWeightLaws.{no_lines, counts_both, counts_sooner, counts_later};
+
+    ghost splits = { λ _. Lines };
 
     ghost takes = { λ old bytes new. CountsLines old.0.chosen old.0.sketch (lines bytes) new.0.sketch
         × (new.0.chosen ≡ old.0.chosen) };
 
     ghost fails = { λ old bytes failure. FailsLines old.0.chosen old.0.sketch (lines bytes) failure };
+
+    ghost takes_same = { λ r s xs taken. refl };
 
     ghost takes_none = { λ s. (no_lines s.0.chosen s.0.sketch, refl) };
 
@@ -48,6 +54,10 @@ impl LineSink<()> for ItemWeigher {
     ghost fails_sooner = { λ r xs ys e whole. counts_sooner r.0.chosen xs ys whole r.0.sketch e };
 
     ghost fails_later = { λ r s xs ys e whole. counts_later r.0.chosen xs ys whole r.0.sketch s.0.sketch s.0.chosen e };
+
+    fn records(&self) -> Records {
+        Records::Lines
+    }
 
     fn begin(&mut self) {
         self.count = 0;

@@ -12,6 +12,7 @@ use crate::batches::{BATCH, take_batches, write_batch};
 use crate::failure::Failure;
 use crate::line_items::contains_line;
 use crate::line_sink::LineSink;
+use crate::records::Records;
 use crate::selection::Part;
 use sketch_base::Strs;
 use sketch_bloom::BloomFilter;
@@ -31,13 +32,19 @@ pub struct JoinedLines {
 }
 
 impl<W: Write> LineSink<W> for JoinedLines {
+    ghost use Rattle.std.specs.Prelude.{refl};
+    ghost use Rattle.sketches.specs.declared.records.Records.TheVariants.{Lines};
     ghost use Rattle.sketches.specs.JoinedLaws.{lines_none, lines_both};
     ghost use Rattle.sketches.specs.Failures.{FailsWriting};
+
+    ghost splits = { λ _. Lines };
 
     ghost takes = { λ old bytes new. Appends (W.contents old.1) (W.contents new.1) (joined_lines old.0.wanted old.0.part old.0.filter (raw_lines bytes))
         × (new.0.filter ≡ old.0.filter) × (new.0.part ≡ old.0.part) × (new.0.wanted ≡ old.0.wanted) };
 
     ghost fails = { λ old bytes failure. FailsWriting failure };
+
+    ghost takes_same = { λ r s xs taken. refl };
 
     ghost takes_none = { λ s. lines_none s.0.wanted s.0.part s.0.filter (W.contents s.1) };
 
@@ -47,6 +54,10 @@ impl<W: Write> LineSink<W> for JoinedLines {
     ghost fails_sooner = { λ r xs ys e whole fails. fails };
 
     ghost fails_later = { λ r s xs ys e whole takes fails. fails };
+
+    fn records(&self) -> Records {
+        Records::Lines
+    }
 
     fn take(&mut self, _alloc: Global, output: &mut W, bytes: &[u8]) -> Result<(), Failure> {
         self.written.clear();

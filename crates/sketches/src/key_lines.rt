@@ -8,6 +8,7 @@ use crate::batches::take_batches;
 use crate::failure::Failure;
 use crate::line_items::insert_line;
 use crate::line_sink::LineSink;
+use crate::records::Records;
 use crate::selection::Part;
 use sketch_base::Strs;
 use sketch_bloom::BloomFilter;
@@ -21,12 +22,18 @@ pub struct KeyLines {
 }
 
 impl LineSink<()> for KeyLines {
+    ghost use Rattle.std.specs.Prelude.{refl};
+    ghost use Rattle.sketches.specs.declared.records.Records.TheVariants.{Lines};
     ghost use Rattle.sketches.specs.JoinedLaws.{keys_none, key_lines_both};
     ghost use Rattle.sketches.specs.declared.failure.Failure.TheVariants.{Memory};
+
+    ghost splits = { λ _. Lines };
 
     ghost takes = { λ old bytes new. (new.0.filter ≡ with_lines old.0.part old.0.filter (raw_lines bytes)) × (new.0.part ≡ old.0.part) };
 
     ghost fails = { λ old bytes failure. failure ≡ Memory };
+
+    ghost takes_same = { λ r s xs taken. refl };
 
     ghost takes_none = { λ s. keys_none s.0.part s.0.part s.0.filter };
 
@@ -35,6 +42,10 @@ impl LineSink<()> for KeyLines {
     ghost fails_sooner = { λ r xs ys e whole fails. fails };
 
     ghost fails_later = { λ r s xs ys e whole takes fails. fails };
+
+    fn records(&self) -> Records {
+        Records::Lines
+    }
 
     fn take(&mut self, _alloc: Global, _output: &mut (), bytes: &[u8]) -> Result<(), Failure> {
         let part = self.part;

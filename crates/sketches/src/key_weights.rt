@@ -10,6 +10,7 @@ use crate::line_sink::LineSink;
 use crate::raw_item::RawItem;
 use crate::raw_lines::next_raw_line;
 use crate::raw_parts::raw_part_of;
+use crate::records::Records;
 use crate::selection::Part;
 use sketch_base::from_utf8;
 use sketch_countmin::CountMinSketch;
@@ -29,13 +30,19 @@ pub struct KeyWeights {
 }
 
 impl<W: Write> LineSink<W> for KeyWeights {
+    ghost use Rattle.std.specs.Prelude.{refl};
+    ghost use Rattle.sketches.specs.declared.records.Records.TheVariants.{Lines};
     ghost use Rattle.sketches.specs.KeyWeightLaws.{keys_none, keys_both};
     ghost use Rattle.sketches.specs.Failures.{FailsWriting};
+
+    ghost splits = { λ _. Lines };
 
     ghost takes = { λ old bytes new. WritesEstimates old.0.sketch (parts_in old.0.part bytes) (W.contents old.1) (W.contents new.1)
         × (new.0.sketch ≡ old.0.sketch) × (new.0.part ≡ old.0.part) };
 
     ghost fails = { λ old bytes failure. FailsWriting failure };
+
+    ghost takes_same = { λ r s xs taken. refl };
 
     ghost takes_none = { λ s. keys_none s.0.sketch s.0.part (W.contents s.1) };
 
@@ -45,6 +52,10 @@ impl<W: Write> LineSink<W> for KeyWeights {
     ghost fails_sooner = { λ r xs ys e whole fails. fails };
 
     ghost fails_later = { λ r s xs ys e whole takes fails. fails };
+
+    fn records(&self) -> Records {
+        Records::Lines
+    }
 
     fn take(&mut self, _alloc: Global, output: &mut W, bytes: &[u8]) -> Result<(), Failure> {
         self.written.clear();

@@ -16,6 +16,8 @@ pub struct Layout {
 pub enum Style {
     /// Numbers and an item, separated by tabs.
     Plain,
+    /// The same, with `\t`, `\n`, `\r` and `\\` for a tab, the bytes of line ends and a backslash of an item.
+    Escaped,
     /// A JSON object.
     Json,
 }

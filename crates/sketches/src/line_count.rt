@@ -8,6 +8,7 @@ use crate::join::JoinFailure;
 use crate::line_sink::LineSink;
 use crate::raw_lines::next_line_with_end;
 use crate::reading::{BLOCK, read_lines};
+use crate::records::Records;
 use std::alloc::Global;
 use std::io::Read;
 
@@ -18,13 +19,19 @@ pub struct LineCount {
 }
 
 impl LineSink<()> for LineCount {
+    ghost use Rattle.std.specs.Prelude.{refl};
+    ghost use Rattle.sketches.specs.declared.records.Records.TheVariants.{Lines};
     ghost use Rattle.std.specs.Prelude.{◌⊎◌};
     ghost use Rattle.sketches.specs.CountedLines.{counts_none, counts_both, exceeds_sooner, exceeds_later};
     ghost use Rattle.sketches.specs.declared.failure.Failure.TheVariants.{TooManyItems};
 
+    ghost splits = { λ _. Lines };
+
     ghost takes = { λ old bytes new. new.0.lines ≡ old.0.lines + length (raw_lines bytes) };
 
     ghost fails = { λ old bytes failure. (failure ≡ TooManyItems) × (2 ^ 64 ≤ old.0.lines + length (raw_lines bytes)) };
+
+    ghost takes_same = { λ r s xs taken. refl };
 
     ghost takes_none = { λ s. counts_none s.0.lines };
 
@@ -33,6 +40,10 @@ impl LineSink<()> for LineCount {
     ghost fails_sooner = { λ r xs ys e whole. exceeds_sooner xs ys whole r.0.lines e };
 
     ghost fails_later = { λ r s xs ys e whole. exceeds_later xs ys whole r.0.lines s.0.lines e };
+
+    fn records(&self) -> Records {
+        Records::Lines
+    }
 
     fn take(&mut self, _alloc: Global, _output: &mut (), bytes: &[u8]) -> Result<(), Failure> {
         match self.lines.checked_add(number_of_lines(bytes) as u64) {

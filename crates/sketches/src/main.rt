@@ -18,6 +18,9 @@
 mod batch_sink;
 mod batches;
 mod counting;
+mod csv_header;
+mod csv_items;
+mod csv_options;
 mod failure;
 mod field;
 mod file_sizes;
@@ -52,6 +55,7 @@ mod raw_item;
 mod raw_lines;
 mod raw_parts;
 mod reading;
+mod records;
 mod report;
 mod save;
 mod selection;
@@ -59,6 +63,7 @@ mod shared_options;
 mod show;
 mod state_file;
 mod table_size;
+mod text_escapes;
 mod threshold;
 mod top;
 mod uniq;
@@ -72,24 +77,23 @@ mod weighing;
 mod weights;
 
 use clap::ArgMatches;
+use csv_options::{BAD_DELIMITER, csv_options, weighing_of};
 use failure::Failure;
 use files::Files;
 use filter_commands::{run_join, run_uniq};
 use image_commands::{image_file, run_merge, run_show};
 use keys::{KeyFault, key_of};
-use options::{BAD_ERROR, command, size_of, weighing_of};
+use options::{BAD_ERROR, command, size_of};
 use shared_options::{BAD_THRESHOLD, layout_of, rows_of, threshold_of};
 use std::io::ErrorKind;
 use std::process::ExitCode;
 use std::{env, io};
 use top::{Options, top};
 use weigh_commands::run_weigh;
+use weighing::Weighing;
 
 /// The status after an error.
 const ERROR: u8 = 2;
-
-/// The message of a delimiter that is not allowed.
-const BAD_DELIMITER: &str = "the delimiter must be one character of ASCII";
 
 /// The message of a table's size that is not allowed.
 const BAD_TABLE: &str = "--size must be a power of two from 8 to 2^30";
@@ -133,8 +137,9 @@ fn run(rt: &HostRuntime) -> u8 {
 
 /// Runs `sketches top`. Returns the status.
 fn run_top(rt: &HostRuntime, matches: &ArgMatches<'_>) -> u8 {
-    let Some(weighing) = weighing_of(matches) else {
-        return fail(rt, BAD_DELIMITER);
+    let csv = match csv_options(matches) {
+        Ok(csv) => csv,
+        Err(message) => return fail(rt, message),
     };
     let Some(threshold) = threshold_of(matches) else {
         return fail(rt, BAD_THRESHOLD);
@@ -146,22 +151,32 @@ fn run_top(rt: &HostRuntime, matches: &ArgMatches<'_>) -> u8 {
         Ok(key) => key,
         Err(fault) => return fail(rt, message_of(fault)),
     };
+    let names = matches
+        .get_strs("files")
+        .unwrap_or(STANDARD_INPUT.as_slice());
+    let mut files = Files::new(rt, names);
+    let weighing = match csv {
+        Some(csv) => match files.columns(csv, max_line_of(matches) as usize) {
+            Some(part) => Weighing::Csv(part),
+            None => return ERROR,
+        },
+        None => match weighing_of(matches) {
+            Ok(weighing) => weighing,
+            Err(message) => return fail(rt, message),
+        },
+    };
     let options = Options {
         weighing,
         threshold,
         rows: rows_of(matches),
         size,
         max_line: max_line_of(matches),
-        layout: layout_of(matches),
+        layout: layout_of(matches, matches.get_flag("csv")),
         key,
     };
-    let names = matches
-        .get_strs("files")
-        .unwrap_or(STANDARD_INPUT.as_slice());
     let Some(mut image) = image_file(rt, matches) else {
         return fail(rt, "--save must name a file");
     };
-    let mut files = Files::new(rt, names);
     let status = match top(
         rt.alloc(),
         options,

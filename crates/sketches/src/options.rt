@@ -1,14 +1,14 @@
 //! The command line.
+use crate::csv_options::with_fields;
 use crate::field::Field;
 use crate::filter_options::{no_note, with_size, with_state};
 use crate::image_options::{merge_command, show_command};
 use crate::join_options::join_command;
 use crate::percent::percent_of;
-use crate::selection::{Part, Selection};
-use crate::shared_options::{above, exact, json, key, no_header, rows, save};
+use crate::selection::Part;
+use crate::shared_options::{above, escape, exact, json, key, no_header, rows, save};
 use crate::table_size::size_for;
 use crate::weigh_options::weigh_command;
-use crate::weighing::{WeighedPart, Weighing};
 use clap::{Arg, ArgAction, ArgMatches, Command, value_parser};
 use std::alloc::{AllocError, Global};
 
@@ -39,13 +39,14 @@ fn top_command<'a>(alloc: Global) -> Result<Command<'a>, AllocError> {
         .about("Prints the most frequent lines, fields or words, with bounds of their numbers")
         .arg(rows(alloc))?
         .arg(above(alloc))?;
-    let command = with_weight(alloc, with_part(alloc, command)?)?
+    let command = with_fields(alloc, command)?
         .arg(
             Arg::new(alloc, "words")
                 .long("words")
                 .action(ArgAction::SetTrue)
                 .conflicts_with("field")?
                 .conflicts_with("weight")?
+                .conflicts_with("csv")?
                 .help("Takes each word of each line"),
         )?
         .arg(
@@ -68,6 +69,7 @@ fn top_command<'a>(alloc: Global) -> Result<Command<'a>, AllocError> {
         .arg(key(alloc))?
         .arg(no_header(alloc))?
         .arg(exact(alloc))?
+        .arg(escape(alloc))?
         .arg(json(alloc))?
         .arg(
             Arg::new(alloc, "no-note")
@@ -165,26 +167,6 @@ pub fn size_of(matches: &ArgMatches<'_>) -> Option<usize> {
     size_for(percent_of(text)?).ok()
 }
 
-/// Returns the items of a line and their weights, as the options choose, or `None` if the delimiter is not one character of ASCII.
-pub fn weighing_of(matches: &ArgMatches<'_>) -> Option<Weighing> {
-    let Some(number) = matches.get_one::<u32>("weight") else {
-        return selection_of(matches).map(|selection| Weighing::Once(selection));
-    };
-    let weight = part_at(Some(number), matches.get_str("delimiter"));
-    match (part_of(matches), weight) {
-        (Some(item), Some(weight)) => Some(Weighing::Field(WeighedPart { item, weight })),
-        _ => None,
-    }
-}
-
-/// Returns the items of a line that the options choose, or `None` if the delimiter is not one character of ASCII.
-fn selection_of(matches: &ArgMatches<'_>) -> Option<Selection> {
-    if matches.get_flag("words") {
-        return Some(Selection::Words);
-    }
-    part_of(matches).map(|part| Selection::Part(part))
-}
-
 /// Returns the part of a line that the options choose, or `None` if the delimiter is not one character of ASCII.
 pub fn part_of(matches: &ArgMatches<'_>) -> Option<Part> {
     part_at(
@@ -206,7 +188,7 @@ pub fn part_at(number: Option<u32>, delimiter: Option<&str>) -> Option<Part> {
 }
 
 /// Returns the field of an index between delimiters, or `None` if the delimiter is not one character of ASCII.
-fn field_between(delimiter: &str, index: u32) -> Option<Field> {
+pub fn field_between(delimiter: &str, index: u32) -> Option<Field> {
     match delimiter.as_bytes() {
         [byte] if byte.is_ascii() => Some(Field {
             delimiter: *byte,

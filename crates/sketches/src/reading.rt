@@ -1,10 +1,12 @@
-//! Reads the lines of one input.
+//! Reads the records of one input.
 ghost use Rattle.std.specs.Prelude.{◌≡◌, ◌⊎◌, ◌↔◌, ◌+◌, ◌<◌, ◌≤◌, length, take, drop, IfErr, IfOk, IsErrOf, OnOk};
-ghost use Rattle.sketches.specs.Reading.{FailsInput, FailsWithin, Fills, IsInOneLine, TakesInput, TakesLines};
+ghost use Rattle.sketch_base.specs.declared.place.Place.TheVariants.{Start};
+ghost use Rattle.sketches.specs.Reading.{FailsInputBy, FailsWithin, Fills, IsInOne, TakesInputBy, TakesRecords, place_of};
 
 use crate::failure::Failure;
 use crate::line_sink::LineSink;
-use sketch_base::finished_lines;
+use crate::records::{Records, finished_records};
+use sketch_base::Place;
 use std::alloc::Global;
 use std::io;
 use std::io::{ErrorKind, Read};
@@ -12,14 +14,14 @@ use std::io::{ErrorKind, Read};
 /// The number of bytes that one read can return, if lines may be that long.
 pub const BLOCK: usize = 1 << 18;
 
-/// Passes the lines of an input to a sink. Returns the error of a read, if any.
+/// Passes the records of an input to a sink. Returns the error of a read, if any.
 ///
-/// After such an error, the lines that were read whole are taken. The buffer grows if a line does not fit, up to `limit`
+/// After such an error, the records that were read whole are taken. The buffer grows if a record does not fit, up to `limit`
 /// bytes. A read that a signal interrupted is retried.
 ///
 /// # Errors
 ///
-/// Returns `LineTooLong` if a line has at least `limit` bytes before its line feed, `Memory` if the buffer cannot grow, and
+/// Returns `LineTooLong` if a record has at least `limit` bytes before its line feed, `Memory` if the buffer cannot grow, and
 /// the errors of the sink.
 pub fn read_lines<R: Read, O, S: LineSink<O>>(
     alloc: Global,
@@ -30,9 +32,12 @@ pub fn read_lines<R: Read, O, S: LineSink<O>>(
     limit: usize,
 ) -> Result<Option<io::Error>, Failure>
     ensures taken { IfOk result (λ failure.
-        TakesInput S.takes (R.remaining reader.old) failure (sink.old, output.old) (sink.new, output.new)) }
-    ensures failed { IfErr result (FailsInput S.fails limit (R.remaining reader.old) (sink.old, output.old)) }
+        TakesInputBy (S.splits sink.old) S.takes (R.remaining reader.old) failure (sink.old, output.old) (sink.new, output.new)) }
+    ensures same { OnOk result (S.splits sink.new ≡ S.splits sink.old) }
+    ensures failed { IfErr result (FailsInputBy (S.splits sink.old) S.fails limit (R.remaining reader.old) (sink.old, output.old)) }
 {
+    let records = sink.records();
+    let mut place = Place::Start;
     let mut held = 0;
     'reads: for _ in 0..u64::MAX {
         make_room(buffer, held, limit)?;
@@ -47,7 +52,18 @@ pub fn read_lines<R: Read, O, S: LineSink<O>>(
             sink.take(alloc, output, &buffer[..held])?;
             return Ok(None);
         }
-        held = take_lines(alloc, sink, output, buffer, held, held + count)?;
+        let (kept, next) = take_records(
+            alloc,
+            sink,
+            output,
+            buffer,
+            held,
+            held + count,
+            records,
+            place,
+        )?;
+        held = kept;
+        place = next;
     }
     Ok(Some(io::Error::from(ErrorKind::Other)))
 }
@@ -88,30 +104,35 @@ fn fill<R: Read>(reader: &mut R, buffer: &mut Vec<u8>, held: usize) -> io::Resul
     }
 }
 
-/// Passes the whole lines in the first bytes of the buffer to a sink, and moves the bytes after them to its front. Returns the
-/// number of those.
+/// Passes the whole records in the first bytes of the buffer to a sink, and moves the bytes after them to its front. Returns the
+/// number of those, and the place in a field after them.
 ///
-/// The first `held` bytes have no line feed.
-fn take_lines<O, S: LineSink<O>>(
+/// No record ends among the first `held` bytes, after which the place is `place`.
+fn take_records<O, S: LineSink<O>>(
     alloc: Global,
     sink: &mut S,
     output: &mut O,
     buffer: &mut Vec<u8>,
     held: usize,
     end: usize,
-) -> Result<usize, Failure>
+    records: Records,
+    place: Place,
+) -> Result<(usize, Place), Failure>
     requires held { held ≤ end }
     requires end { end ≤ length buffer.old.items }
-    requires line { IsInOneLine (take held buffer.old.items) }
-    ensures taken { IfOk result (λ kept. TakesLines S.takes (sink.old, output.old) (sink.new, output.new)
-        (take end buffer.old.items) buffer.new.items kept) }
-    ensures failed { IfErr result (λ failure. FailsWithin S.fails (sink.old, output.old) (take end buffer.old.items) failure) }
+    requires splits { S.splits sink.old ≡ records }
+    requires one { IsInOne records Start (take held buffer.old.items) }
+    requires place { place ≡ place_of records Start (take held buffer.old.items) }
+    ensures taken { IfOk result (λ kept. TakesRecords records S.takes (sink.old, output.old) (sink.new, output.new)
+        (take end buffer.old.items) buffer.new.items kept.0 kept.1) }
+    ensures failed { IfErr result (λ failure. FailsWithin records S.fails (sink.old, output.old) (take end buffer.old.items) failure) }
 {
-    if finished_lines(&buffer[held..end]) == 0 {
-        return Ok(end);
+    let (last, next) = finished_records(records, place, &buffer[held..end]);
+    if last == 0 {
+        return Ok((end, next));
     }
-    let whole = finished_lines(&buffer[..end]);
+    let whole = held + last;
     sink.take(alloc, output, &buffer[..whole])?;
     buffer.copy_within(whole..end, 0);
-    Ok(end - whole)
+    Ok((end - whole, next))
 }

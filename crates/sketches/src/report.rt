@@ -1,12 +1,13 @@
 //! The text of a report.
 ghost use Rattle.std.specs.Prelude.{◌≡◌, ◌<◌, ◌++◌, true, false, codes, decimal, IfErr, IfNone, IfOk, IfSome, OnOk, length, min, string_bytes, take};
 ghost use Rattle.std.specs.List.{flat_map};
-ghost use Rattle.sketches.specs.Reports.{ShowsTop, header_in, json_numbers, report_text, row_line};
-ghost use Rattle.sketches.specs.declared.layout.Style.TheVariants.{Json, Plain};
+ghost use Rattle.sketches.specs.Reports.{ShowsTop, header_in, json_numbers, plain_numbers, report_text, row_line};
+ghost use Rattle.sketches.specs.declared.layout.Style.TheVariants.{Escaped, Json, Plain};
 
 use crate::failure::Failure;
 use crate::json::append_escaped;
 use crate::layout::{Layout, Style};
+use crate::text_escapes::append_text;
 use crate::threshold::Threshold;
 use sketch_frequencies::{ErrorType, FrequentItemsSketch, Row};
 use std::alloc::{AllocError, Global};
@@ -64,6 +65,11 @@ fn text_of(
             write_plain(&mut text, layout.exact, rows)?;
             Ok(text.into_bytes())
         }
+        Style::Escaped => {
+            let mut bytes = text.into_bytes();
+            append_texts(alloc, &mut bytes, layout.exact, rows)?;
+            Ok(bytes)
+        }
         Style::Json => {
             let mut bytes = text.into_bytes();
             append_rows(alloc, &mut bytes, layout.exact, rows)?;
@@ -78,6 +84,7 @@ fn write_header(out: &mut String, style: Style, error: u64, total: u64) -> Resul
 {
     match style {
         Style::Plain => write_plain_header(out, error, total),
+        Style::Escaped => write_plain_header(out, error, total),
         Style::Json => write_json_header(out, error, total),
     }
 }
@@ -132,6 +139,67 @@ fn write_rows(out: &mut String, rows: &[Row<String>]) -> Result<(), AllocError>
             row.item()
         )?;
     }
+    Ok(())
+}
+
+/// Appends a line for each row, whose item is escaped.
+fn append_texts(
+    alloc: Global,
+    out: &mut Vec<u8>,
+    exact: bool,
+    rows: &[Row<String>],
+) -> Result<(), AllocError>
+    ensures { OnOk result (out.new.items ≡ out.old.items ++ flat_map (row_line exact Escaped) rows.now) }
+{
+    let mut numbers = String::new(alloc);
+    for row in rows {
+        append_text_row(out, &mut numbers, exact, row)?;
+    }
+    Ok(())
+}
+
+/// Appends the line of a row: its weight, or its bounds, and its escaped item, separated by tabs.
+fn append_text_row(
+    out: &mut Vec<u8>,
+    numbers: &mut String,
+    exact: bool,
+    row: &Row<String>,
+) -> Result<(), AllocError>
+    ensures { OnOk result (out.new.items ≡ out.old.items ++ row_line exact Escaped row.now) }
+{
+    write_plain_numbers(numbers, exact, row)?;
+    out.extend_from_slice(numbers.as_bytes())?;
+    append_text(row.item().as_bytes(), out)?;
+    out.push(b'\n')?;
+    Ok(())
+}
+
+/// Writes the front of the line of a row, up to its item, in place of a text.
+fn write_plain_numbers(out: &mut String, exact: bool, row: &Row<String>) -> Result<(), AllocError>
+    ensures { OnOk result (string_bytes out.new ≡ plain_numbers exact row.now) }
+{
+    out.clear();
+    if exact {
+        write_plain_weight(out, row.lower_bound())
+    } else {
+        write_plain_bounds(out, row.lower_bound(), row.upper_bound())
+    }
+}
+
+/// Writes a weight and a tab.
+fn write_plain_weight(out: &mut String, weight: u64) -> Result<(), AllocError>
+    ensures { OnOk result (string_bytes out.new ≡ string_bytes out.old ++ decimal weight ++ codes "\t") }
+{
+    write!(out, "{weight}\t")?;
+    Ok(())
+}
+
+/// Writes two bounds, each with a tab after it.
+fn write_plain_bounds(out: &mut String, lower: u64, upper: u64) -> Result<(), AllocError>
+    ensures { OnOk result (string_bytes out.new ≡ string_bytes out.old
+        ++ decimal lower ++ codes "\t" ++ decimal upper ++ codes "\t") }
+{
+    write!(out, "{lower}\t{upper}\t")?;
     Ok(())
 }
 

@@ -66,6 +66,14 @@ pub fn json<'a>(alloc: Global) -> Arg<'a> {
         .help("Prints each line as a JSON object")
 }
 
+/// Returns the option that escapes items.
+pub fn escape<'a>(alloc: Global) -> Arg<'a> {
+    Arg::new(alloc, "escape")
+        .long("escape")
+        .action(ArgAction::SetTrue)
+        .help("Prints a tab, a line end and a backslash of an item as \\t, \\n, \\r and \\\\")
+}
+
 /// Returns the option that wants exact numbers.
 pub fn exact<'a>(alloc: Global) -> Arg<'a> {
     Arg::new(alloc, "exact")
@@ -74,13 +82,15 @@ pub fn exact<'a>(alloc: Global) -> Arg<'a> {
         .help("Prints one number for each item, or ends with an error if numbers are not exact")
 }
 
-/// Returns how the options want a report to be written.
-pub fn layout_of(matches: &ArgMatches<'_>) -> Layout {
+/// Returns how the options want a report to be written. Items of CSV are escaped.
+pub fn layout_of(matches: &ArgMatches<'_>, is_csv: bool) -> Layout {
     Layout {
         header: !matches.get_flag("no-header"),
         exact: matches.get_flag("exact"),
         style: if matches.get_flag("json") {
             Style::Json
+        } else if is_csv || matches.get_flag("escape") {
+            Style::Escaped
         } else {
             Style::Plain
         },

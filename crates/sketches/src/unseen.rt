@@ -11,6 +11,7 @@ use crate::batches::{BATCH, take_batches, write_batch};
 use crate::failure::Failure;
 use crate::line_items::insert_line;
 use crate::line_sink::LineSink;
+use crate::records::Records;
 use crate::selection::Part;
 use sketch_base::Strs;
 use sketch_bloom::BloomFilter;
@@ -30,14 +31,20 @@ pub struct UnseenLines {
 }
 
 impl<W: Write> LineSink<W> for UnseenLines {
+    ghost use Rattle.std.specs.Prelude.{refl};
+    ghost use Rattle.sketches.specs.declared.records.Records.TheVariants.{Lines};
     ghost use Rattle.sketches.specs.UnseenLaws.{takes_nothing, takes_lines};
     ghost use Rattle.sketches.specs.Failures.{FailsWriting};
+
+    ghost splits = { λ _. Lines };
 
     ghost takes = { λ old bytes new. (new.0.filter ≡ with_lines old.0.part old.0.filter (raw_lines bytes))
         × Appends (W.contents old.1) (W.contents new.1) (unseen_lines old.0.repeated old.0.part old.0.filter (raw_lines bytes))
         × (new.0.part ≡ old.0.part) × (new.0.repeated ≡ old.0.repeated) };
 
     ghost fails = { λ old bytes failure. FailsWriting failure };
+
+    ghost takes_same = { λ r s xs taken. refl };
 
     ghost takes_none = { λ s. takes_nothing s.0.filter s.0.part s.0.repeated (W.contents s.1) };
 
@@ -47,6 +54,10 @@ impl<W: Write> LineSink<W> for UnseenLines {
     ghost fails_sooner = { λ r xs ys e whole fails. fails };
 
     ghost fails_later = { λ r s xs ys e whole takes fails. fails };
+
+    fn records(&self) -> Records {
+        Records::Lines
+    }
 
     fn take(&mut self, _alloc: Global, output: &mut W, bytes: &[u8]) -> Result<(), Failure> {
         self.written.clear();

@@ -101,7 +101,17 @@ fn add_line(
 pub fn bad_weight(alloc: Global, part: Part, line: &[u8], number: u64) -> Failure
     ensures { IsBadWeight result }
 {
-    let field = raw_part_of(part, line).unwrap_or(b"".as_slice());
+    bad_field(
+        alloc,
+        raw_part_of(part, line).unwrap_or(b"".as_slice()),
+        number,
+    )
+}
+
+/// Returns the error of a line whose weight should be this field.
+pub fn bad_field(alloc: Global, field: &[u8], number: u64) -> Failure
+    ensures { IsBadWeight result }
+{
     match shown(alloc, field) {
         Ok(text) => Failure::BadWeight(BadWeight { line: number, text }),
         Err(_) => Failure::Memory,

@@ -21,4 +21,4 @@ mod view;
 
 pub use sketch::CountMinSketch;
 pub use value::{CountMinValue, UnsignedCountMinValue};
-pub use view::{CountMinView, PlainItem};
+pub use view::CountMinView;

@@ -3,30 +3,9 @@
 use crate::error::{must, Error};
 use crate::fed::{with_item, Item};
 use crate::handle::{Cell, Image};
-use std::borrow::Cow;
 use std::fmt;
 use std::hash::Hash;
 use std::marker::PhantomData;
-
-/// An item that an image in place can be asked for: an integer of 64 bits or a string. This trait is
-/// implemented here alone.
-pub trait PlainItem: Hash + sealed::Plain {}
-
-mod sealed {
-    pub trait Plain {}
-}
-
-macro_rules! plain {
-    ($($item:ty)*) => {$(
-        impl sealed::Plain for $item {}
-        impl PlainItem for $item {}
-    )*};
-}
-
-plain!(u64 i64 usize isize str String Box<str> Cow<'_, str>);
-
-impl<I: PlainItem + ?Sized> sealed::Plain for &I {}
-impl<I: PlainItem + ?Sized> PlainItem for &I {}
 
 /// A Count-Min sketch in the bytes of its image, such as a mapped file, with weights in `u64` or `i64`. It
 /// neither copies them nor allocates, and many threads may use it.
@@ -78,7 +57,7 @@ impl<'a, T: Cell> CountMinView<'a, T> {
 
     /// Returns the estimate of an item's weight.
     #[inline]
-    pub fn estimate<I: PlainItem>(&self, item: I) -> T {
+    pub fn estimate<I: Hash>(&self, item: I) -> T {
         must(with_item(&item, |item| self.image.estimate(self.seed, item)))
     }
 }

@@ -1,20 +1,16 @@
 //! The calls on Count-Min sketches.
 
 use super::filter::data;
-use super::{copied, done, overlap, Handle, Image, Items, Text};
+use super::{copied, done, overlap, Handle, Image, Items};
 use crate::error::Error;
 use crate::fed::Item;
 use crate::sys;
-
-/// The fraction for e of the library's margin.
-const E: (u128, u128) = (2_718_281_828_459_045_235, 1_000_000_000_000_000_000);
 
 /// A type of the library's cells.
 pub trait Cell: Copy + Default + Ord {
     const KIND: i32;
     fn from_magnitude(number: u64) -> Self;
     fn magnitude(self) -> u64;
-    fn plus(self, other: Self) -> Self;
     fn update(handle: &mut Handle, item: Item<'_>, weight: Self) -> Result<(), Error>;
     fn update_all(handle: &mut Handle, items: &Items<'_>, weights: &[Self]) -> Result<(), Error>;
     fn estimate(handle: &Handle, item: Item<'_>) -> Result<Self, Error>;
@@ -24,9 +20,10 @@ pub trait Cell: Copy + Default + Ord {
 }
 
 macro_rules! cell {
-    ($cell:ty, $kind:ident, $update_u64:ident, $update_string:ident, $update_all:ident, $estimate_u64:ident,
-     $estimate_string:ident, $estimate_all:ident, $bound_u64:ident, $bound_string:ident, $image_u64:ident,
-     $image_string:ident, $magnitude:expr) => {
+    ($cell:ty, $kind:ident, $update_u64:ident, $update_string:ident, $update_fed:ident, $update_all:ident,
+     $estimate_u64:ident, $estimate_string:ident, $estimate_fed:ident, $estimate_all:ident, $bound_u64:ident,
+     $bound_string:ident, $bound_fed:ident, $image_u64:ident, $image_string:ident, $image_fed:ident,
+     $magnitude:expr) => {
         impl Cell for $cell {
             const KIND: i32 = sys::$kind;
 
@@ -41,11 +38,6 @@ macro_rules! cell {
             }
 
             #[inline]
-            fn plus(self, other: Self) -> Self {
-                self.saturating_add(other)
-            }
-
-            #[inline]
             fn update(handle: &mut Handle, item: Item<'_>, weight: Self) -> Result<(), Error> {
                 let sketch = handle.get();
                 // SAFETY: rules 2 and 3 hold, as the head of `handle` says.
@@ -54,9 +46,9 @@ macro_rules! cell {
                     Item::Text(text) => unsafe {
                         sys::$update_string(sketch, text.as_ptr(), text.len(), weight)
                     },
-                    Item::Fed(bytes) => {
-                        return Self::update_all(handle, &Items::fed(&[Text::new(bytes)]), &[weight])
-                    }
+                    Item::Fed(bytes) => unsafe {
+                        sys::$update_fed(sketch, bytes.as_ptr(), bytes.len(), weight)
+                    },
                 };
                 done(result).map(drop)
             }
@@ -79,11 +71,9 @@ macro_rules! cell {
                     Item::Text(text) => unsafe {
                         sys::$estimate_string(sketch, text.as_ptr(), text.len(), &mut estimate)
                     },
-                    Item::Fed(bytes) => {
-                        let mut estimates = [0];
-                        Self::estimate_all(handle, &Items::fed(&[Text::new(bytes)]), &mut estimates)?;
-                        return Ok(estimates[0]);
-                    }
+                    Item::Fed(bytes) => unsafe {
+                        sys::$estimate_fed(sketch, bytes.as_ptr(), bytes.len(), &mut estimate)
+                    },
                 };
                 done(result).map(|_| estimate)
             }
@@ -103,10 +93,9 @@ macro_rules! cell {
                     Item::Text(text) => unsafe {
                         sys::$bound_string(sketch, text.as_ptr(), text.len(), &mut bound)
                     },
-                    Item::Fed(_) => {
-                        let margin = margin(&handle.status());
-                        return Ok(Self::estimate(handle, item)?.plus(margin as $cell));
-                    }
+                    Item::Fed(bytes) => unsafe {
+                        sys::$bound_fed(sketch, bytes.as_ptr(), bytes.len(), &mut bound)
+                    },
                 };
                 done(result).map(|_| bound)
             }
@@ -127,7 +116,14 @@ macro_rules! cell {
                     Item::Text(text) => unsafe {
                         sys::$image_string(place, length, seed, text.as_ptr(), text.len(), &mut estimate)
                     },
-                    Item::Fed(_) => sys::DS_BAD_ARGUMENT,
+                    Item::Fed(bytes) if overlap(bytes, image) => {
+                        let apart = copied(bytes)?;
+                        return Self::image_estimate(image, seed, Item::Fed(&apart));
+                    }
+                    // SAFETY: as above.
+                    Item::Fed(bytes) => unsafe {
+                        sys::$image_fed(place, length, seed, bytes.as_ptr(), bytes.len(), &mut estimate)
+                    },
                 };
                 data(result).map(|_| estimate)
             }
@@ -140,14 +136,18 @@ cell!(
     DS_COUNT_MIN_U64,
     ds_count_min_u64_update_u64,
     ds_count_min_u64_update_string,
+    ds_count_min_u64_update_fed,
     ds_update_all_weighted,
     ds_count_min_u64_estimate_u64,
     ds_count_min_u64_estimate_string,
+    ds_count_min_u64_estimate_fed,
     ds_count_min_u64_estimate_all,
     ds_count_min_u64_upper_bound_u64,
     ds_count_min_u64_upper_bound_string,
+    ds_count_min_u64_upper_bound_fed,
     ds_count_min_u64_image_estimate_u64,
     ds_count_min_u64_image_estimate_string,
+    ds_count_min_u64_image_estimate_fed,
     |number| number
 );
 cell!(
@@ -155,22 +155,20 @@ cell!(
     DS_COUNT_MIN_I64,
     ds_count_min_i64_update_u64,
     ds_count_min_i64_update_string,
+    ds_count_min_i64_update_fed,
     ds_count_min_i64_update_all_weighted,
     ds_count_min_i64_estimate_u64,
     ds_count_min_i64_estimate_string,
+    ds_count_min_i64_estimate_fed,
     ds_count_min_i64_estimate_all,
     ds_count_min_i64_upper_bound_u64,
     ds_count_min_i64_upper_bound_string,
+    ds_count_min_i64_upper_bound_fed,
     ds_count_min_i64_image_estimate_u64,
     ds_count_min_i64_image_estimate_string,
+    ds_count_min_i64_image_estimate_fed,
     i64::unsigned_abs
 );
-
-/// Returns the margin of an upper bound: e times the total over the buckets, rounded down. It is at most the
-/// total.
-fn margin(status: &sys::ds_status) -> u64 {
-    (u128::from(status.total_weight) * E.0 / (E.1 * u128::from(status.num_buckets))) as u64
-}
 
 impl Handle {
     pub(crate) fn new_count_min(

@@ -18,7 +18,7 @@ impl Handle {
         let result = match item {
             Item::Number(number) => unsafe { sys::ds_bloom_insert_u64(handle, number) },
             Item::Text(text) => unsafe { sys::ds_bloom_insert_string(handle, text.as_ptr(), text.len()) },
-            Item::Fed(bytes) => return self.insert_all(&Items::fed(&[Text::new(bytes)])),
+            Item::Fed(bytes) => unsafe { sys::ds_bloom_insert_fed(handle, bytes.as_ptr(), bytes.len()) },
         };
         done(result).map(drop)
     }
@@ -30,11 +30,7 @@ impl Handle {
         let result = match item {
             Item::Number(number) => unsafe { sys::ds_bloom_contains_u64(handle, number) },
             Item::Text(text) => unsafe { sys::ds_bloom_contains_string(handle, text.as_ptr(), text.len()) },
-            Item::Fed(bytes) => {
-                let mut result = [false];
-                self.contains_all(&Items::fed(&[Text::new(bytes)]), &mut result)?;
-                return Ok(result[0]);
-            }
+            Item::Fed(bytes) => unsafe { sys::ds_bloom_contains_fed(handle, bytes.as_ptr(), bytes.len()) },
         };
         Ok(done(result)? > 0)
     }
@@ -48,11 +44,9 @@ impl Handle {
             Item::Text(text) => unsafe {
                 sys::ds_bloom_contains_and_insert_string(handle, text.as_ptr(), text.len())
             },
-            Item::Fed(bytes) => {
-                let mut result = [false];
-                self.contains_and_insert_all(&Items::fed(&[Text::new(bytes)]), &mut result)?;
-                return Ok(result[0]);
-            }
+            Item::Fed(bytes) => unsafe {
+                sys::ds_bloom_contains_and_insert_fed(handle, bytes.as_ptr(), bytes.len())
+            },
         };
         Ok(done(result)? > 0)
     }

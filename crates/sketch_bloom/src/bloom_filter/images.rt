@@ -7,7 +7,10 @@ ghost use Rattle.sketch_bloom.specs.State.{IsFilterState};
 
 use crate::bits::Bits;
 use crate::bloom_filter::BloomFilter;
-use crate::image::{UNCOUNTED, image_length, read_preamble, read_words, write_empty, write_full};
+use crate::image::{
+    UNCOUNTED, empty_image, full_image, image_length, read_preamble, read_words, write_empty,
+    write_full,
+};
 use sketch_base::image::u64_at;
 use sketch_base::{Error, Fault};
 use std::alloc::Global;
@@ -39,9 +42,15 @@ impl BloomFilter {
         ensures image { IfOk result (λ image. IsSpelled image.items self.now) }
         ensures err { IfErr result (λ e. e ≡ no_memory) }
     {
-        let mut image = vec![in self.bits.allocator(); 0; self.serialized_size()]?;
-        self.write_image(&mut image);
-        Ok(image)
+        let alloc = self.bits.allocator();
+        let num_hashes = self.bits.num_hashes();
+        let seed = self.bits.seed();
+        if self.bits_used == 0 {
+            let empty = empty_image(alloc, num_hashes, seed, self.bits.num_words())?;
+            return Ok(empty);
+        }
+        let full = full_image(alloc, num_hashes, seed, self.bits_used, self.bits.words())?;
+        Ok(full)
     }
 
     /// Writes the filter as an image to the front of `out`, and returns the image's length, which is

@@ -11,7 +11,10 @@ use crate::count_min_image_options::CountMinImageOptions;
 use crate::count_min_sketch::CountMinSketch;
 use crate::count_min_value::CountMinValue;
 use crate::grid::Grid;
-use crate::image::{Preamble, read_cells, read_preamble, read_total, write_empty, write_full};
+use crate::image::{
+    Preamble, empty_image, full_image, read_cells, read_preamble, read_total, write_empty,
+    write_full,
+};
 use crate::limits::{MAX_TABLE_ENTRIES, MIN_NUM_BUCKETS};
 use sketch_base::{DEFAULT_UPDATE_SEED, Error, ErrorKind, Fault, compute_seed_hash};
 use std::alloc::Global;
@@ -48,9 +51,18 @@ impl<T: CountMinValue> CountMinSketch<T> {
         ensures err { IfErr result (λ e. e ≡ no_memory) }
     {
         let alloc = self.grid.allocator();
-        let mut image = vec![in alloc; 0; self.serialized_size()]?;
-        self.write_image(&mut image);
-        Ok(image)
+        let Ok(hash) = compute_seed_hash(self.seed, ErrorKind::InvalidArgument) else {
+            unreachable!();
+        };
+        let num_buckets = self.grid.buckets().divisor() as u32;
+        let num_hashes = self.grid.num_rows() as u8;
+        if self.total.to_number() == 0 {
+            let empty = empty_image(alloc, num_buckets, num_hashes, hash)?;
+            return Ok(empty);
+        }
+        let counts = self.grid.counts();
+        let full = full_image(alloc, num_buckets, num_hashes, hash, self.total, counts)?;
+        Ok(full)
     }
 
     /// Writes the sketch as an image, as [`serialize`](Self::serialize) does, to the front of `out`. Returns the

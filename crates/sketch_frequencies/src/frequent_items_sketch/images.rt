@@ -115,8 +115,9 @@ impl<T: FrequentItemValue + Drop> FrequentItemsSketch<T> {
         if self.total == 0 {
             return Ok(8);
         }
-        let items = items_size(self.map.slots())?;
-        let front = 32 + 8 * self.map.num_active();
+        let active = self.map.num_active();
+        let items = items_size(self.map.slots(), active)?;
+        let front = 32 + 8 * active;
         if items > usize::MAX - front {
             return Err(Error::from(AllocError));
         }

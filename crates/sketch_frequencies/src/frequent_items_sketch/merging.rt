@@ -66,8 +66,10 @@ impl<T: Eq + Hash + Drop> FrequentItemsSketch<T> {
     /// Merges each of the others into this sketch, in order, as [`merge`](Self::merge) does. Keeps its own maximum size and
     /// sample size.
     ///
-    /// Builds the result apart from the sketch, and replaces the sketch at the end. Allocates for one clone of the sketch, for
-    /// clones of the others' items and for larger tables. Empty others change nothing. If all are empty, nothing is allocated.
+    /// Works in place and allocates nothing if the table has its maximum size and no clone of an item can fail, as for numbers.
+    /// Otherwise, builds the result apart from the sketch, and replaces the sketch at the end. Then it allocates for one clone of
+    /// the sketch, for clones of the others' items and for larger tables. Empty others change nothing. If all are empty, nothing is
+    /// allocated.
     ///
     /// # Errors
     ///
@@ -106,6 +108,9 @@ impl<T: Eq + Hash + Drop> FrequentItemsSketch<T> {
         let total = self.total_with(others)?;
         if total == self.total {
             return Ok(());
+        }
+        if !T::may_fail() && self.map.len() == self.max_size {
+            return self.absorb_all(others);
         }
         let merged = self.merged_with(others)?;
         *self = merged;
@@ -146,10 +151,29 @@ impl<T: Eq + Hash + Drop> FrequentItemsSketch<T> {
         // Borrows a field, which brings the invariant of the sketch into the proof.
         let _ = &self.map;
         let mut merged = self.try_clone()?;
-        'each: for i in 0..others.len() {
-            merged.absorb(others[i])?;
-        }
+        merged.absorb_all(others)?;
         Ok(merged)
+    }
+
+    /// Merges the others into this one in place, in order. After an error this one may be changed.
+    fn absorb_all(&mut self, others: &[&Self]) -> Result<(), Error>
+    where
+        T: EqualClone,
+        requires fits { TotalHasRoom self.old (total_of_all (states_of others.now)) }
+        requires some { 0 < length others.now }
+        ensures joins { OnOk result (JoinsAll T.eq self.old (states_of others.now) self.new) }
+        ensures state { IsState T.eq self.new }
+        ensures stands { OnOk result (ExtendsAll T.eq self.old (states_of others.now) self.new) }
+        ensures budget { OnOk result (ExtendsAllBudgets T.eq self.old (states_of others.now) self.new) }
+        ensures err { IfErr result (λ e. e ≡ no_memory) }
+        ensures infallible { ((x : T) → T.is_infallible x) → self.old.size ≡ self.old.max_size → IsOk result }
+    {
+        // Borrows a field, which brings the invariant of the sketch into the proof.
+        let _ = &self.map;
+        'each: for i in 0..others.len() {
+            self.absorb(others[i])?;
+        }
+        Ok(())
     }
 
     /// Merges another sketch into this one in place. After an error this one may be changed.
@@ -162,7 +186,9 @@ impl<T: Eq + Hash + Drop> FrequentItemsSketch<T> {
         ensures state { IsState T.eq self.new }
         ensures stands { OnOk result (ExtendsBoth T.eq self.old other.now self.new Merge) }
         ensures budget { OnOk result (ExtendsBothBudgets T.eq self.old other.now self.new Merge) }
+        ensures greatest { OnOk result (self.old.size ≡ self.old.max_size → self.new.size ≡ self.new.max_size) }
         ensures err { IfErr result (λ e. e ≡ no_memory) }
+        ensures infallible { ((x : T) → T.is_infallible x) → self.old.size ≡ self.old.max_size → IsOk result }
     {
         // Borrows a field, which brings the invariant of the sketch into the proof.
         let _ = &self.map;
@@ -182,12 +208,14 @@ impl<T: Eq + Hash + Drop> FrequentItemsSketch<T> {
         requires fits { TotalHasRoom self.old other.now.total }
         ensures ok { OnOk result (AddsCounters T.eq self.old other.now.counters self.new) }
         ensures state { IsState T.eq self.new }
+        ensures greatest { OnOk result (self.old.size ≡ self.old.max_size → self.new.size ≡ self.new.max_size) }
         ensures err { IfErr result (λ e. e ≡ no_memory) }
+        ensures infallible { ((x : T) → T.is_infallible x) → self.old.size ≡ self.old.max_size → IsOk result }
     {
         // Borrows a field, which brings the invariant of the sketch into the proof.
         let _ = &self.map;
         for (item, count) in other.map.iter() {
-            self.update_with_count_ref(item, count)?;
+            self.update_item_with_count(item, count)?;
         }
         Ok(())
     }

@@ -1,7 +1,7 @@
 //! Updates of one item: how it is added.
 ghost use Rattle.std.specs.Prelude.{◌≡◌, ◌+◌, ◌*◌, ◌<◌, true, false, length, IfErr, IsOk, IsTrue, OnOk, OnErr, IsErrOf};
 ghost use Rattle.sketch_base.specs.Errors.{invalid_argument, no_memory};
-ghost use Rattle.sketch_frequencies.specs.Growth.{MakesRoom, Adds};
+ghost use Rattle.sketch_frequencies.specs.Growth.{MakesRoom, Adds, PurgesExcess};
 ghost use Rattle.sketch_frequencies.specs.History.FrequentHistory.{Update};
 ghost use Rattle.sketch_frequencies.specs.Stands.{Extends, ExtendsBudget};
 ghost use Rattle.sketch_frequencies.specs.State.{IsState, capacity, must_double, must_grow, Overflows, TotalHasRoom};
@@ -9,7 +9,7 @@ ghost use Rattle.sketch_frequencies.specs.Steps.{Steps, StepsEqual, StepsByKey};
 ghost use Rattle.counter_table.specs.Tables.{is_tracked_by_key, is_tracked, put};
 
 use crate::frequent_items_sketch::FrequentItemsSketch;
-use counter_table::{EqualClone, ItemKey, OwnedKey};
+use counter_table::{EqualClone, ItemKey, OwnedKey, ReversePurgeItemHashMap};
 use sketch_base::{Error, Fault};
 use std::hash::Hash;
 
@@ -62,6 +62,10 @@ impl<T: Eq + Hash + Drop> FrequentItemsSketch<T> {
         }
         if self.map.capacity() > self.map.num_active() {
             self.put(item, count);
+            return Ok(());
+        }
+        if self.map.len() == self.max_size {
+            self.add(item, count);
             return Ok(());
         }
         if self.adjust(&item, count) {
@@ -188,6 +192,10 @@ impl<T: Eq + Hash + Drop> FrequentItemsSketch<T> {
             self.put_by_key(key, count)?;
             return Ok(());
         }
+        if self.map.len() == self.max_size {
+            self.add_by_key(key, count)?;
+            return Ok(());
+        }
         if self.adjust_by_key(key, count) {
             return Ok(());
         }
@@ -258,8 +266,6 @@ impl<T: Eq + Hash + Drop> FrequentItemsSketch<T> {
     }
 
     /// Tracks an item that is not tracked.
-    ///
-    /// It is called rarely, and not inlined. Otherwise each update would have a purge's buffer for its sample on the stack.
     #[inline(never)]
     fn track(&mut self, item: T, count: u64) -> Result<(), Error>
         requires absent { is_tracked T.eq self.old.counters item ≡ false }
@@ -274,7 +280,7 @@ impl<T: Eq + Hash + Drop> FrequentItemsSketch<T> {
         // Borrows a field, which brings the invariant of the sketch into the proof.
         let _ = &self.map;
         self.make_room()?;
-        self.insert(item, count);
+        self.add(item, count);
         Ok(())
     }
 
@@ -297,9 +303,11 @@ impl<T: Eq + Hash + Drop> FrequentItemsSketch<T> {
         Ok(())
     }
 
-    /// Inserts an item that is not tracked, and purges if there is then one counter too many.
-    fn insert(&mut self, item: T, count: u64)
-        requires absent { is_tracked T.eq self.old.counters item ≡ false }
+    /// Adds to the item's count, or tracks the item, in one look-up. Purges if there is then one counter too many.
+    ///
+    /// It is not inlined, so that the look-up of a table with room has the processor's registers to itself.
+    #[inline(never)]
+    fn add(&mut self, item: T, count: u64)
         requires positive { 0 < count }
         requires fits { TotalHasRoom self.old count }
         requires room { capacity self.old.size < length (put T.eq self.old.counters item count)
@@ -307,10 +315,45 @@ impl<T: Eq + Hash + Drop> FrequentItemsSketch<T> {
         ensures adds { Adds T.eq self.old item count self.new }
         ensures state { IsState T.eq self.new }
     {
-        self.map.insert(item, count);
+        self.map.adjust_or_put_value(item, count);
         self.total += count;
-        if self.map.num_active() > self.map.capacity() {
-            self.error += self.map.purge(self.sample_size);
-        }
+        self.error += purge_excess(&mut self.map, self.sample_size);
     }
+
+    /// Adds to the count of the item that the key names, or tracks a new item with it, in one look-up. Purges if there is then
+    /// one counter too many.
+    ///
+    /// Requires a table that may not grow. Returns `NoMemory` and changes nothing if the new item cannot be allocated.
+    #[inline]
+    fn add_by_key<K: OwnedKey<T>>(&mut self, key: K, count: u64) -> Result<(), Error>
+        requires positive { 0 < count }
+        requires fits { TotalHasRoom self.old count }
+        requires greatest { self.old.size ≡ self.old.max_size }
+        ensures step { OnOk result (StepsByKey T.eq self.old (K.names key) count self.new) }
+        ensures state { IsState T.eq self.new }
+        ensures err { OnErr result (self.new ≡ self.old) }
+        ensures memory { IfErr result (λ e. e ≡ no_memory) }
+        ensures succeeds { is_tracked_by_key (K.names key) self.old.counters ≡ true → IsOk result }
+        ensures infallible { K.needs_no_memory key → IsOk result }
+    {
+        self.map.adjust_or_put_by_key(key, count)?;
+        self.total += count;
+        self.error += purge_excess(&mut self.map, self.sample_size);
+        Ok(())
+    }
+}
+
+/// Purges a table with one counter too many, and returns by how much each count was lowered. Returns 0 if there is room.
+#[inline]
+fn purge_excess<T: Eq + Hash + Drop>(
+    map: &mut ReversePurgeItemHashMap<T>,
+    sample_size: usize,
+) -> u64
+    requires { 0 < sample_size }
+    ensures { PurgesExcess sample_size map.old map.new result }
+{
+    if map.num_active() <= map.capacity() {
+        return 0;
+    }
+    map.purge(sample_size)
 }

@@ -1,7 +1,7 @@
-use Rattle.std.proofs.Common.{Err, inl, inr, ⊎_elim, take, ap, arith, ◌∙◌, length-take-le}
+use Rattle.std.proofs.Common.{Err, inl, inr, ⊎_elim, take, ap, arith, ◌∙◌, length-take-le, sym}
 use Rattle.std.proofs.lemmas.Result.{err_from_is_err_and}
 use Rattle.std.specs.declared.io.Error.{Error}
-use Rattle.sketches.proofs.ReadLines.{taken_none, too_long, taken_more, taken_lines, taken_last, taken_failed, fails_last, fails_lines, filled, none_more}
+use Rattle.sketches.proofs.ReadLines.{one_start, place_start, taken_none, too_long, taken_more, taken_lines, taken_last, taken_failed, fails_last, fails_lines, filled, none_more}
 use Rattle.sketches.proofs.reading.read_lines.Goals as goal
 
 pub returns-in_err-make_room-clause-failed : goal.returns-in_err-make_room-clause-failed
@@ -13,11 +13,13 @@ returns-in_err-make_room-clause-failed g c =
     (λ long.
     let (full, le) = f.too_long.0 (ap Err long) in
     let len = length-take-le c.reads.held c.reads.buffer.items c.reads.invariant.0 in
-    inr (inl (long, too_long g.S.LineSink.takes (g.R.Read.remaining c.args.reader.now) (g.R.Read.remaining c.reads.reader) (c.args.sink.now, c.args.output.now) (c.reads.sink, c.reads.output) (take c.reads.held c.reads.buffer.items) c.args.limit c.reads.invariant.2 (omega (arith, le, len)) c.reads.invariant.1)))
+    inr (inl (long, rw (← c.records-records.ensures) (too_long c.records-records.result g.S.LineSink.takes (g.R.Read.remaining c.args.reader.now) (g.R.Read.remaining c.reads.reader) (c.args.sink.now, c.args.output.now) (c.reads.sink, c.reads.output) (take c.reads.held c.reads.buffer.items) c.args.limit c.reads.invariant.4 (omega (arith, le, len)) c.reads.invariant.1))))
     f.failed)
 
 pub returns-in-Err-clause-taken : goal.returns-in-Err-clause-taken
-returns-in-Err-clause-taken g c = taken_failed g.S.LineSink.takes (g.R.Read.remaining c.args.reader.now) (g.R.Read.remaining c.reads.reader) (c.args.sink.now, c.args.output.now) (c.reads.sink, c.reads.output) _ c.in-Err.e c.reads.invariant.2
+returns-in-Err-clause-taken g c =
+    rw (← c.records-records.ensures)
+    (taken_failed c.records-records.result g.S.LineSink.takes (g.R.Read.remaining c.args.reader.now) (g.R.Read.remaining c.reads.reader) (c.args.sink.now, c.args.output.now) (c.reads.sink, c.reads.output) _ c.in-Err.e c.reads.invariant.4)
 
 pub returns-in_err-take-clause-failed : goal.returns-in_err-take-clause-failed
 returns-in_err-take-clause-failed g c =
@@ -25,40 +27,68 @@ returns-in_err-take-clause-failed g c =
     let f = c.in-Ok.ensures in
     let got = rw c.in-Some.is at f.2 in
     let same = f.1 ∙ c.in_ok-make_room.ensures.kept in
-    let all = taken_more g.S.LineSink.takes _ _ _ _ _ _ _ _ c.reads.invariant.2 got.1 (filled c.reads.held c.in-Some.count _ _ c.reads.invariant.0 same) in
-    rw (e.1, e.2) (inr (inr (fails_last g.S.LineSink.takes g.S.LineSink.fails g.met.S.LineSink.fails_later _ _ _ (c.reads.sink, c.reads.output) _ (take c.reads.held c.fill.new.buffer.items) _ all (none_more c.reads.held c.in-Some.count _ c.if-count-eq0.true) (got.2 c.if-count-eq0.true) (rw c.deref.ensures.value at c.in_err-take.ensures.failed))))
+    let all = taken_more c.records-records.result g.S.LineSink.takes _ _ _ _ _ _ _ _ c.reads.invariant.4 got.1 (filled c.reads.held c.in-Some.count _ _ c.reads.invariant.0 same) in
+    rw (e.1, e.2)
+    (inr (inr (rw (← c.records-records.ensures)
+    (fails_last c.records-records.result g.S.LineSink.takes (λ s. g.S.LineSink.splits s.0) g.S.LineSink.fails g.met.S.LineSink.fails_later _ _ _ (c.reads.sink, c.reads.output) _ (take c.reads.held c.fill.new.buffer.items) _ (sym c.records-records.ensures) all
+    (none_more c.reads.held c.in-Some.count _ c.if-count-eq0.true) (got.2 c.if-count-eq0.true) (rw c.deref.ensures.value at c.in_err-take.ensures.failed)))))
 
-pub returns-in_err-held-clause-failed : goal.returns-in_err-held-clause-failed
-returns-in_err-held-clause-failed g c =
-    let e = err_from_is_err_and c.from_residual-in_err-held.result c.from_residual-in_err-held.ensures.1 in
+pub returns-in_err-kept-clause-failed : goal.returns-in_err-kept-clause-failed
+returns-in_err-kept-clause-failed g c =
+    let e = err_from_is_err_and c.from_residual-in_err-kept.result c.from_residual-in_err-kept.ensures.1 in
     let f = c.in-Ok.ensures in
     let got = rw c.in-Some.is at f.2 in
     let same = f.1 ∙ c.in_ok-make_room.ensures.kept in
-    let all = taken_more g.S.LineSink.takes _ _ _ _ _ _ _ _ c.reads.invariant.2 got.1 (filled c.reads.held c.in-Some.count _ _ c.reads.invariant.0 same) in
-    rw (e.1, e.2) (inr (inr (fails_lines g.S.LineSink.takes g.S.LineSink.fails g.met.S.LineSink.fails_later g.met.S.LineSink.fails_sooner _ _ _ (c.reads.sink, c.reads.output) _ _ all c.in_err-held.ensures.failed)))
+    let all = taken_more c.records-records.result g.S.LineSink.takes _ _ _ _ _ _ _ _ c.reads.invariant.4 got.1 (filled c.reads.held c.in-Some.count _ _ c.reads.invariant.0 same) in
+    rw (e.1, e.2)
+    (inr (inr (rw (← c.records-records.ensures)
+    (fails_lines c.records-records.result g.S.LineSink.takes (λ s. g.S.LineSink.splits s.0) g.S.LineSink.fails g.met.S.LineSink.fails_later g.met.S.LineSink.fails_sooner _ _ _ (c.reads.sink, c.reads.output) _ _ (sym c.records-records.ensures) c.reads.invariant.3 all c.in_err-kept.ensures.failed))))
 
 pub returns-then-count-eq0 : goal.returns-then-count-eq0
 returns-then-count-eq0 g c =
     let f = c.in-Ok.ensures in
     let got = rw c.in-Some.is at f.2 in
     let same = f.1 ∙ c.in_ok-make_room.ensures.kept in
-    let all = taken_more g.S.LineSink.takes _ _ _ _ _ _ _ _ c.reads.invariant.2 got.1 (filled c.reads.held c.in-Some.count _ _ c.reads.invariant.0 same) in
+    let all = taken_more c.records-records.result g.S.LineSink.takes _ _ _ _ _ _ _ _ c.reads.invariant.4 got.1 (filled c.reads.held c.in-Some.count _ _ c.reads.invariant.0 same) in
     record {
-      taken = taken_last g.S.LineSink.takes g.met.S.LineSink.takes_both Error _ _ _ (c.reads.sink, c.reads.output) (c.take.new.self, c.take.new.output) _ (take c.reads.held c.fill.new.buffer.items) all (none_more c.reads.held c.in-Some.count _ c.if-count-eq0.true) (got.2 c.if-count-eq0.true) (rw c.deref.ensures.value at c.in_ok-take.ensures.taken);
+      taken =
+          rw (← c.records-records.ensures)
+          (taken_last c.records-records.result g.S.LineSink.takes (λ s. g.S.LineSink.splits s.0) g.met.S.LineSink.takes_both Error _ _ _ (c.reads.sink, c.reads.output) (c.take.new.self, c.take.new.output) _ (take c.reads.held c.fill.new.buffer.items)
+          (sym c.records-records.ensures) all (none_more c.reads.held c.in-Some.count _ c.if-count-eq0.true) (got.2 c.if-count-eq0.true) (rw c.deref.ensures.value at c.in_ok-take.ensures.taken));
+      same = g.met.S.LineSink.takes_same _ _ _ c.in_ok-take.ensures.taken ∙ (c.reads.invariant.3 ∙ c.records-records.ensures);
       failed = tt;
     }
 
 pub reads-init : goal.reads-init
-reads-init g c = (omega arith, λ k d less. absurd (omega (arith, less)), taken_none g.S.LineSink.takes g.met.S.LineSink.takes_none (g.R.Read.remaining c.args.reader.now) (c.args.sink.now, c.args.output.now))
+reads-init g c = (
+  omega arith,
+  one_start c.records-records.result,
+  place_start c.records-records.result,
+  sym c.records-records.ensures,
+  taken_none c.records-records.result g.S.LineSink.takes g.met.S.LineSink.takes_none (g.R.Read.remaining c.args.reader.now) (c.args.sink.now, c.args.output.now),
+)
 
 pub reads-preserved : goal.reads-preserved
 reads-preserved g c =
-    let t = c.in_ok-held.ensures.taken in
+    let t = c.in_ok-kept.ensures.taken in
     let f = c.in-Ok.ensures in
     let got = rw c.in-Some.is at f.2 in
     let same = f.1 ∙ c.in_ok-make_room.ensures.kept in
-    let all = taken_more g.S.LineSink.takes _ _ _ _ _ _ _ _ c.reads.invariant.2 got.1 (filled c.reads.held c.in-Some.count _ _ c.reads.invariant.0 same) in
-    (t.within, t.rest, taken_lines g.S.LineSink.takes g.met.S.LineSink.takes_both _ _ _ (c.reads.sink, c.reads.output) _ _ _ _ all t)
+    let all = taken_more c.records-records.result g.S.LineSink.takes _ _ _ _ _ _ _ _ c.reads.invariant.4 got.1 (filled c.reads.held c.in-Some.count _ _ c.reads.invariant.0 same) in (
+      t.within,
+      t.rest,
+      t.place_is,
+      g.met.S.LineSink.takes_same _ _ _ t.change ∙ c.reads.invariant.3,
+      taken_lines c.records-records.result g.S.LineSink.takes (λ s. g.S.LineSink.splits s.0) g.met.S.LineSink.takes_both _ _ _ (c.reads.sink, c.reads.output) _ _ _ _ _ (sym c.records-records.ensures) all t,
+    )
 
 pub returns-clause-taken : goal.returns-clause-taken
-returns-clause-taken g c = taken_failed g.S.LineSink.takes (g.R.Read.remaining c.args.reader.now) (g.R.Read.remaining c.reads.reader) (c.args.sink.now, c.args.output.now) (c.reads.sink, c.reads.output) _ c.from.result c.reads.invariant.2
+returns-clause-taken g c =
+    rw (← c.records-records.ensures)
+    (taken_failed c.records-records.result g.S.LineSink.takes (g.R.Read.remaining c.args.reader.now) (g.R.Read.remaining c.reads.reader) (c.args.sink.now, c.args.output.now) (c.reads.sink, c.reads.output) _ c.from.result c.reads.invariant.4)
+
+pub returns-in-Err-clause-same : goal.returns-in-Err-clause-same
+returns-in-Err-clause-same g c = c.reads.invariant.3 ∙ c.records-records.ensures
+
+pub returns-clause-same : goal.returns-clause-same
+returns-clause-same g c = c.reads.invariant.3 ∙ c.records-records.ensures

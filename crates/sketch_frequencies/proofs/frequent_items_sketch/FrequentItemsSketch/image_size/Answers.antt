@@ -19,7 +19,7 @@ returns-clause-size g c =
     let counters = ap (λ (s : FrequentState g.row.T.Denot). s.counters) c.self.view_is in
     record {
       empty = λ none. absurd (omega (arith, none, total, c.if-self-eq0.false));
-      full = λ _. (c.in_ok-items.items, subst (λ es. TakeBytes g.T.FrequentItemValue.codec (contents_of g.T.FrequentItemValue.content es) c.in_ok-items.items) (c.slots.ensures ∙ counters) c.in_ok-items.ensures.ok, omega (arith, c.num_active.ensures.active, ap length counters));
+      full = λ _. (c.in_ok-items.items, subst (λ es. TakeBytes g.T.FrequentItemValue.codec (contents_of g.T.FrequentItemValue.content es) c.in_ok-items.items) (c.slots.ensures ∙ counters) c.in_ok-items.ensures.ok, omega (arith, c.num_active-active.ensures.active, ap length counters));
     }
 
 pub returns-clause-some : goal.returns-clause-some
@@ -54,10 +54,10 @@ pub returns-then-items-front-clause-memory : goal.returns-then-items-front-claus
 returns-then-items-front-clause-memory g c = λ memory.
     let total = ap (λ (s : FrequentState g.row.T.Denot). s.total) c.self.view_is in
     let counters = ap (λ (s : FrequentState g.row.T.Denot). s.counters) c.self.view_is in
-    image_above g.T.FrequentItemValue.codec g.T.FrequentItemValue.content g.T.PartialEq.eq g.met.T.FrequentItemValue.alike c.args.self.now _ _ (subst (λ s. IsState g.T.PartialEq.eq s) c.self.view_is c.self.invariant) (omega (arith, total, c.if-self-eq0.false)) (omega (arith, total)) (c.slots.ensures ∙ counters) c.in_ok-items.ensures.ok (omega (arith, c.if-items-front.true, c.num_active.ensures.active, ap length (c.slots.ensures)))
+    image_above g.T.FrequentItemValue.codec g.T.FrequentItemValue.content g.T.PartialEq.eq g.met.T.FrequentItemValue.alike c.args.self.now _ _ (subst (λ s. IsState g.T.PartialEq.eq s) c.self.view_is c.self.invariant) (omega (arith, total, c.if-self-eq0.false)) (omega (arith, total)) (c.slots.ensures ∙ counters) c.in_ok-items.ensures.ok (omega (arith, c.if-items-front.true, c.num_active-active.ensures.active, ap length (c.slots.ensures)))
 
 pub returns-then-items-front-clause-short : goal.returns-then-items-front-clause-short
 returns-then-items-front-clause-short g c = λ within.
     let counters = ap (λ (s : FrequentState g.row.T.Denot). s.counters) c.self.view_is in
     let fits = short_fits g.T.FrequentItemValue.codec g.T.FrequentItemValue.content g.T.PartialEq.eq c.args.self.now _ _ (subst (λ s. IsState g.T.PartialEq.eq s) c.self.view_is c.self.invariant) (c.slots.ensures ∙ counters) within c.in_ok-items.ensures.ok in
-    absurd (omega (arith, fits, c.if-items-front.true, c.num_active.ensures.active, ap length (c.slots.ensures)))
+    absurd (omega (arith, fits, c.if-items-front.true, c.num_active-active.ensures.active, ap length (c.slots.ensures)))

@@ -34,6 +34,15 @@ returns-then-capacity-num_active-clause-stands g c = λ pos x is h s. stands_ste
 pub returns-then-capacity-num_active-clause-budget : goal.returns-then-capacity-num_active-clause-budget
 returns-then-capacity-num_active-clause-budget g c = λ pos x is h s keeps. budget_step_equal g.met.T.Eq.laws c.args.self.now c.put_by_key.new.self x c.args.count (subst (λ s. IsState g.T.PartialEq.eq s) c.self.view_is c.self.invariant) (step_equal (g.met.K.ItemKey.respects_eq c.args.key) x is c.in_ok-put_by_key.ensures.step) h s keeps
 
+pub returns-then-len-self-clause-zero : goal.returns-then-len-self-clause-zero
+returns-then-len-self-clause-zero g c = λ none. absurd (c.if-count-eq0.false none)
+
+pub returns-then-len-self-clause-stands : goal.returns-then-len-self-clause-stands
+returns-then-len-self-clause-stands g c = λ pos x is h s. stands_step g.met.T.Eq.laws c.args.self.now c.add_by_key.new.self x c.args.count pos (subst (λ s. IsState g.T.PartialEq.eq s) c.self.view_is c.self.invariant) (step_equal (g.met.K.ItemKey.respects_eq c.args.key) x is c.in_ok-add_by_key.ensures.step) h s
+
+pub returns-then-len-self-clause-budget : goal.returns-then-len-self-clause-budget
+returns-then-len-self-clause-budget g c = λ pos x is h s keeps. budget_step_equal g.met.T.Eq.laws c.args.self.now c.add_by_key.new.self x c.args.count (subst (λ s. IsState g.T.PartialEq.eq s) c.self.view_is c.self.invariant) (step_equal (g.met.K.ItemKey.respects_eq c.args.key) x is c.in_ok-add_by_key.ensures.step) h s keeps
+
 pub returns-then-adjust_by_key-clause-step : goal.returns-then-adjust_by_key-clause-step
 returns-then-adjust_by_key-clause-step g c = λ _.
     let x = item_by_key (g.K.ItemKey.names c.args.key) c.args.self.now.counters (sym c.adjust_by_key.ensures.tracked ∙ c.if-adjust_by_key.true) in

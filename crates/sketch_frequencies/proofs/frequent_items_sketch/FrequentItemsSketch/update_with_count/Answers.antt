@@ -1,8 +1,9 @@
-use Rattle.std.proofs.Common.{arith, subst}
-use Rattle.sketch_frequencies.specs.State.{IsState}
+use Rattle.std.proofs.Common.{◌≡◌, ◌∙◌, arith, subst, sym}
+use Rattle.sketch_frequencies.specs.State.{FrequentState, IsState}
 use Rattle.sketch_frequencies.specs.Steps.{Steps}
 use Rattle.sketch_frequencies.proofs.Enclosure.{stands_after}
 use Rattle.sketch_frequencies.proofs.Tail.{budget_after}
+use Rattle.sketch_frequencies.proofs.UpdateParts.{step_at_max}
 use Rattle.sketch_frequencies.proofs.frequent_items_sketch.FrequentItemsSketch.update_with_count.Goals as goal
 
 -- it is put where there is room, added to what is tracked, or tracked
@@ -12,6 +13,19 @@ returns-then-capacity-num_active-clause-stands g c = λ pos h s. stands_after g.
 
 pub returns-then-capacity-num_active-clause-budget : goal.returns-then-capacity-num_active-clause-budget
 returns-then-capacity-num_active-clause-budget g c = λ pos h s keeps. budget_after g.met.T.Eq.laws c.args.self.now c.put.new.self c.args.item c.args.count (subst (λ s. IsState g.T.PartialEq.eq s) c.self.view_is c.self.invariant) c.put.ensures.step h s keeps
+
+-- all counters are taken, and the table may not grow
+
+pub returns-then-len-self-clause-step : goal.returns-then-len-self-clause-step
+returns-then-len-self-clause-step g c = λ _.
+    let at = subst (λ (s : FrequentState g.row.T.Denot). s.size ≡ s.max_size) c.self.view_is (sym c.len.ensures.size ∙ c.if-len-self.true) in
+    step_at_max g.T.PartialEq.eq c.args.self.now c.add.new.self c.args.item c.args.count at c.add.ensures.adds
+
+pub returns-then-len-self-clause-stands : goal.returns-then-len-self-clause-stands
+returns-then-len-self-clause-stands g c = λ pos h s. stands_after g.met.T.Eq.laws c.args.self.now c.add.new.self c.args.item c.args.count pos (subst (λ s. IsState g.T.PartialEq.eq s) c.self.view_is c.self.invariant) (returns-then-len-self-clause-step g c pos) h s
+
+pub returns-then-len-self-clause-budget : goal.returns-then-len-self-clause-budget
+returns-then-len-self-clause-budget g c = λ pos h s keeps. budget_after g.met.T.Eq.laws c.args.self.now c.add.new.self c.args.item c.args.count (subst (λ s. IsState g.T.PartialEq.eq s) c.self.view_is c.self.invariant) (returns-then-len-self-clause-step g c pos) h s keeps
 
 -- where it is refused, or the count is 0, the sketch is as it was
 

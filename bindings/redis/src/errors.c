@@ -1,0 +1,53 @@
+/* Errors of commands. The words of BF, CMS and TOPK are those that their clients know. */
+#include "module.h"
+
+#include <stdio.h>
+#include <string.h>
+#include <strings.h>
+
+const char no_memory[] = "OOM out of memory: nothing changed";
+const char bad_data[] = "ERR received bad data";
+const char bad_syntax[] = "ERR syntax error";
+const char bad_number[] = "ERR value is not an integer or out of range";
+const char too_much[] = "ERR a sketch of this command takes more bytes than the module's max-bytes";
+
+int reply_error(Call *call, const char *error)
+{
+    return RedisModule_ReplyWithError(call->ctx, error);
+}
+
+int reply_result(Call *call, int32_t result)
+{
+    char error[128];
+    if (result == DS_NO_MEMORY) return reply_error(call, no_memory);
+    snprintf(error, sizeof error, "ERR %s", ds_result_message(result));
+    return reply_error(call, error);
+}
+
+/* The words of a family of commands for a key that is not there, and for one that is. */
+static const struct Family {
+    const char *prefix, *missing, *exists;
+} families[] = {
+    {"bf.", "ERR not found", "ERR item exists"},
+    {"cms.", "CMS: key does not exist", "CMS: key already exists"},
+    {"topk.", "TopK: key does not exist", "TopK: key already exists"},
+    {"", "ERR no such key", "BUSYKEY Target key name already exists."},
+};
+
+static const struct Family *family_of(Call *call)
+{
+    const char *name = RedisModule_StringPtrLen(call->argv[0], NULL);
+    const struct Family *family = families;
+    while (strncasecmp(name, family->prefix, strlen(family->prefix)) != 0) family++;
+    return family;
+}
+
+int reply_missing(Call *call)
+{
+    return reply_error(call, family_of(call)->missing);
+}
+
+int reply_exists(Call *call)
+{
+    return reply_error(call, family_of(call)->exists);
+}

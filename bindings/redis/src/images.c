@@ -1,0 +1,172 @@
+/* The commands SKETCH: images, which all interfaces of the library read and write. */
+#include "module.h"
+
+#include <inttypes.h>
+#include <stdio.h>
+#include <stdlib.h>
+#include <string.h>
+
+/* --- Images. --- */
+
+/* A counter in an image of frequent items. */
+typedef struct Counter {
+    const uint8_t *weight; /* 8 bytes */
+    const uint8_t *item;   /* its length in 4 bytes, lowest first, and its bytes */
+    size_t length;         /* of the item's bytes */
+} Counter;
+
+/* The image of frequent items that has counters: this many bytes, then the weights, then the items. The number of counters is in
+ * the four bytes from the eighth on. */
+#define PREAMBLE_BYTES 32
+
+static size_t small_number(const uint8_t *from)
+{
+    return from[0] | (size_t)from[1] << 8 | (size_t)from[2] << 16 | (size_t)from[3] << 24;
+}
+
+static int compare_counters(const void *one, const void *other)
+{
+    const Counter *a = one, *b = other;
+    int order = memcmp(a->item + 4, b->item + 4, a->length < b->length ? a->length : b->length);
+    return order != 0 ? order : (a->length > b->length) - (a->length < b->length);
+}
+
+/* Writes an image of frequent items with its counters in the order of the items' bytes. Returns false if there is no memory. */
+static bool write_sorted(const uint8_t *image, uint8_t *out)
+{
+    size_t count = small_number(image + 8);
+    const uint8_t *at = image + PREAMBLE_BYTES + 8 * count;
+    Counter *counters = try_block(count * sizeof *counters);
+    uint8_t *weights = out + PREAMBLE_BYTES, *items = weights + 8 * count;
+    if (counters == NULL) return false;
+    for (size_t i = 0; i < count; i++) {
+        counters[i] = (Counter){image + PREAMBLE_BYTES + 8 * i, at, small_number(at)};
+        at += 4 + counters[i].length;
+    }
+    qsort(counters, count, sizeof *counters, compare_counters);
+    memcpy(out, image, PREAMBLE_BYTES);
+    for (size_t i = 0; i < count; i++) {
+        memcpy(weights + 8 * i, counters[i].weight, 8);
+        memcpy(items, counters[i].item, 4 + counters[i].length);
+        items += 4 + counters[i].length;
+    }
+    free_block(counters);
+    return true;
+}
+
+uint8_t *write_image(Sketch *sketch, size_t *length)
+{
+    uint8_t *image, *sorted;
+    bool is_sorted;
+    if (ds_serialized_bytes(&sketch->handle, length) < 0) return NULL;
+    image = try_block(*length);
+    if (image == NULL) return NULL;
+    ds_serialize(&sketch->handle, image, *length, length);
+    if (sketch->kind != DS_FREQUENT_ITEMS_STRING || *length <= PREAMBLE_BYTES) return image;
+    sorted = try_block(*length);
+    is_sorted = sorted != NULL && write_sorted(image, sorted);
+    free_block(image);
+    if (is_sorted) return sorted;
+    free_block(sorted);
+    return NULL;
+}
+
+int sketch_image(Call *call)
+{
+    size_t length;
+    uint8_t *image = write_image(call->sketch, &length);
+    if (image == NULL) return reply_error(call, no_memory);
+    RedisModule_ReplyWithStringBuffer(call->ctx, (const char *)image, length);
+    free_block(image);
+    return REDISMODULE_OK;
+}
+
+/* --- Sketches from images. --- */
+
+/* The names of kinds. */
+static const struct {
+    const char *name;
+    Kind kind;
+} kinds[] = {{"bloom_filter", DS_BLOOM}, {"count_min", DS_COUNT_MIN_U64}, {"frequent_strings", DS_FREQUENT_ITEMS_STRING}};
+
+/* The options of SKETCH.LOAD. */
+typedef struct LoadOptions {
+    long long limit;
+    uint64_t seed;
+    bool replaces;
+} LoadOptions;
+
+/* Reads the options of SKETCH.LOAD. Returns false after an error. */
+static bool load_options(Call *call, LoadOptions *options)
+{
+    int at = 4;
+    while (at < call->argc) {
+        bool has_value = at + 1 < call->argc;
+        if (is_word(call, at, "REPLACE")) {
+            options->replaces = true;
+            at++;
+        } else if (has_value && is_word(call, at, "MAXBYTES")) {
+            if (!number_argument(call, at + 1, 0, INT64_MAX, bad_number, &options->limit)) return false;
+            at += 2;
+        } else if (has_value && is_word(call, at, "SEED")) {
+            if (!seed_argument(call, at + 1, &options->seed)) return false;
+            at += 2;
+        } else {
+            reply_error(call, bad_syntax);
+            return false;
+        }
+    }
+    return true;
+}
+
+/* Fills in what the image of a sketch does not say: a guess of it. */
+static void guess_numbers(Sketch *sketch)
+{
+    ds_status status = status_of(sketch);
+    if (sketch->kind == DS_BLOOM) {
+        sketch->seed = status.seed;
+        sketch->inserted = estimated_items(sketch);
+        sketch->capacity = capacity_of(sketch);
+        sketch->rate = 0.01;
+    } else if (sketch->kind == DS_FREQUENT_ITEMS_STRING) {
+        make_top(sketch, status.maximum_map_capacity);
+        count_strings(sketch);
+    }
+}
+
+int sketch_load(Call *call)
+{
+    size_t length, kind = 0, num_kinds = sizeof kinds / sizeof *kinds;
+    const uint8_t *image = (const uint8_t *)RedisModule_StringPtrLen(call->argv[3], &length);
+    LoadOptions options = {(long long)max_bytes, DS_DEFAULT_SEED, false};
+    Sketch *sketch;
+    int32_t result = DS_NO_MEMORY;
+    while (kind < num_kinds && !is_word(call, 2, kinds[kind].name)) kind++;
+    if (kind == num_kinds) return reply_error(call, "ERR the kind must be bloom_filter, count_min or frequent_strings");
+    if (!load_options(call, &options)) return REDISMODULE_OK;
+    if (call->sketch != NULL && !options.replaces) return reply_exists(call);
+    sketch = new_value(kinds[kind].kind);
+    if (sketch != NULL) {
+        size_t limit = (size_t)options.limit < max_bytes ? (size_t)options.limit : max_bytes;
+        sketch->seed = options.seed;
+        sketch->table_key = (ds_key){random_word(), random_word()};
+        ds_image_options given = {limit, sketch->seed, &sketch->table_key};
+        result = ds_deserialize(&sketch->handle, sketch->kind, image, length, &given);
+    }
+    if (result == DS_OK && sketch->kind != DS_BLOOM && status_of(sketch).total_weight > INT64_MAX) result = DS_VALUE_OUT_OF_RANGE;
+    if (result != DS_OK) {
+        free_value(sketch);
+        return reply_result(call, result);
+    }
+    guess_numbers(sketch);
+    create_value(call, sketch);
+    return RedisModule_ReplyWithSimpleString(call->ctx, "OK");
+}
+
+int sketch_seed(Call *call)
+{
+    char digits[24];
+    int length = snprintf(digits, sizeof digits, "%" PRIu64, call->sketch->seed);
+    if (call->sketch->kind == DS_FREQUENT_ITEMS_STRING) return reply_error(call, "ERR frequent items have no seed");
+    return RedisModule_ReplyWithStringBuffer(call->ctx, digits, (size_t)length);
+}

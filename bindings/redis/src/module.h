@@ -1,0 +1,251 @@
+/* Declarations that the files of the module share. */
+#ifndef MODULE_H
+#define MODULE_H
+
+#include <stdbool.h>
+#include <stddef.h>
+#include <stdint.h>
+
+#include "redismodule.h"
+
+#include "datasketches.h"
+
+/* --- allocator.c: the memory of the library and of this module. --- */
+
+/* Makes the library allocate from the server. Returns whether it does. */
+bool set_allocator(void);
+
+/* Returns a new block, or null if there is no memory. The server's own calls for a command end the server then. */
+void *try_block(size_t bytes);
+
+/* Frees a block of `try_block`. Null is no block. */
+void free_block(void *block);
+
+/* Sets bytes aside for the allocations of the calls up to `end_reserve`, which then succeed. Returns false if there is no memory. */
+bool begin_reserve(size_t bytes);
+void end_reserve(void);
+
+/* Returns the bytes of a reserve that an allocation may take. */
+static inline size_t reserve_for(size_t bytes)
+{
+    return (bytes + 15) / 16 * 16 + 32;
+}
+
+#ifdef RATTLE_FAILING_ALLOCATIONS
+/* Makes the allocation after `count` others fail, and each after it if `for_good`. Below 0, none fails. Returns the number of
+ * allocations that were left until the failure that was set before. */
+long long fail_allocations(long long count, bool for_good);
+#endif
+
+/* --- sketches.c: the values of keys. --- */
+
+/* A kind of sketches, by the library's number: DS_BLOOM, DS_COUNT_MIN_U64 or DS_FREQUENT_ITEMS_STRING. */
+typedef int32_t Kind;
+
+/* The kind of a value that is not yet a sketch: the first bytes of a state, of which others come. */
+#define PARTS 100
+
+/* The value of a key. What stays 0 for a kind is not used by it. */
+typedef struct Sketch {
+    ds_sketch handle; /* none if the value is parts of a state */
+    Kind kind;
+    uint64_t seed;        /* of filters and Count-Min sketches */
+    bool has_server_seed; /* whether the seed is the server's, and was not given with the command */
+    ds_key table_key;     /* of frequent items: under which the table hashes. It is secret */
+    uint64_t capacity;    /* of a filter: the items that it was made for. Of frequent items: the k of TOPK */
+    uint64_t inserted;    /* of a filter: the additions that changed it */
+    double rate;    /* of a filter: the rate of false positives at its capacity. Of frequent items: the decay of TOPK.RESERVE */
+    uint64_t width; /* of frequent items: the width and depth of TOPK.RESERVE */
+    uint64_t depth;
+    size_t string_bytes; /* of frequent items: no less than the bytes of the strings in the table */
+    size_t added_bytes;  /* of frequent items: the part of `string_bytes` that was added since they were counted */
+    uint8_t *bytes;      /* of parts: those that came, and how many come in all */
+    size_t length, room, total;
+} Sketch;
+
+/* The types of keys' values. */
+typedef struct Types {
+    RedisModuleType *filters, *counts, *frequent, *parts;
+} Types;
+extern Types types;
+
+/* The arguments of the module. */
+extern size_t max_bytes;       /* a sketch may take */
+extern size_t max_merge_bytes; /* a merge may read */
+
+/* The seed of filters and Count-Min sketches that are created without one. */
+extern uint64_t server_seed;
+
+/* Returns a new value without a sketch, or null if there is no memory. */
+Sketch *new_value(Kind kind);
+
+/* Frees a value with its sketch. */
+void free_value(void *value);
+
+/* Returns the type of the values of a kind. */
+RedisModuleType *type_of(Kind kind);
+
+/* Returns the numbers of a value's sketch. */
+ds_status status_of(Sketch *sketch);
+
+/* Returns random bytes as a number. */
+uint64_t random_word(void);
+
+/* Sets the server's seed to the argument of the module, or draws it if that is null. */
+void set_server_seed(const uint64_t *given);
+
+/* Makes the server's seed that of a sketch that was read from a file or came from the master, if the sketch was created with the
+ * server's seed then. So sketches from before a start and after it can be merged. */
+void take_server_seed(Sketch *sketch, bool is_trusted);
+
+/* Counts the bytes of the strings of frequent items. */
+void count_strings(Sketch *sketch);
+
+/* Gives frequent items what TOPK commands know of a sketch: k, and what TOPK.INFO returns. */
+void make_top(Sketch *sketch, uint64_t k);
+
+/* Returns an estimate of the number of items of a filter by its set bits. */
+uint64_t estimated_items(Sketch *sketch);
+
+/* Returns the number of items at which a filter's hashes fit its bits best. */
+uint64_t capacity_of(Sketch *sketch);
+
+/* --- calls.c: calls of commands. --- */
+
+/* A call of a command on a key, which is its first argument. */
+typedef struct Call {
+    RedisModuleCtx *ctx;
+    RedisModuleString **argv;
+    int argc;
+    RedisModuleKey *key;
+    Sketch *sketch; /* the key's value, or null if there is no key */
+} Call;
+
+/* What a command does with its key. */
+typedef enum Access {
+    READS,      /* reads a sketch */
+    READS_ANY,  /* reads a sketch, or knows what to do without one */
+    WRITES,     /* changes a sketch */
+    WRITES_ANY, /* changes a sketch, or creates one */
+    CREATES,    /* creates a sketch, where there is no key */
+    REPLACES    /* puts a sketch in place of any value of this module */
+} Access;
+
+/* Opens the key of a call for a kind, or for sketches of every kind if it is 0. Returns false after an error. */
+bool open_call(Call *call, Kind kind, Access access);
+void close_call(Call *call);
+
+/* Opens another key of a kind for reading. Returns null after an error. */
+RedisModuleKey *open_other(Call *call, RedisModuleString *name, Kind kind, Sketch **sketch);
+
+/* Puts a value into the key, in place of the one that it has. The key keeps its time to live. */
+void put_value(Call *call, Sketch *sketch);
+
+/* Puts a new value into the key, and replicates it. */
+void create_value(Call *call, Sketch *sketch);
+
+/* Replicates the call as it came. */
+void replicate_call(Call *call);
+
+/* Reads an argument as a whole number from `least` to `most`. Returns false after this error. */
+bool number_argument(Call *call, int at, long long least, long long most, const char *error, long long *number);
+
+/* Reads an argument as a number above 0 and below 1. Returns false after one of these errors. */
+bool fraction_argument(Call *call, int at, const char *no_number, const char *out_of_range, double *number);
+
+/* Reads a seed: a whole number from 0 to 2^64 - 1. Returns whether it is one. */
+bool read_seed(RedisModuleString *from, uint64_t *seed);
+
+/* Reads an argument as a seed. Returns false after an error. */
+bool seed_argument(Call *call, int at, uint64_t *seed);
+
+/* Returns whether an argument is a word, in any case. */
+bool is_word(Call *call, int at, const char *word);
+
+/* Returns the bytes that a sketch of this call may take. What the master or the file of commands sends has no limit here. */
+size_t limit_of(Call *call);
+
+/* Returns whether a sketch may take these bytes. Returns false after an error. */
+bool check_limit(Call *call, uint64_t bytes);
+
+/* Returns 1 / `fraction` as a whole number, rounded up, unless rounding alone put it above a whole number. */
+uint64_t inverse(double fraction);
+
+/* --- errors.c --- */
+
+/* Errors that several commands return. Each family of commands has its own words for the first two, which its clients know. */
+extern const char no_memory[], bad_data[], bad_syntax[], bad_number[], too_much[];
+
+/* Returns an error to the client. */
+int reply_error(Call *call, const char *error);
+
+/* Returns the error of a result below 0 to the client. */
+int reply_result(Call *call, int32_t result);
+
+/* Return the errors that a key is not there, and that it is there, in the words of the command's family. */
+int reply_missing(Call *call);
+int reply_exists(Call *call);
+
+/* --- items.c: the items of a call. --- */
+
+/* The items of a call, with the memory that they take: of their own up to a number of bytes, and then blocks. */
+typedef struct Items {
+    size_t count;
+    size_t bytes; /* of all items */
+    ds_string *strings;
+    void *block, *more;
+    size_t used;
+    uint64_t room[512];
+} Items;
+
+/* Takes the arguments from `first` on, each `step`th, as items of filters and Count-Min sketches: as the bytes that are hashed.
+ * Returns false after an error. */
+bool hashed_items(Call *call, int first, int step, Items *items);
+
+/* Takes them as items of frequent items: as strings in UTF-8. Returns false after an error. */
+bool string_items(Call *call, int first, int step, Items *items);
+
+void free_items(Items *items);
+
+/* Returns a string of frequent items to the client, as the bytes that the item had. Overwrites the string. */
+void reply_item(Call *call, uint8_t *bytes, size_t length);
+
+/* --- states.c: a value as bytes, for files and replicas. --- */
+
+/* Returns a value as bytes, to free by `free_block`, or null if there is no memory. The key of a table is left out unless
+ * `with_key`. */
+uint8_t *write_state(Sketch *sketch, bool with_key, size_t *length);
+
+/* Returns the value of bytes. Returns null, and the result, if they are damaged or the sketch takes more than `limit` bytes. */
+Sketch *read_state(const uint8_t *bytes, size_t length, size_t limit, int32_t *result);
+
+/* Takes bytes of a state from a position on into the key. With the last ones, the key gets the sketch, of a kind or of any kind if
+ * it is 0. Returns false after an error: then nothing changed. */
+bool take_part(Call *call, Kind kind, uint64_t position, const uint8_t *bytes, size_t length);
+
+/* Replicates a call as the state of its key's value. */
+void replicate_state(Call *call, Sketch *sketch);
+
+/* Returns the image of a sketch, to free by `free_block`. That of frequent items has its items in the order of their bytes, so equal
+ * sketches have equal images. Returns null if there is no memory. */
+uint8_t *write_image(Sketch *sketch, size_t *length);
+
+/* Creates the types of values. Returns whether it did. */
+bool create_types(RedisModuleCtx *ctx);
+
+/* --- The commands. Each function gets a call whose key is open. --- */
+
+int bf_reserve(Call *call), bf_add(Call *call), bf_madd(Call *call), bf_insert(Call *call), bf_exists(Call *call),
+    bf_mexists(Call *call), bf_card(Call *call), bf_info(Call *call), bf_scandump(Call *call), bf_loadchunk(Call *call);
+int cms_initbydim(Call *call), cms_initbyprob(Call *call), cms_incrby(Call *call), cms_query(Call *call), cms_merge(Call *call),
+    cms_info(Call *call), cms_decay(Call *call), cms_halve(Call *call);
+int topk_reserve(Call *call), topk_add(Call *call), topk_incrby(Call *call), topk_query(Call *call), topk_count(Call *call),
+    topk_list(Call *call), topk_info(Call *call);
+int freq_reserve(Call *call), freq_add(Call *call), freq_incrby(Call *call), freq_bounds(Call *call), freq_rows(Call *call),
+    freq_info(Call *call), freq_merge(Call *call);
+int sketch_image(Call *call), sketch_load(Call *call), sketch_seed(Call *call), sketch_state(Call *call);
+
+/* Creates the commands. Returns whether it did. */
+bool create_commands(RedisModuleCtx *ctx);
+
+#endif

@@ -1,0 +1,91 @@
+/* The values of keys. */
+#include "module.h"
+
+#include <math.h>
+#include <string.h>
+
+Types types;
+size_t max_bytes = (size_t)64 << 20;
+size_t max_merge_bytes = (size_t)256 << 20;
+uint64_t server_seed;
+
+Sketch *new_value(Kind kind)
+{
+    Sketch *sketch = try_block(sizeof *sketch);
+    if (sketch != NULL) *sketch = (Sketch){.handle = DS_NONE, .kind = kind};
+    return sketch;
+}
+
+void free_value(void *value)
+{
+    Sketch *sketch = value;
+    if (sketch == NULL) return;
+    ds_free(&sketch->handle);
+    free_block(sketch->bytes);
+    free_block(sketch);
+}
+
+RedisModuleType *type_of(Kind kind)
+{
+    switch (kind) {
+    case DS_BLOOM: return types.filters;
+    case DS_COUNT_MIN_U64: return types.counts;
+    case DS_FREQUENT_ITEMS_STRING: return types.frequent;
+    default: return types.parts;
+    }
+}
+
+ds_status status_of(Sketch *sketch)
+{
+    ds_status status = {0};
+    ds_get_status(&sketch->handle, &status);
+    return status;
+}
+
+uint64_t random_word(void)
+{
+    uint64_t word = 0;
+    RedisModule_GetRandomBytes((unsigned char *)&word, sizeof word);
+    return word;
+}
+
+static bool is_seed_given;
+
+void set_server_seed(const uint64_t *given)
+{
+    ds_sketch tried = DS_NONE;
+    is_seed_given = given != NULL;
+    do server_seed = is_seed_given ? *given : random_word();
+    while (ds_count_min_new(&tried, DS_COUNT_MIN_U64, 1, 3, server_seed) == DS_ZERO_SEED_HASH && !is_seed_given);
+    ds_free(&tried);
+}
+
+void take_server_seed(Sketch *sketch, bool is_trusted)
+{
+    if (!is_trusted) sketch->has_server_seed = false;
+    if (sketch->has_server_seed && !is_seed_given) server_seed = sketch->seed;
+}
+
+void count_strings(Sketch *sketch)
+{
+    ds_status status = status_of(sketch);
+    size_t bytes = 0, slots = status.current_map_capacity / 3 * 4;
+    ds_memory_bytes(&sketch->handle, &bytes);
+    sketch->string_bytes = bytes - slots * 44;
+    sketch->added_bytes = 0;
+}
+
+uint64_t estimated_items(Sketch *sketch)
+{
+    ds_status status = status_of(sketch);
+    double bits = (double)status.num_bits, used = (double)status.bits_used;
+    if (status.bits_used >= status.num_bits) used = bits - 1; /* a full filter has no estimate: that of one free bit is below it */
+    return (uint64_t)llround(-bits / status.num_hashes * log1p(-used / bits));
+}
+
+uint64_t capacity_of(Sketch *sketch)
+{
+    ds_status status = status_of(sketch);
+    uint64_t items = (uint64_t)((double)status.num_bits / status.num_hashes * log(2));
+    return items > 0 ? items : 1;
+}

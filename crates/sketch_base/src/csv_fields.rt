@@ -1,0 +1,87 @@
+//! The fields of a record of CSV.
+ghost use Rattle.std.specs.Prelude.{◌≡◌, ◌==◌, ◌≤◌, ◌++◌, [], ◌∷◌, MatchOption, OnOk, length, take};
+ghost use Rattle.sketch_base.specs.Csv.{IsFieldEnd, begins_with_quote, field_at, text_of_field};
+
+use crate::byte_set::{OneByte, first_member};
+use crate::csv_records::first_cut;
+use crate::place::{Place, QUOTE};
+use std::alloc::AllocError;
+
+/// Returns the field of an index, counted from 0, with its quotes, or `None` if the record has too few fields. Does not allocate.
+///
+/// A delimiter in quotes is a byte of its field. A record without bytes has no field.
+#[inline(always)]
+pub fn nth_csv_field(row: &[u8], delimiter: u8, index: u32) -> Option<&[u8]>
+    ensures { MatchOption result (field_at delimiter index row.now ≡ []) (λ field. field_at delimiter index row.now ≡ field.now ∷ []) }
+{
+    if row.is_empty() {
+        return None;
+    }
+    let mut rest = row;
+    'fields: for at in 0..index {
+        let (_, after) = rest.split_at(field_end(rest, delimiter));
+        if after.is_empty() {
+            return None;
+        }
+        let (_, later) = after.split_at(1);
+        rest = later;
+    }
+    let (field, _) = rest.split_at(field_end(rest, delimiter));
+    Some(field)
+}
+
+/// Returns the index of the first delimiter outside of quotes, or the number of bytes if there is none.
+#[inline(always)]
+fn field_end(bytes: &[u8], delimiter: u8) -> usize
+    ensures bound { result ≤ length bytes.now }
+    ensures end { IsFieldEnd delimiter bytes.now result }
+{
+    if !begins_with_quote(bytes) {
+        return first_member(bytes, OneByte(delimiter));
+    }
+    let (at, _) = first_cut(OneByte(delimiter), OneByte(delimiter), Place::Start, bytes);
+    at
+}
+
+/// Returns whether the first byte is a quote.
+#[inline(always)]
+fn begins_with_quote(bytes: &[u8]) -> bool
+    ensures { result ≡ begins_with_quote bytes.now }
+{
+    match bytes {
+        [] => false,
+        [first, ..] => *first == QUOTE,
+    }
+}
+
+/// Returns the text of a field, if it stands in one piece among its bytes: if there are neither two quotes for one nor bytes after the
+/// closing quote.
+#[inline(always)]
+pub fn plain_csv_text(field: &[u8]) -> Option<&[u8]>
+    ensures { MatchOption result (Unit {0}) (λ text. text.now ≡ text_of_field field.now) }
+{
+    if !begins_with_quote(field) {
+        return Some(field);
+    }
+    let (_, inner) = field.split_at(1);
+    let at = first_member(inner, OneByte(QUOTE));
+    if at + 1 < inner.len() {
+        return None;
+    }
+    let (text, _) = inner.split_at(at);
+    Some(text)
+}
+
+/// Appends the text of a field: its bytes without the quotes around them, and one quote for two in quotes.
+pub fn append_csv_text(field: &[u8], text: &mut Vec<u8>) -> Result<(), AllocError>
+    ensures { OnOk result (text.new.items ≡ text.old.items ++ text_of_field field.now) }
+{
+    let mut place = Place::Start;
+    'bytes: for byte in field {
+        if place.keeps(*byte) {
+            text.push(*byte)?;
+        }
+        place = place.after(*byte, false);
+    }
+    Ok(())
+}

@@ -1,0 +1,271 @@
+"""Runs `sketches top --csv` over generated files, and compares the reports with exact counts by Python's `csv`.
+
+    python3 tests/program/sketch_csv.py [--after 'N passed, M failed'] crates/sketches/out/sketches
+
+prints a line for each check that failed, and then 'N passed, M failed', counted on from the numbers after `--after`.
+"""
+import collections
+import csv
+import io
+import json
+import os
+import random
+import re
+import subprocess
+import sys
+import tempfile
+
+BLOCK = 1 << 18
+LAST = 2**64 - 1
+
+# Bytes that a reader can get wrong. A carriage return outside of quotes comes before a line feed only.
+PIECES = [b'"', b'"', b'"', b'""', b",", b",", b",", b"\n", b"\n", b"\r\n", b"a", b"b", b"7", b" ", b"\t", b"\\", b"\0", b"\xff", b"\xc3",
+          "é".encode(), b'"a,b"', b'"c\nd"', b'"e""f"', b'"12"', b'x"y', b'"g"h']
+
+
+def records_of(data, delimiter=","):
+    """Returns the records of an input: lists of bytes."""
+    csv.field_size_limit(1 << 30)
+    reader = csv.reader(io.StringIO(data.decode("latin-1"), newline=""), delimiter=delimiter)
+    return [[field.encode("latin-1") for field in row] for row in reader]
+
+
+def text_of(item):
+    """Returns an item with U+FFFD for what is not UTF-8."""
+    return item.decode("utf-8", "replace").encode()
+
+
+def shown(item):
+    """Returns an item as a report shows it."""
+    return item.replace(b"\\", b"\\\\").replace(b"\t", b"\\t").replace(b"\n", b"\\n").replace(b"\r", b"\\r")
+
+
+def is_utf8(data):
+    try:
+        data.decode()
+    except UnicodeDecodeError:
+        return False
+    return True
+
+
+def counts_of(inputs, field, weight=None, header=False, delimiter=","):
+    """Returns the weight of each item, or the number of the first record with an item and a bad weight."""
+    counts = collections.Counter()
+    for data in inputs:
+        for number, row in enumerate(records_of(data, delimiter)[header:], 1):
+            if len(row) < field:
+                continue
+            amount = 1
+            if weight is not None:
+                text = row[weight - 1] if len(row) >= weight else b""
+                amount = int(text) if re.fullmatch(rb"[0-9]+", text) else LAST + 1
+                if amount > LAST:
+                    return number
+            if amount:
+                counts[text_of(row[field - 1])] += amount
+    return counts
+
+
+class Tests:
+    def __init__(self, program, work):
+        self.program = os.path.abspath(program)
+        self.work = work
+        self.passed = 0
+        self.failed = 0
+
+    def check(self, name, holds, said=""):
+        if holds:
+            self.passed += 1
+        else:
+            self.failed += 1
+            print(f"failed: {name} {str(said)[:600]}")
+
+    def file(self, name, data):
+        with open(os.path.join(self.work, name), "wb") as file:
+            file.write(data)
+        return name
+
+    def run(self, *words, data=b""):
+        """Runs the program. Returns its status and both outputs."""
+        command = [self.program, *[str(word) for word in words]]
+        env = {"PATH": "/usr/bin:/bin", "DATASKETCHES_TABLE_KEY": "plain"}
+        ran = subprocess.run(command, input=data, capture_output=True, env=env, cwd=self.work, timeout=120)
+        return ran.returncode, ran.stdout, ran.stderr
+
+    def is_exact(self, name, ran, counts, rows, status=0, said=b""):
+        """Checks a whole report, of so few items that the error is 0."""
+        self.check(f"{name}: status and messages", (ran[0], ran[2]) == (status, said), ran)
+        header, *lines = ran[1].split(b"\n")[:-1] or [b""]
+        self.check(f"{name}: header", header == b"# error 0 of %d" % counts.total(), (header, counts.total()))
+        found = [tuple(line.split(b"\t", 2)) for line in lines]
+        self.check(f"{name}: number of rows", len(found) == min(rows, len(counts)), (len(found), len(counts)))
+        weights = {shown(item): weight for item, weight in counts.items()}
+        self.check(f"{name}: injective", len(weights) == len(counts))
+        exact = [row for row in found if len(row) == 3 and int(row[0]) == int(row[1]) == weights.get(row[2])]
+        self.check(f"{name}: exact", exact == found, [row for row in found if row not in exact])
+
+    def worked(self):
+        """Checks reports that were written down by hand."""
+        table = b'name,n\n"tea, green",2\nmilk,1\r\n"tea, green",3\n"a ""b""\tc\\\nd",4\n'
+        rows = b"# error 0 of 10\n5\t5\ttea, green\n4\t4\ta \"b\"\\tc\\\\\\nd\n1\t1\tmilk\n"
+        cases = [
+            (["-f", "name", "-w", "n"], table, rows),
+            (["-f", "1", "-w", "2"], table, rows),
+            (["-f", "name", "--json"], b'name\n"a\tb"\n', b'{"error":0,"total":1}\n{"lower":1,"upper":1,"item":"a\\u0009b"}\n'),
+            (["-f", "1", "--no-csv-header"], b"a,b\na\n\n\"a\"\n", b"# error 0 of 3\n3\t3\ta\n"),
+            (["-f", "2"], b"a,b\n1\n2,\n3,x,y\n", b"# error 0 of 2\n1\t1\t\n1\t1\tx\n"),
+            (["-d", ";", "-f", "b"], b"a;b\n1;\"x;y\"\n", b"# error 0 of 1\n1\t1\tx;y\n"),
+            (["-d", "\t", "-f", "2"], b"a\tb\n1\tx y\n", b"# error 0 of 1\n1\t1\tx y\n"),
+            (["-f", "a,b"], b'"a,b",c\n1,2\n', b"# error 0 of 1\n1\t1\t1\n"),
+            (["-f", 'x"y'], b'"x""y",c\n1,2\n', b"# error 0 of 1\n1\t1\t1\n"),
+            (["-f", "a"], b"\xef\xbb\xbfa,b\n1,2\n", b"# error 0 of 1\n1\t1\t1\n"),
+            (["-f", "a"], b'\xef\xbb\xbf"a",b\n1,2\n', b"# error 0 of 1\n1\t1\t1\n"),
+            (["-f", "b"], b"a,b\n", b"# error 0 of 0\n"),
+            (["-f", "1"], b"", b"# error 0 of 0\n"),
+            (["-f", "1", "--no-csv-header"], b'"never closed,\nx\n', b"# error 0 of 1\n1\t1\tnever closed,\\nx\\n\n"),
+            (["-f", "1", "--no-csv-header"], b'a\rb\n"c\r"\r\n', b"# error 0 of 2\n1\t1\ta\\rb\n1\t1\tc\\r\n"),
+            (["-f", "4294967295"], b"a\n1\n", b"# error 0 of 0\n"),
+        ]
+        for words, data, wanted in cases:
+            ran = self.run("top", "--csv", *words, data=data)
+            self.check(f"{words} of {data}", (ran[0], ran[2]) == (0, b"") and sorted(ran[1].split(b"\n")) == sorted(wanted.split(b"\n")), ran)
+
+    def random_bytes(self):
+        """Compares reports on random bytes with Python's `csv`."""
+        rng = random.Random(5)
+        for number in range(600):
+            data = b"".join(rng.choices(PIECES, k=rng.choice([3, 10, 40, 400])))
+            field = rng.randint(1, 4)
+            header = rng.random() < 0.5
+            words = ["-n", "100000", "--no-note", "-f", field] + ([] if header else ["--no-csv-header"])
+            ran = self.run("top", "--csv", *words, data=data)
+            self.is_exact(f"random bytes {number}", ran, counts_of([data], field, header=header), 100000)
+
+    def random_weights(self):
+        """The same with weights, good and bad."""
+        rng = random.Random(6)
+        weights = [b"1", b"0", b"7", b'"12"', b'"1"3', b"18446744073709551", b"x", b"", b"-1", b'"', b"1 "]
+        for number in range(300):
+            kinds = weights[:6] if rng.random() < 0.7 else weights
+            rows = [rng.choice([b"a", b'"b,c"', b'"d""e"', b"", b"f\xff"]) + b"," + rng.choice(kinds) for _ in range(rng.randint(0, 30))]
+            data = b"".join(row + rng.choice([b"\n", b"\r\n"]) for row in rows)
+            counts = counts_of([data], 1, weight=2)
+            ran = self.run("top", "--csv", "--no-csv-header", "--no-note", "-n", 1000, "-f", 1, "-w", 2, data=data)
+            if isinstance(counts, int):
+                self.check(f"bad weight {number}", ran[0] == 2 and ran[1] == b"" and ran[2].startswith(b"sketches: -: line %d: bad weight '" % counts), (ran, counts))
+            else:
+                self.is_exact(f"random weights {number}", ran, counts, 1000)
+
+    def blocks(self):
+        """Checks files whose records are cut at every place of a block."""
+        pattern = b'"a\n,""b",2\r\n"c"\r\n"dd\r\n\n",3\n,"e"\n"f""",\n\n'
+        for shift in range(len(pattern) + 2):
+            for size, words, header in [(BLOCK, ["--no-csv-header"], False), (1 << 16, [], True)]:
+                rows = (size - shift - 2) // 4
+                data = b"x" * (size - shift - 4 * rows - 1) + b"\n" + b"y,1\n" * rows
+                self.check(f"cut {shift}: size", len(data) == size - shift)
+                data += pattern * 3
+                ran = self.run("top", "--csv", "-n", 100, "-f", 1, *words, self.file("cut.csv", data))
+                self.is_exact(f"cut {shift} {words}", ran, counts_of([data], 1, header=header), 100)
+        long = b'k,v\n"' + b"many\nlines,\"\"" * 100000 + b'",1\nz,2\n'
+        self.is_exact("a record of many lines", self.run("top", "--csv", "-f", "k", data=long), counts_of([long], 1, header=True), 10)
+        self.is_exact("a long header", self.run("top", "--csv", "-f", 2, data=long[4:]), counts_of([long[4:]], 2, header=True), 10)
+
+    def limits(self):
+        """Checks records of more than `--max-line` bytes."""
+        said = b"sketches: -: a line is longer than --max-line\n"
+        for size in [1, 10, 1000, BLOCK + 5]:
+            for length in [size - 1, size, size + 1]:
+                data = b'a\n"' + b"\n" * (length - 1)
+                ran = self.run("top", "--csv", "--no-csv-header", "--max-line", size, "-f", 1, data=data)
+                if length > size:
+                    self.check(f"a quote that is not closed, {length} of {size}", ran == (2, b"", said), ran)
+                else:
+                    self.is_exact(f"a quote that is not closed, {length} of {size}", ran, counts_of([data], 1), 10)
+
+    def headers(self):
+        """Checks names of fields in several files."""
+        one = self.file("one.csv", b"a,b\n1,x\n2,y\n")
+        two = self.file("two.csv", b"a,b,c\n3,x\n")
+        other = self.file("other.csv", b"b,a\nz,9\n")
+        absent = self.file("absent.csv", b"c,d\n5,6\n")
+        self.is_exact("two files", self.run("top", "--csv", "-f", "b", one, two), collections.Counter({b"x": 2, b"y": 1}), 10)
+        self.is_exact("two files by number", self.run("top", "--csv", "-f", 1, one, other), collections.Counter({b"1": 1, b"2": 1, b"z": 1}), 10)
+        ran = self.run("top", "--csv", "-f", "b", one, other)
+        self.is_exact("a field elsewhere", ran, collections.Counter({b"x": 1, b"y": 1}), 10, 1, b"sketches: other.csv: column 'b' is field 1, and was field 2 before\n")
+        ran = self.run("top", "--csv", "-f", "b", one, absent)
+        self.is_exact("a later file without it", ran, collections.Counter({b"x": 1, b"y": 1}), 10, 1, b"sketches: absent.csv: no column 'b'\n")
+        ran = self.run("top", "--csv", "-f", "b", absent, one)
+        self.check("a first file without it", ran == (2, b"", b"sketches: absent.csv: no column 'b'\n"), ran)
+        ran = self.run("top", "--csv", "-f", "b", "none.csv", one)
+        self.is_exact("an absent file", ran, collections.Counter({b"x": 1, b"y": 1}), 10, 1, b"sketches: none.csv: No such file or directory (os error 2)\n")
+        ran = self.run("top", "--csv", "-f", "a", "-w", "n", data=b"a,b\n1,2\n")
+        self.check("no weight", ran == (2, b"", b"sketches: -: no column 'n'\n"), ran)
+        ran = self.run("top", "--csv", "-f", "a", data=b"")
+        self.check("no header", ran == (2, b"", b"sketches: -: no column 'a'\n"), ran)
+
+    def wrong_use(self):
+        """Checks options that do not fit."""
+        for words in [[], ["-f", "0"], ["-f", "4294967296"], ["-f", "a", "--no-csv-header"], ["-f", "1", "-w", "b", "--no-csv-header"], ["-f", "1", "-d", '"'],
+                      ["-f", "1", "-d", "\n"], ["-f", "1", "-d", "\r"], ["-f", "1", "-d", "é"], ["-f", "1", "-d", ",,"], ["--words"], ["-f", "1", "-w", "0"]]:
+            ran = self.run("top", "--csv", *words, data=b"a,b\n1,2\n")
+            self.check(f"{words}", ran[:2] == (2, b"") and ran[2], ran)
+        for words in [["-f", "a"], ["-f", "1", "-w", "a"], ["--no-csv-header"], ["-f", ""]]:
+            ran = self.run("top", *words, data=b"a b\n")
+            self.check(f"{words} of lines", ran[:2] == (2, b"") and ran[2], ran)
+
+    def saved(self):
+        """Checks that images have the texts of fields, and that merges escape on request."""
+        data = b'k\n"a\tb"\n"a\tb"\nc\\d\n'
+        self.run("top", "--csv", "-f", "k", "--save", "image", data=data)
+        ran = self.run("merge", "--escape", "image")
+        self.is_exact("merge --escape", ran, counts_of([data], 1, header=True), 10)
+        ran = self.run("merge", "--json", "image")
+        items = [json.loads(line)["item"] for line in ran[1].splitlines()[1:]]
+        self.check("merge --json", sorted(items) == ["a\tb", "c\\d"], ran)
+
+    def not_utf8(self):
+        """Checks the note on records that are not UTF-8."""
+        data = b'k,v\n"\xff\n",\xff\nx,\xff\ny,z\n'
+        said = b"sketches: 2 lines are not UTF-8: their bytes are shown as U+FFFD\n"
+        self.is_exact("the note", self.run("top", "--csv", "-f", 1, data=data), counts_of([data], 1, header=True), 10, 0, said)
+
+    def large(self):
+        """Checks the memory of a large input from a pipe."""
+        row = b'%d,"/page/%d, ""x""",200\n'
+        block = b"".join(row % (n, n * n % 1000) for n in range(40000))
+        times = 1 + (1 << 30) // len(block)
+        command = [self.program, "top", "--csv", "--no-csv-header", "-n", "3", "-f", "2"]
+        ran = subprocess.Popen(command, stdin=subprocess.PIPE, stdout=subprocess.PIPE, env={"PATH": "/usr/bin:/bin"})
+        for _ in range(times):
+            ran.stdin.write(block)
+        with open(f"/proc/{ran.pid}/status", encoding="ascii") as file:
+            peak = int(re.search(r"VmHWM:\s+(\d+) kB", file.read())[1])
+        out, _ = ran.communicate()
+        self.check("1 GB: status and total", ran.returncode == 0 and out.startswith(b"# error 0 of %d\n" % (40000 * times)), out)
+        self.check("1 GB: memory", peak < 8 * 1024, peak)
+
+
+def main():
+    words = sys.argv[1:]
+    before = (0, 0)
+    if words[0] == "--after":
+        before = tuple(int(number) for number in re.findall(r"\d+", words[1])[:2])
+        words = words[2:]
+    with tempfile.TemporaryDirectory() as work:
+        tests = Tests(words[0], work)
+        tests.worked()
+        tests.random_bytes()
+        tests.random_weights()
+        tests.blocks()
+        tests.limits()
+        tests.headers()
+        tests.wrong_use()
+        tests.saved()
+        tests.not_utf8()
+        tests.large()
+    print(f"{before[0] + tests.passed} passed, {before[1] + tests.failed} failed")
+    sys.exit(1 if before[1] + tests.failed else 0)
+
+
+main()
