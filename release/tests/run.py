@@ -2,10 +2,10 @@
 runs the first examples of the pages, and removes it again. It needs root, for `debootstrap` and `chroot`. Servers of PostgreSQL and
 Redis run in that Debian on unix sockets alone, and are stopped.
 
-    python3 release/tests/run.py [--after 'N passed, M failed'] PROGRAM ARCHIVE SKETCHES
+    python3 release/tests/run.py PROGRAM ARCHIVE SKETCHES
 
-PROGRAM, ARCHIVE and SKETCHES are those of `release/build.sh`. It prints the failed tests and then 'N passed, M failed', counted on
-from the numbers after `--after`. `DEBIAN_MIRROR` names the mirror, by default http://deb.debian.org/debian.
+PROGRAM, ARCHIVE and SKETCHES are those of `release/build.sh`. It prints the failed tests and then 'N passed, M failed'.
+`DEBIAN_MIRROR` names the mirror, by default http://deb.debian.org/debian.
 """
 import filecmp
 import glob
@@ -61,8 +61,8 @@ def install_blocks(page):
 
 
 class Tests:
-    def __init__(self, work, passed, failed):
-        self.work, self.passed, self.failed = work, passed, failed
+    def __init__(self, work):
+        self.work, self.passed, self.failed = work, 0, 0
         self.root = f"{work}/root"
 
     def check(self, name, holds, said=""):
@@ -269,16 +269,12 @@ class Tests:
 
 def main():
     words = sys.argv[1:]
-    passed, failed = 0, 0
-    if words[0] == "--after":
-        passed, failed = [int(number) for number in re.fullmatch(r"(\d+) passed, (\d+) failed", words[1]).groups()]
-        words = words[2:]
     program, archive, packed = [os.path.abspath(word) for word in words]
     if os.geteuid() != 0:
-        print(f"failed: the packages are tested as root alone\n{passed} passed, {failed + 1} failed")
+        print("failed: the packages are tested as root alone\n0 passed, 1 failed")
         sys.exit(1)
     with tempfile.TemporaryDirectory() as work:
-        tests = Tests(work, passed, failed)
+        tests = Tests(work)
         making = tests.start_root()
         built = tests.build_twice(archive, program, packed)
         tests.compiled(built)

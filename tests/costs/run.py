@@ -1,13 +1,12 @@
 #!/usr/bin/env python3
 """Tests that the cost of each call that reads input is linear in the input, by counting instructions.
 
-    python3 tests/costs/run.py [--after 'N passed, M failed'] crates/datasketches_cli/out/datasketches_cli [ARCHIVE [PACKAGE]]
+    python3 tests/costs/run.py crates/datasketches_cli/out/datasketches_cli [ARCHIVE [PACKAGE]]
 
 makes each call of the C library, each kind of line of the program, and calls of the Python package on an input of size n and of
 10 n, under valgrind's callgrind. A test fails if the second one takes more than 12 times the instructions of the first one. From
 runs of the program those on an empty input are subtracted. ARCHIVE is the library for C, and PACKAGE the folder of
-`bindings/python/build.sh`, which is built if it is not given. The last line is 'N passed, M failed', counted on from the numbers
-after `--after`.
+`bindings/python/build.sh`, which is built if it is not given. The last line is 'N passed, M failed'.
 """
 import os
 import random
@@ -26,10 +25,10 @@ KEY = b"DATASKETCHES_TABLE_KEY"  # in the program if its tables and maps have ke
 
 
 class Tests:
-    def __init__(self, work, passed, failed):
+    def __init__(self, work):
         self.work = work
-        self.passed = passed
-        self.failed = failed
+        self.passed = 0
+        self.failed = 0
 
     def check(self, name, holds, said=""):
         if holds:
@@ -160,13 +159,9 @@ def scripts(program, work):
 
 def main():
     words = sys.argv[1:]
-    passed, failed = 0, 0
-    if words[0] == "--after":
-        passed, failed = [int(number) for number in re.fullmatch(r"(\d+) passed, (\d+) failed", words[1]).groups()]
-        words = words[2:]
     program, archive, built = os.path.abspath(words[0]), words[1:2], words[2:3]
     with tempfile.TemporaryDirectory() as work:
-        tests = Tests(work, passed, failed)
+        tests = Tests(work)
         tests.library(archive)
         tests.lines(program)
         tests.package(archive, os.path.abspath(built[0]) if built else None)

@@ -1,10 +1,10 @@
 """Runs the blocks of pages as a reader copies them, and compares what they print with what the page shows.
 
-    python3 tests/docs/pages.py [--after 'N passed, M failed'] SKETCHES ARCHIVE [PAGE ..]
+    python3 tests/docs/pages.py SKETCHES ARCHIVE [PAGE ..]
 
 SKETCHES is the built program, and ARCHIVE what `rt lib` builds in crates/datasketches_c. From it come the C library, which is installed in
 a folder of its own, the Python package, and the extension for PostgreSQL. Its server listens on a unix socket alone. The script prints the
-blocks that failed and then 'N passed, M failed', counted on from the numbers after `--after`.
+blocks that failed and then 'N passed, M failed'.
 
 The blocks of a page run in order, in one folder, which has only the licence of the repository at first:
 
@@ -41,8 +41,8 @@ def trimmed(text):
 
 
 class Tests:
-    def __init__(self, program, archive, work, passed, failed):
-        self.work, self.passed, self.failed = work, passed, failed
+    def __init__(self, program, archive, work):
+        self.work, self.passed, self.failed = work, 0, 0
         self.ran = 0
         self.build(os.path.abspath(program), os.path.abspath(archive))
 
@@ -126,13 +126,9 @@ class Tests:
 
 def main():
     words = sys.argv[1:]
-    passed, failed = 0, 0
-    if words[0] == "--after":
-        passed, failed = [int(number) for number in re.fullmatch(r"(\d+) passed, (\d+) failed", words[1]).groups()]
-        words = words[2:]
     with tempfile.TemporaryDirectory() as work:
         os.chmod(work, 0o755)
-        tests = Tests(*words[:2], work, passed, failed)
+        tests = Tests(*words[:2], work)
         with tests.server:
             for page in words[2:] or PAGES:
                 tests.page(page)

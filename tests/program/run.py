@@ -2,10 +2,9 @@
 """Runs the built program with allocations and streams that fail. `README.md` describes the tests.
 
 The arguments are the paths of the program and of the trials. It prints a line for each test that failed and then
-'N passed, M failed'. With `--after 'N passed, M failed'` before the paths it counts on from there.
+'N passed, M failed'.
 """
 import os
-import re
 import shutil
 import subprocess
 import sys
@@ -589,10 +588,6 @@ class Tests:
 
 def main():
     words = sys.argv[1:]
-    before = (0, 0)
-    if words[0] == "--after":
-        before = [int(number) for number in re.fullmatch(r"(\d+) passed, (\d+) failed", words[1]).groups()]
-        words = words[2:]
     program, played = [os.path.abspath(path) for path in words]
     with tempfile.TemporaryDirectory() as work:
         tests = Tests(program, played, work)
@@ -628,8 +623,8 @@ def main():
         manual.check(tests)
         times.check(tests)
         print(f"requests refused in turn: {worked} and {many} of the program, {run} of a run of a session")
-        print(f"{before[0] + tests.passed} passed, {before[1] + tests.failed} failed")
-    sys.exit(1 if before[1] + tests.failed else 0)
+        print(f"{tests.passed} passed, {tests.failed} failed")
+    sys.exit(1 if tests.failed else 0)
 
 
 main()

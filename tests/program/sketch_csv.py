@@ -1,8 +1,8 @@
 """Runs `sketches top --csv` over generated files, and compares the reports with exact counts by Python's `csv`.
 
-    python3 tests/program/sketch_csv.py [--after 'N passed, M failed'] crates/sketches/out/sketches
+    python3 tests/program/sketch_csv.py crates/sketches/out/sketches
 
-prints a line for each check that failed, and then 'N passed, M failed', counted on from the numbers after `--after`.
+prints a line for each check that failed, and then 'N passed, M failed'.
 """
 import collections
 import csv
@@ -248,10 +248,6 @@ class Tests:
 
 def main():
     words = sys.argv[1:]
-    before = (0, 0)
-    if words[0] == "--after":
-        before = tuple(int(number) for number in re.findall(r"\d+", words[1])[:2])
-        words = words[2:]
     with tempfile.TemporaryDirectory() as work:
         tests = Tests(words[0], work)
         tests.worked()
@@ -264,8 +260,8 @@ def main():
         tests.saved()
         tests.not_utf8()
         tests.large()
-    print(f"{before[0] + tests.passed} passed, {before[1] + tests.failed} failed")
-    sys.exit(1 if before[1] + tests.failed else 0)
+    print(f"{tests.passed} passed, {tests.failed} failed")
+    sys.exit(1 if tests.failed else 0)
 
 
 main()

@@ -1,8 +1,8 @@
 """Saves images with `sketches top --save`, merges and shows them, and compares the reports with exact counts.
 
-    python3 tests/program/sketch_images.py [--after 'N passed, M failed'] crates/sketches/out/sketches
+    python3 tests/program/sketch_images.py crates/sketches/out/sketches
 
-prints a line for each check that failed, and then 'N passed, M failed', counted on from the numbers after `--after`.
+prints a line for each check that failed, and then 'N passed, M failed'.
 """
 import collections
 import os
@@ -485,10 +485,6 @@ class Tests:
 
 def main():
     words = sys.argv[1:]
-    before = (0, 0)
-    if words[0] == "--after":
-        before = tuple(int(number) for number in re.findall(r"\d+", words[1])[:2])
-        words = words[2:]
     with tempfile.TemporaryDirectory() as work:
         tests = Tests(words[0], work)
         tests.worked()
@@ -500,8 +496,8 @@ def main():
         tests.failures_in_turn()
         tests.shown()
         tests.statuses()
-    print(f"{before[0] + tests.passed} passed, {before[1] + tests.failed} failed")
-    sys.exit(1 if before[1] + tests.failed else 0)
+    print(f"{tests.passed} passed, {tests.failed} failed")
+    sys.exit(1 if tests.failed else 0)
 
 
 main()

@@ -1,8 +1,8 @@
 """Runs `sketches top` with weights, thresholds and error targets, and compares the reports with exact sums.
 
-    python3 tests/program/sketch_weights.py [--after 'N passed, M failed'] crates/sketches/out/sketches
+    python3 tests/program/sketch_weights.py crates/sketches/out/sketches
 
-prints a line for each check that failed, and then 'N passed, M failed', counted on from the numbers after `--after`.
+prints a line for each check that failed, and then 'N passed, M failed'.
 """
 import collections
 import fractions
@@ -222,10 +222,6 @@ class Tests:
 
 def main():
     words = sys.argv[1:]
-    before = (0, 0)
-    if words[0] == "--after":
-        before = tuple(int(number) for number in re.findall(r"\d+", words[1])[:2])
-        words = words[2:]
     with tempfile.TemporaryDirectory() as work:
         tests = Tests(words[0], work)
         tests.worked()
@@ -234,8 +230,8 @@ def main():
         tests.bad_weights()
         tests.errors()
         tests.wrong_use()
-    print(f"{before[0] + tests.passed} passed, {before[1] + tests.failed} failed")
-    sys.exit(1 if before[1] + tests.failed else 0)
+    print(f"{tests.passed} passed, {tests.failed} failed")
+    sys.exit(1 if tests.failed else 0)
 
 
 main()

@@ -1,8 +1,8 @@
 """Runs `sketches top`, `uniq`, `join` and `weigh` over generated files, and compares their outputs with exact counts and sets.
 
-    python3 tests/program/sketches.py [--after 'N passed, M failed'] crates/sketches/out/sketches
+    python3 tests/program/sketches.py crates/sketches/out/sketches
 
-prints a line for each check that failed, and then 'N passed, M failed', counted on from the numbers after `--after`.
+prints a line for each check that failed, and then 'N passed, M failed'.
 """
 import collections
 import os
@@ -504,10 +504,6 @@ class Tests:
 
 def main():
     words = sys.argv[1:]
-    before = (0, 0)
-    if words[0] == "--after":
-        before = tuple(int(number) for number in re.findall(r"\d+", words[1])[:2])
-        words = words[2:]
     with tempfile.TemporaryDirectory() as work:
         tests = Tests(words[0], work)
         tests.worked()
@@ -527,8 +523,8 @@ def main():
         Weights(tests, SELECTIONS, PIECES, raw_lines_of).run()
         States(tests, PIECES, raw_lines_of).run()
         Layouts(tests).run()
-    print(f"{before[0] + tests.passed} passed, {before[1] + tests.failed} failed")
-    sys.exit(1 if before[1] + tests.failed else 0)
+    print(f"{tests.passed} passed, {tests.failed} failed")
+    sys.exit(1 if tests.failed else 0)
 
 
 main()

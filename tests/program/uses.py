@@ -1,8 +1,8 @@
 """Runs the jobs of `crates/uses` over generated data sets, and compares their reports with exact results.
 
-    python3 tests/program/uses.py [--after 'N passed, M failed'] crates/uses/out/uses
+    python3 tests/program/uses.py crates/uses/out/uses
 
-prints a line for each check that failed, and then 'N passed, M failed', counted on from the numbers after `--after`.
+prints a line for each check that failed, and then 'N passed, M failed'.
 """
 import collections
 import random
@@ -178,18 +178,14 @@ def simulated(stream, window, capacity):
 
 def main():
     words = sys.argv[1:]
-    before = (0, 0)
-    if words[0] == "--after":
-        before = tuple(int(number) for number in re.findall(r"\d+", words[1])[:2])
-        words = words[2:]
     tests = Tests(words[0])
     tests.group_by()
     tests.join_prefilter()
     tests.takedown()
     tests.admission()
     tests.refusals()
-    print(f"{before[0] + tests.passed} passed, {before[1] + tests.failed} failed")
-    sys.exit(1 if before[1] + tests.failed else 0)
+    print(f"{tests.passed} passed, {tests.failed} failed")
+    sys.exit(1 if tests.failed else 0)
 
 
 main()

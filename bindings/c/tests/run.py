@@ -4,7 +4,7 @@ header for C++ is tested with each compiler that is there, in C++17 and C++20, w
 
     python3 bindings/c/tests/run.py crates/datasketches_cli/out/datasketches_cli [ARCHIVE]
 
-prints a line for each test that failed and then 'N passed, M failed', and counts on from `--after 'N passed, M failed'`.
+prints a line for each test that failed and then 'N passed, M failed'.
 """
 import ctypes
 import glob
@@ -587,10 +587,6 @@ def runs_by_chance(count):
 
 def main():
     words = sys.argv[1:]
-    before = (0, 0)
-    if words[0] == "--after":
-        before = [int(number) for number in re.fullmatch(r"(\d+) passed, (\d+) failed", words[1]).groups()]
-        words = words[2:]
     with tempfile.TemporaryDirectory() as work:
         tests = Tests(os.path.abspath(words[0]), words[1:], work)
         tests.header()
@@ -622,8 +618,8 @@ def main():
         tests.many_at_once()
         tests.installed()
         print(f"the library for C: {requests} requests for memory refused in turn")
-        print(f"{before[0] + tests.passed} passed, {before[1] + tests.failed} failed")
-    sys.exit(1 if before[1] + tests.failed else 0)
+        print(f"{tests.passed} passed, {tests.failed} failed")
+    sys.exit(1 if tests.failed else 0)
 
 
 main()

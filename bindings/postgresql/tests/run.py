@@ -1,9 +1,9 @@
 """Builds the extension, installs it beside a copy of Debian's PostgreSQL, and tests it over a server of its own, which listens on a
 unix socket alone and is stopped at the end.
 
-    python3 bindings/postgresql/tests/run.py [--after 'N passed, M failed'] PROGRAM ARCHIVE
+    python3 bindings/postgresql/tests/run.py PROGRAM ARCHIVE
 
-prints the failed tests, a line for each group of tests, and then 'N passed, M failed', counted on from the numbers after `--after`.
+prints the failed tests, a line for each group of tests, and then 'N passed, M failed'.
 Words after `--only` name groups. As root, the server runs as the user `postgres` or `nobody`.
 """
 import copy
@@ -42,8 +42,8 @@ VALGRIND = ["valgrind", "-q", "--trace-children=yes", "--leak-check=no", "--erro
 class Tests:
     """Counts tests. `main` is the server that most groups use, with the extension in the database `postgres`."""
 
-    def __init__(self, work, program, archive, passed, failed):
-        self.work, self.program, self.passed, self.failed = work, program, passed, failed
+    def __init__(self, work, program, archive):
+        self.work, self.program, self.passed, self.failed = work, program, 0, 0
         self.tree = f"{work}/tree"
         self.built = f"{work}/built"
         self.main = self.checked = None
@@ -165,20 +165,16 @@ def run_group(tests, group):
 
 def main():
     words = sys.argv[1:]
-    passed, failed = 0, 0
     only = []
     if "--only" in words:
         only = words[words.index("--only") + 1:]
         words = words[:words.index("--only")]
-    if words[0] == "--after":
-        passed, failed = [int(number) for number in re.fullmatch(r"(\d+) passed, (\d+) failed", words[1]).groups()]
-        words = words[2:]
     signal.signal(signal.SIGTERM, lambda *_: sys.exit(1))
     program, archive = [os.path.abspath(word) for word in words]
     with tempfile.TemporaryDirectory() as work:
         os.chmod(work, 0o755)
         began = time.monotonic()
-        tests = Tests(work, program, archive, passed, failed)
+        tests = Tests(work, program, archive)
         print(f"PostgreSQL: built in {time.monotonic() - began:.0f} s", flush=True)
         with tests.server("main") as tests.main:
             with tests.main.session() as session, session.cursor() as cursor:

@@ -1,8 +1,8 @@
 """Builds the Python package, and runs its tests with numpy and without, and those of the jobs on Dask.
 
-    python3 bindings/python/tests/package.py [--after 'N passed, M failed'] crates/datasketches_cli/out/datasketches_cli [ARCHIVE]
+    python3 bindings/python/tests/package.py crates/datasketches_cli/out/datasketches_cli [ARCHIVE]
 
-prints the failed tests and then 'N passed, M failed', counted on from the numbers after `--after`.
+prints the failed tests and then 'N passed, M failed'.
 """
 import os
 import re
@@ -32,9 +32,6 @@ def counts_of(name, script, path, seconds, most_skipped, program):
 def main():
     words = sys.argv[1:]
     passed, failed = 0, 0
-    if words[0] == "--after":
-        passed, failed = [int(number) for number in re.fullmatch(r"(\d+) passed, (\d+) failed", words[1]).groups()]
-        words = words[2:]
     program = os.path.abspath(words[0])
     with tempfile.TemporaryDirectory() as work:
         built, hidden = os.path.join(work, "built"), os.path.join(work, "hidden")

@@ -1,13 +1,12 @@
 """Builds the module and tests it in servers of its own, each on a unix socket in a temporary folder, which are stopped at the end.
 Only a server with a replica listens on a port, of 127.0.0.1: Redis has no other way to a replica.
 
-    python3 bindings/redis/tests/run.py [--after 'N passed, M failed'] ARCHIVE [--only GROUP ..]
+    python3 bindings/redis/tests/run.py ARCHIVE [--only GROUP ..]
 
 ARCHIVE is what `rt lib` builds from `crates/datasketches_c`. It prints the failed tests, a line for each group of tests, and then
-'N passed, M failed', counted on from the numbers after `--after`. REDISMODULE_H is that of `build.sh`.
+'N passed, M failed'. REDISMODULE_H is that of `build.sh`.
 """
 import os
-import re
 import signal
 import subprocess
 import sys
@@ -35,8 +34,8 @@ import stored  # noqa: E402
 class Tests:
     """Counts tests. `main` is the server that most groups use."""
 
-    def __init__(self, work, archive, passed, failed):
-        self.work, self.passed, self.failed = work, passed, failed
+    def __init__(self, work, archive):
+        self.work, self.passed, self.failed = work, 0, 0
         self.main = None
         self.built = f"{work}/built"
         subprocess.run(["bash", f"{BINDINGS}/c/build.sh", self.built, archive], check=True, stdout=subprocess.DEVNULL)
@@ -123,17 +122,14 @@ def run_group(tests, group):
 
 def main():
     words = sys.argv[1:]
-    passed, failed, only = 0, 0, []
+    only = []
     if "--only" in words:
         only = words[words.index("--only") + 1 :]
         words = words[: words.index("--only")]
-    if words[0] == "--after":
-        passed, failed = [int(number) for number in re.fullmatch(r"(\d+) passed, (\d+) failed", words[1]).groups()]
-        words = words[2:]
     signal.signal(signal.SIGTERM, lambda *_: sys.exit(1))
     (archive,) = [os.path.abspath(word) for word in words]
     with tempfile.TemporaryDirectory() as work:
-        tests = Tests(work, archive, passed, failed)
+        tests = Tests(work, archive)
         with tests.server("main") as tests.main:
             for group in GROUPS:
                 if not only or group.__name__ in only:

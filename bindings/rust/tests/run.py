@@ -1,10 +1,10 @@
 """Tests the crate for Rust with Debian's `cargo` and `rustc`, or those of `CARGO` and `RUSTC`.
 
-    python3 bindings/rust/tests/run.py [--after 'N passed, M failed'] crates/datasketches_cli/out/datasketches_cli [ARCHIVE]
+    python3 bindings/rust/tests/run.py crates/datasketches_cli/out/datasketches_cli [ARCHIVE]
 
 builds the C library of ARCHIVE, compares the declarations with its header, runs the crate's tests and the examples of its docs,
 and most tests again under valgrind. It compiles lines that must not compile, and a program for the published crate. It prints a
-line for each test that failed and then 'N passed, M failed', counted on from the numbers after `--after`.
+line for each test that failed and then 'N passed, M failed'.
 """
 import glob
 import os
@@ -134,8 +134,8 @@ def in_header():
 
 
 class Tests:
-    def __init__(self, program, archive, work, passed, failed):
-        self.program, self.work, self.passed, self.failed = program, work, passed, failed
+    def __init__(self, program, archive, work):
+        self.program, self.work, self.passed, self.failed = program, work, 0, 0
         self.built, self.target = os.path.join(work, "built"), os.path.join(work, "target")
         subprocess.run(["bash", f"{C}/build.sh", self.built, *archive], check=True)
 
@@ -254,12 +254,8 @@ class Tests:
 
 def main():
     words = sys.argv[1:]
-    passed, failed = 0, 0
-    if words[0] == "--after":
-        passed, failed = [int(number) for number in re.fullmatch(r"(\d+) passed, (\d+) failed", words[1]).groups()]
-        words = words[2:]
     with tempfile.TemporaryDirectory() as work:
-        tests = Tests(os.path.abspath(words[0]), [os.path.abspath(word) for word in words[1:]], work, passed, failed)
+        tests = Tests(os.path.abspath(words[0]), [os.path.abspath(word) for word in words[1:]], work)
         for step in [tests.declarations, tests.crate, tests.lines, tests.programs, tests.form, tests.memory]:
             step()
     print(f"{tests.passed} passed, {tests.failed} failed")
