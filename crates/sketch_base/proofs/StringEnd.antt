@@ -9,7 +9,7 @@ use Rattle.sketch_base.specs.MachineWords.{le_number, word_at}
 use Rattle.sketch_base.specs.Murmur3.{block, block_of_words, body, padded, finalization, finish_words, murmur3_x64_128}
 use Rattle.sketch_base.proofs.Blocks.{each_more, tail_more}
 use Rattle.sketch_base.proofs.Blocks.Width.{Sixteen}
-use Rattle.sketch_base.proofs.LittleEndian.{AreBytes, are-drop, are-filled, are-more, number-append, number-below, number-zeros, u64_is, u32_is, low_word, high_word, last_is}
+use Rattle.sketch_base.proofs.LittleEndian.{AreBytes, are-drop, are-filled, are-more, number-append, number-below, number-zeros, u64_is, u32_is, low_word, high_word, last_is, pow256}
 use Rattle.sketch_base.proofs.Murmur3Pieces.{body_is}
 
 -- ---- the number
@@ -184,3 +184,28 @@ hash_left bytes fed seed end h same small left eh ee =
     (λ i. finish_words (eh i) ((and_mask end 64 ∙ ap (λ (m : ℕ). m % 2 ^ 64) ee) i) (ee i / 2 ^ 64) ((length fed + 1) % 2 ^ 64))
     ∙ (end_left last (body n (seed, seed) fed) ((length fed + 1) % 2 ^ 64) (omega (arith, length-end fed)) (are-more (drop (16 * n) fed) 255 (are-drop (16 * n) fed small_fed) (omega arith))
     ∙ (from_end fed (255 ∷ []) seed ∙ ap (λ (bs : List ℕ). murmur3_x64_128 (bs ++ 255 ∷ []) seed) same))
+
+-- ---- bytes alone
+
+-- the bytes after the last block, from their number with the byte 255
+pub rest_is : (bytes : List ℕ) (s end : ℕ) → s ≡ 8 * (length bytes % 16) → end ≡ le_number (drop (16 * (length bytes / 16)) bytes ++ 255 ∷ [])
+    → end ≡ le_number (drop (16 * (length bytes / 16)) bytes) + 255 * 2 ^ s
+rest_is bytes s end es ee =
+    let rest : List ℕ = drop (16 * (length bytes / 16)) bytes in
+    let long : length rest ≡ length bytes % 16 = length-drop (16 * (length bytes / 16)) bytes ∙ omega arith in
+    let scale : 256 ^ length rest ≡ 2 ^ s = ap (λ (n : ℕ). 256 ^ n) long ∙ (pow256 (length bytes % 16) ∙ ap (λ (n : ℕ). 2 ^ n) (sym es)) in
+    ee ∙ (number-append rest (255 ∷ []) ∙ (ap (λ (p : ℕ). le_number rest + p * (255 + 256 * 0)) scale ∙ omega arith))
+
+pub hash_rest : (bytes : List ℕ) (seed rest len : ℕ) (h : ℕ × ℕ) → AreBytes bytes → h ≡ body (length bytes / 16) (seed, seed) bytes
+    → rest ≡ le_number (drop (16 * (length bytes / 16)) bytes) → len ≡ length bytes % 2 ^ 64 → finish_words h (bit_and rest (2 ^ 64 - 1)) (rest / 2 ^ 64) len ≡ murmur3_x64_128 bytes seed
+unfolding murmur3_x64_128 finalization
+hash_rest bytes seed rest len h small eh er el =
+    let n : ℕ = length bytes / 16 in
+    let last : List ℕ = drop (16 * n) bytes in
+    let few : length last < 16 = omega (arith, length-drop (16 * n) bytes) in
+    let long : length (padded last) ≡ 16 = omega (arith, length-append last (replicate (16 - length last) 0), length-replicate {A = ℕ} (16 - length last) 0) in
+    let same : le_number (padded last) ≡ le_number last = number-zeros last (16 - length last) in
+    let are : AreBytes (padded last) = are-filled last (16 - length last) (are-drop (16 * n) bytes small) in
+    let low : bit_and rest (2 ^ 64 - 1) ≡ word_at (padded last) 0 = and_mask rest 64 ∙ (ap (λ (m : ℕ). m % 2 ^ 64) (er ∙ sym same) ∙ sym (low_word (padded last) (omega (arith, long)) are)) in
+    let high : rest / 2 ^ 64 ≡ word_at (padded last) 8 = ap (λ (m : ℕ). m / 2 ^ 64) (er ∙ sym same) ∙ sym (high_word (padded last) long are) in
+    λ i. finish_words (eh i) (low i) (high i) (el i)

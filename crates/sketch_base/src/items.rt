@@ -13,7 +13,8 @@ use std::hash::Hash;
 
 /// An item that a sketch takes, as the bytes that its `Hash` feeds.
 ///
-/// It is implemented by `&T` for each type `T` that can be hashed, and by `&str`, which is hashed straight from its bytes.
+/// It is implemented by `&T` for each type `T` that can be hashed, by `&str`, which is hashed straight from its bytes, and by
+/// [`FedBytes`](crate::FedBytes).
 ///
 /// # Examples
 ///
@@ -81,7 +82,7 @@ impl<'a> Item for &'a str {
 
 /// Items in order, which a sketch takes in one call.
 ///
-/// It is implemented by slices, and by all that are [`Strings`](crate::Strings).
+/// It is implemented by slices, by all that are [`Strings`](crate::Strings), and by [`FedItems`](crate::FedItems).
 ///
 /// # Examples
 ///

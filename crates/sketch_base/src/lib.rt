@@ -8,11 +8,11 @@
 //! - [`keyed_hash`] hashes bytes under a secret [`HashKey`], for items that others choose. [`keyed_hash_of`] and
 //!   [`keyed_hash_of_str`] hash a whole item and a string. [`MapState`] hashes the keys of a map.
 //! - [`RehashableItem`] hashes one item under several seeds. It feeds an item of few bytes once, and keeps them as
-//!   [`ShortBytes`]. [`RehashableStr`] does so for a string. Both kinds of bytes are [`Rehashable`].
+//!   [`ShortBytes`]. [`RehashableStr`] and [`RehashableBytes`] do so for a string and for bytes. All three are [`Rehashable`].
 //! - [`from_utf8`] returns the string of bytes, fast for short ones.
-//! - An [`Item`] is what a sketch takes: `&T` for each `T` that can be hashed, or `&str`. [`Items`] are many in order:
+//! - An [`Item`] is what a sketch takes: `&T` for each `T` that can be hashed, `&str`, or [`FedBytes`]. [`Items`] are many in order:
 //!   slices, and [`Strings`], which are [`Words`] and [`Lines`] of a string, [`Strs`], [`OffsetStrings`] of one buffer, and
-//!   [`ByteStrings`]. [`ValidItems`] are those of a sequence that are set in a bitmap.
+//!   [`ByteStrings`], and [`FedItems`]. [`ValidItems`] are those of a sequence that are set in a bitmap.
 //! - [`compute_seed_hash`] hashes a seed, and [`check_seed_hash`] compares two such hashes.
 //! - [`SketchSlice`] reads numbers from bytes, and [`SketchBytes`] writes them. Contracts see the bytes that are
 //!   unread, and those that are written.
@@ -35,6 +35,7 @@ mod divisor;
 mod error;
 mod family;
 mod fault;
+mod fed_items;
 mod fields;
 pub mod image;
 mod item_hash;
@@ -46,6 +47,7 @@ mod map_state;
 mod murmurhash;
 mod offset_strings;
 mod place;
+mod rehashable_bytes;
 mod rehashable_item;
 mod rehashable_str;
 mod seed_hash;
@@ -73,6 +75,7 @@ pub use divisor::Divisor;
 pub use error::{Error, ErrorKind};
 pub use family::Family;
 pub use fault::Fault;
+pub use fed_items::{FedBytes, FedItems};
 pub use fields::{nth_field, nth_field_of_bytes};
 pub use item_hash::{keyed_hash_of, murmur3_of, murmur3_of_u64, xxh64_of};
 pub use items::{Item, Items};
@@ -81,6 +84,7 @@ pub use map_state::{MapHasher, MapState};
 pub use murmurhash::{DEFAULT_UPDATE_SEED, MurmurHash3X64128};
 pub use offset_strings::{OffsetStrings, Offsets, are_offsets};
 pub use place::Place;
+pub use rehashable_bytes::RehashableBytes;
 pub use rehashable_item::{Rehashable, RehashableItem};
 pub use rehashable_str::RehashableStr;
 pub use seed_hash::{check_seed_hash, compute_seed_hash};

@@ -10,8 +10,8 @@ use crate::sip_hash::HashKey;
 use std::hash::Hash;
 use std::marker::Model;
 
-/// Bytes that are hashed under several seeds: [`ShortBytes`] of fewer than 16 bytes, or a
-/// [`RehashableStr`](crate::RehashableStr).
+/// Bytes that are hashed under several seeds: [`ShortBytes`] of fewer than 16 bytes, a
+/// [`RehashableStr`](crate::RehashableStr) or [`RehashableBytes`](crate::RehashableBytes).
 ///
 /// # Examples
 ///

@@ -1,4 +1,4 @@
-//! The hashes of a string, straight from its bytes.
+//! The hashes of a string, straight from its bytes, and of bytes.
 //!
 //! A string feeds its bytes and then the byte 255. The last bytes and this byte are read as one number, by loads that
 //! may overlap.
@@ -141,6 +141,27 @@ pub(crate) fn murmur3_with_end(bytes: &[u8], end: u128, seed: u64) -> (u64, u64)
     } else {
         finish_words(h, k1, k2, len)
     }
+}
+
+/// Returns the number of the bytes after the last block of 16, the lowest first.
+#[inline(always)]
+pub(crate) fn rest_number(bytes: &[u8]) -> u128
+    ensures { result ≡ le_number (drop (16 * (length bytes.now / 16)) bytes.now) }
+{
+    block_end(bytes) - (255 << 8 * (bytes.len() % 16))
+}
+
+/// Returns both halves of MurmurHash3 x64 128 of bytes, under a seed. `rest` is the number of the bytes after the last block
+/// of 16, the lowest first.
+#[inline(always)]
+pub(crate) fn murmur3_with_rest(bytes: &[u8], rest: u128, seed: u64) -> (u64, u64)
+    requires { rest ≡ le_number (drop (16 * (length bytes.now / 16)) bytes.now) }
+    ensures { result ≡ murmur3_x64_128 bytes.now seed }
+{
+    let h = body((seed, seed), bytes);
+    let k1 = (rest & 0xFFFF_FFFF_FFFF_FFFF) as u64;
+    let k2 = (rest >> 64) as u64;
+    finish_words(h, k1, k2, bytes.len() as u64)
 }
 
 /// Mixes the lowest `count` bytes of a number, fewer than four, into a hash of XXH64.

@@ -9,7 +9,8 @@ use crate::count_min_sketch::CountMinSketch;
 use crate::count_min_value::CountMinValue;
 use crate::row_item::RowItem;
 use sketch_base::{
-    ByteStrings, Error, Fault, Items, Lines, OffsetStrings, Offsets, Strs, ValidItems, Words,
+    ByteStrings, Error, Fault, FedItems, Items, Lines, OffsetStrings, Offsets, Strs, ValidItems,
+    Words,
 };
 use std::hash::Hash;
 
@@ -86,5 +87,7 @@ impl<'a, T: CountMinValue> CountMinItems<T> for Strs<'a> {}
 impl<'a, T: CountMinValue, O: Offsets> CountMinItems<T> for OffsetStrings<'a, O> {}
 
 impl<'a, T: CountMinValue> CountMinItems<T> for ByteStrings<'a> {}
+
+impl<'a, T: CountMinValue> CountMinItems<T> for FedItems<'a> {}
 
 impl<'a, T: CountMinValue, I: Items<Each: RowItem<T>>> CountMinItems<T> for ValidItems<'a, I> {}

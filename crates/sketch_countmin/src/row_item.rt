@@ -1,7 +1,7 @@
 //! The cells of one item, one in each row.
 //!
-//! An item of few bytes is fed once, and each row hashes these bytes under its own seed. A string is hashed straight
-//! from its bytes. Whether the number of buckets is a power of two is tested once, outside all loops. Four rows, the
+//! An item of few bytes is fed once, and each row hashes these bytes under its own seed. A string, or an item given by
+//! its bytes, is hashed straight from its bytes. Whether the number of buckets is a power of two is tested once, outside all loops. Four rows, the
 //! most common number beside three and five, have no loop: all four indices are computed before the first cell is
 //! accessed.
 ghost use Rattle.std.specs.Prelude.{ℕ, ◌≤◌, ◌+ℤ◌, unsigned_abs};
@@ -12,10 +12,12 @@ ghost use Rattle.sketch_countmin.specs.Grid.{AddsItem, IsMinIn};
 use crate::count_min_value::CountMinValue;
 use crate::grid::Grid;
 use crate::row_cells::ReadRows;
-use sketch_base::{Item, Rehashable, RehashableItem, RehashableStr, murmur3_of};
+use sketch_base::{
+    FedBytes, Item, Rehashable, RehashableBytes, RehashableItem, RehashableStr, murmur3_of,
+};
 use std::hash::Hash;
 
-/// An item that a Count-Min sketch counts: `&I` for each type `I` that can be hashed, or `&str`.
+/// An item that a Count-Min sketch counts: `&I` for each type `I` that can be hashed, `&str`, or [`FedBytes`].
 ///
 /// `&str` is hashed straight from its bytes, in less time than `&&str`. Both are the same item. The methods are for the
 /// sketches' own use.
@@ -96,26 +98,58 @@ impl<'a, T: CountMinValue, I: Hash> RowItem<T> for &'a I {
 impl<'a, T: CountMinValue> RowItem<T> for &'a str {
     #[inline]
     fn add_to(&self, grid: &mut Grid<T>, weight: T) {
-        let bytes = RehashableStr::new(*self);
-        if !grid.buckets().is_power_of_two() {
-            grid.add_to_each(false, &bytes, weight);
-        } else if grid.num_rows() == 4 {
-            grid.add_to_four(&bytes, weight);
-        } else {
-            grid.add_to_each(true, &bytes, weight);
-        }
+        add_rehashed(grid, RehashableStr::new(*self), weight);
     }
 
     #[inline(always)]
     fn min_cell<C: ReadRows<T> + Drop>(&self, cells: C) -> T {
-        let bytes = RehashableStr::new(*self);
-        if !cells.buckets().is_power_of_two() {
-            cells.min_of_each(false, &bytes)
-        } else if cells.num_rows() == 4 {
-            cells.min_of_four(&bytes)
-        } else {
-            cells.min_of_each(true, &bytes)
-        }
+        min_rehashed(cells, RehashableStr::new(*self))
+    }
+}
+
+impl<'a, T: CountMinValue> RowItem<T> for FedBytes<'a> {
+    #[inline]
+    fn add_to(&self, grid: &mut Grid<T>, weight: T) {
+        add_rehashed(grid, RehashableBytes::new(self.0), weight);
+    }
+
+    #[inline(always)]
+    fn min_cell<C: ReadRows<T> + Drop>(&self, cells: C) -> T {
+        min_rehashed(cells, RehashableBytes::new(self.0))
+    }
+}
+
+/// Adds the weight at the bucket of hashed bytes in each row.
+#[inline(always)]
+fn add_rehashed<T: CountMinValue, R: Rehashable + Drop>(grid: &mut Grid<T>, bytes: R, weight: T)
+    requires room { (k : ℕ) → unsigned_abs (cell_in grid.old.cells k +ℤ T.number weight) ≤ T.greatest }
+    requires hashable { R.can_hash bytes }
+    ensures { AddsItem (R.bytes bytes) (T.number weight) grid.old grid.new }
+{
+    if !grid.buckets().is_power_of_two() {
+        grid.add_to_each(false, &bytes, weight);
+    } else if grid.num_rows() == 4 {
+        grid.add_to_four(&bytes, weight);
+    } else {
+        grid.add_to_each(true, &bytes, weight);
+    }
+}
+
+/// Returns the minimum of the cells of hashed bytes.
+#[inline(always)]
+fn min_rehashed<T: CountMinValue, C: ReadRows<T> + Drop, R: Rehashable + Drop>(
+    cells: C,
+    bytes: R,
+) -> T
+    requires { R.can_hash bytes }
+    ensures { IsMinIn (C.grid cells) (R.bytes bytes) (T.number result) }
+{
+    if !cells.buckets().is_power_of_two() {
+        cells.min_of_each(false, &bytes)
+    } else if cells.num_rows() == 4 {
+        cells.min_of_four(&bytes)
+    } else {
+        cells.min_of_each(true, &bytes)
     }
 }
 
