@@ -24,6 +24,8 @@ ROWS = [
     ("BF.EXISTS", None, ["BF.EXISTS", "f", ITEM], 1),
     ("CMS.INCRBY", ["CMS.INITBYPROB", "c", "0.001", "0.01"], ["CMS.INCRBY", "c", ITEM, "1"], 1),
     ("FREQ.ADD", ["FREQ.RESERVE", "r", 1024], ["FREQ.ADD", "r", ITEM], 1),
+    ("PFADD", None, ["PFADD", "p", ITEM], 1),
+    ("PFADD, 100 items", None, ["PFADD", "p", *[ITEM] * 100], 100),
     ("BF.MADD, 100 items", ["BF.RESERVE", "g", "0.01", RANGE], ["BF.MADD", "g", *[ITEM] * 100], 100),
     ("BF.MADD, 100 items, filter for 100,000", ["BF.RESERVE", "h", "0.01", 100000], ["BF.MADD", "h", *[ITEM] * 100], 100),
     ("FREQ.ADD, 100 items", ["FREQ.RESERVE", "s", 1024], ["FREQ.ADD", "s", *[ITEM] * 100], 100),

@@ -5,6 +5,7 @@
 prints a line for each check that failed, and then 'N passed, M failed'.
 """
 import collections
+import itertools
 import os
 import random
 import re
@@ -49,6 +50,28 @@ def counts_of(hashes, buckets, total, cells, hash=seed_hash(9001)):
     """Returns the bytes of an image of a Count-Min sketch, as the format states them. It is marked empty if there is no total."""
     head = struct.pack("<8BIBHB", 2, 1, 18, int(total is None), 0, 0, 0, 0, buckets, hashes, hash, 0)
     return head + b"".join(struct.pack("<Q", number % 2**64) for number in ([] if total is None else [total, *cells]))
+
+
+def splits_of(leaves):
+    """Yields the ways to split leaves into parts, each once."""
+    if not leaves:
+        yield ()
+        return
+    first, *others = leaves
+    for chosen in range(1 << len(others)):
+        with_first = [leaf for n, leaf in enumerate(others) if chosen >> n & 1]
+        for rest in splits_of([leaf for n, leaf in enumerate(others) if not chosen >> n & 1]):
+            yield ((first, *with_first), *rest)
+
+
+def trees_of(leaves):
+    """Yields each tree of leaves, as a tuple of two or more trees, or one leaf."""
+    if len(leaves) == 1:
+        yield leaves[0]
+        return
+    for parts in splits_of(leaves):
+        if len(parts) > 1:
+            yield from itertools.product(*map(trees_of, parts))
 
 
 class Tests:
@@ -168,37 +191,37 @@ class Tests:
             self.is_exact(f"split {round}, read again", self.run("merge", "-n", 1000, "whole"), collections.Counter(items))
 
     def trees(self):
-        """Merges five images in several trees: many more items than slots."""
+        """Merges five images in each tree, children in any order: many more items than slots."""
         rng = random.Random(2)
         names = [b"item%d" % n for n in range(20000)]
         streams = [rng.choices(names, [1 / (n + 1) for n in range(20000)], k=12000) for _ in range(5)]
         counts = collections.Counter(item for stream in streams for item in stream)
         for sizes in [[64] * 5, [1024] * 5, [256, 64, 1024, 4096, 256]]:
-            images = [self.saved(f"leaf{n}", stream, "--size", size) for n, (stream, size) in enumerate(zip(streams, sizes))]
+            saved = {n: self.saved(f"leaf{n}", stream, "--size", size) for n, (stream, size) in enumerate(zip(streams, sizes))}
             places = min(min(1024, size * 3 // 4) // 2 for size in sizes)
-            for tree in ["(01234)", "((01)(23)4)", "((((01)2)3)4)", "(4(3(2(10))))", "((40)(3)(21))"]:
-                stack = [[]]
-                for number, letter in enumerate(tree):
-                    if letter == "(":
-                        stack.append([])
-                    elif letter == ")":
-                        inner = stack.pop()
-                        saved = f"node{number}"
-                        ran = self.run("merge", "-n", 100000, "--save", saved, *inner, key=rng.choice(["plain", HEX, None]))
-                        self.check(f"{tree} of {sizes}: node {number}", (ran[0], ran[2]) == (0, b""), ran)
-                        stack[-1].append(saved)
-                    else:
-                        stack[-1].append(images[int(letter)])
+            for tree in trees_of((0, 1, 2, 3, 4)):
+                ran = self.merged(rng, tree, saved)
                 name = f"{tree} of {sizes}"
                 error, rows = self.rows(name, ran, 60000)
                 self.check(f"{name}: share", places * error <= 60000, error)
                 self.check(f"{name}: enclosed", all(lower <= counts[item] <= upper == lower + error for lower, upper, item in rows))
-                self.check(f"{name}: each once", len({row[2] for row in rows}) == len(rows))
                 listed = {row[2] for row in rows}
+                self.check(f"{name}: each once", len(listed) == len(rows))
                 self.check(f"{name}: none is missing", all(count <= error or item in listed for item, count in counts.items()))
 
+    def merged(self, rng, tree, saved):
+        """Merges the images of a tree, those of inner trees first, and keeps each image. Returns what the last merge printed."""
+        for child in tree:
+            if child not in saved:
+                self.merged(rng, child, saved)
+        saved[tree] = f"node{len(saved)}"
+        inner = rng.sample([saved[child] for child in tree], len(tree))
+        ran = self.run("merge", "-n", 100000, "--save", saved[tree], *inner, key=rng.choice(["plain", HEX, None]))
+        self.check(f"{tree} is merged", (ran[0], ran[2]) == (0, b""), ran)
+        return ran
+
     def damaged(self):
-        """Damages an image in 1,000 ways. Each either ends with status 2 and a message, or is still an image within its total."""
+        """Damages an image in 10,000 ways. Each either ends with status 2 and a message, or is still an image within its total."""
         items = [b"item %d" % (n * n % 50) for n in range(300)]
         self.saved("sound", items)
         with open(self.path("sound"), "rb") as file:
@@ -209,7 +232,7 @@ class Tests:
                 self.fails(f"cut to {length}", ran, b"sketches: cut: InsufficientData: insufficient data\n")
         rng = random.Random(3)
         rejected = 0
-        for round in range(800):
+        for round in range(9900):
             image = bytearray(sound)
             for _ in range(rng.choice([1, 1, 2, 8])):
                 place = rng.randrange(rng.choice([8, 32, len(image)]))
@@ -223,7 +246,7 @@ class Tests:
                 total = 300 + (struct.unpack("<Q", image[16:24])[0] if image[0] % 64 == 4 else 0)
                 error, rows = self.rows(f"damage {round}", (status, out, said), total)
                 self.check(f"damage {round}: within its total", sum(row[0] for row in rows) + error <= total, rows)
-        self.check("most damages are found", rejected > 400, rejected)
+        self.check("most damages are found", rejected > 4000, rejected)
         for name, image, fault in [
             ("an empty file", b"", b"InsufficientData: insufficient data"),
             ("a Bloom filter", bytes([3, 1, 21, 4, 3, 0, 0, 0]) + bytes(8) + b"\1" + bytes(7), b"BadFamily: wrong family"),

@@ -167,54 +167,88 @@ void check_limit(ds_sketch *handle)
     check_bytes(limit_of(status.kind), bytes);
 }
 
-Sketch *store(uint8 items, ds_sketch *handle)
+/* Writes the header of a stored sketch, whose image is complete. */
+static void write_header(Sketch *sketch, Kind kind, uint8 items, uint64 seed)
 {
-    ds_status status = status_of(handle);
-    uint64 seed = has_seed(status.kind) ? status.seed : 0;
-    Sketch *sketch;
-    check_limit(handle);
-    sketch = (Sketch *)write_image(handle, offsetof(Sketch, image));
     memcpy(sketch->format, format, sizeof format);
-    sketch->kind = number_of(status.kind);
+    sketch->kind = number_of(kind);
     sketch->items = items;
     memset(sketch->zero, 0, sizeof sketch->zero);
     for (int i = 0; i < 8; i++) sketch->seed[i] = seed >> 8 * i & 0xff;
     write_checksum(sketch);
+}
+
+Sketch *store(uint8 items, ds_sketch *handle)
+{
+    ds_status status = status_of(handle);
+    Sketch *sketch;
+    check_limit(handle);
+    sketch = (Sketch *)write_image(handle, offsetof(Sketch, image));
+    write_header(sketch, status.kind, items, has_seed(status.kind) ? status.seed : 0);
     return sketch;
 }
 
 /* --- Forms. --- */
 
+/* Returns whether a sketch of frequent items has all counters of the image that it was read from. */
+static bool has_whole_image(ds_sketch *handle, size_t length)
+{
+    size_t bytes = 0;
+    check_result(ds_serialized_bytes(handle, &bytes));
+    return bytes == length;
+}
+
+/* Returns a stored sketch of frequent items with a copy of their image. */
+static Sketch *with_image(Kind kind, uint8 items, const void *image, size_t length)
+{
+    Sketch *sketch;
+    if (length > MaxAllocSize - offsetof(Sketch, image)) raise_stored(length);
+    sketch = palloc_extended(offsetof(Sketch, image) + length, MCXT_ALLOC_HUGE);
+    SET_VARSIZE(sketch, offsetof(Sketch, image) + length);
+    memcpy(sketch->image, image, length);
+    write_header(sketch, kind, items, 0);
+    return sketch;
+}
+
 /* Returns a stored sketch from an image that may be untrusted. Frequent items keep the bytes of the image, since the order of
  * items changes when an image is written again. Filters and counts get the bytes that the library writes, so equal ones have
- * equal images. */
-static Sketch *import_image(Kind kind, uint8 items, const void *image, size_t length, uint64 seed)
+ * equal images. `stored` is what the image is stored in, if it is: then frequent items are not copied. */
+static Sketch *import_image(Kind kind, uint8 items, const void *image, size_t length, uint64 seed, Sketch *stored)
 {
     ds_sketch handle = DS_NONE;
     Sketch *sketch;
     if (kind == DS_FREQUENT_ITEMS_I64) check_bigints(image, length);
     read_image(kind, &handle, image, length, seed, true);
-    sketch = store(items, &handle);
+    if (is_frequent(kind) && has_whole_image(&handle, length)) {
+        check_limit(&handle);
+        sketch = stored != NULL ? stored : with_image(kind, items, image, length);
+    } else {
+        sketch = store(items, &handle);
+    }
     ds_free(&handle);
-    if (!is_frequent(kind) || IMAGE_BYTES(sketch) != length) return sketch;
-    memcpy(sketch->image, image, length);
-    write_checksum(sketch);
     return sketch;
 }
 
-/* Returns a stored sketch from the bytes after a sketch's length, which may be untrusted. `damaged` is the SQLSTATE of an error. */
-static Sketch *import(Kind kind, const void *bytes, size_t length, int damaged)
+/* Returns a sketch with these bytes after its length, which are not checked. */
+static Sketch *unchecked(const void *bytes, size_t length)
 {
-    Sketch *sketch, *imported;
+    Sketch *sketch;
     if (length > MaxAllocSize - VARHDRSZ) raise_stored(length);
     sketch = palloc(VARHDRSZ + length);
     SET_VARSIZE(sketch, VARHDRSZ + length);
     memcpy(VARDATA(sketch), bytes, length);
+    return sketch;
+}
+
+/* Returns a stored sketch from one that may be untrusted, and keeps it or frees it. `damaged` is the SQLSTATE of an error. */
+static Sketch *import(Kind kind, Sketch *sketch, int damaged)
+{
+    Sketch *imported;
     if (has_other_version(sketch)) raise_version(sketch->format[3], format[3]);
     if (!has_header(sketch, kind)) raise_kind("the value is not a sketch of this type");
     if (!has_checksum(sketch)) ereport(ERROR, (errcode(damaged), errmsg("the sketch is damaged: its checksum is wrong")));
-    imported = import_image(kind, sketch->items, sketch->image, IMAGE_BYTES(sketch), seed_of(sketch));
-    pfree(sketch);
+    imported = import_image(kind, sketch->items, sketch->image, IMAGE_BYTES(sketch), seed_of(sketch), sketch);
+    if (imported != sketch) pfree(sketch);
     return imported;
 }
 
@@ -227,8 +261,8 @@ static Datum type_in(FunctionCallInfo fcinfo, Kind kind)
 {
     const char *text = PG_GETARG_CSTRING(0);
     size_t length = strcspn(text, " \t\n\r"), written = 0;
-    char *bytes = palloc(length / 4 * 3 + 3);
-    Sketch *sketch;
+    Sketch *sketch = palloc(VARHDRSZ + length / 4 * 3 + 3);
+    char *bytes = VARDATA(sketch);
     if (text[length] != '\0') ereport(ERROR, (errcode(ERRCODE_INVALID_TEXT_REPRESENTATION), errmsg("the sketch is not base64")));
     for (size_t start = 0; start < length; start += LETTERS_IN_BLOCK) {
         int part = pg_b64_decode(text + start, (int)Min(length - start, LETTERS_IN_BLOCK), (void *)(bytes + written),
@@ -237,9 +271,8 @@ static Datum type_in(FunctionCallInfo fcinfo, Kind kind)
         written += part;
         CHECK_FOR_INTERRUPTS();
     }
-    sketch = import(kind, bytes, written, ERRCODE_INVALID_TEXT_REPRESENTATION);
-    pfree(bytes);
-    PG_RETURN_POINTER(sketch);
+    SET_VARSIZE(sketch, VARHDRSZ + written);
+    PG_RETURN_POINTER(import(kind, sketch, ERRCODE_INVALID_TEXT_REPRESENTATION));
 }
 
 /* Returns the sketch of any kind that is the first argument, verified. */
@@ -275,7 +308,8 @@ static Datum type_recv(FunctionCallInfo fcinfo, Kind kind)
 {
     StringInfo message = (StringInfo)PG_GETARG_POINTER(0);
     int length = message->len - message->cursor;
-    PG_RETURN_POINTER(import(kind, pq_getmsgbytes(message, length), length, ERRCODE_INVALID_BINARY_REPRESENTATION));
+    Sketch *sketch = unchecked(pq_getmsgbytes(message, length), length);
+    PG_RETURN_POINTER(import(kind, sketch, ERRCODE_INVALID_BINARY_REPRESENTATION));
 }
 
 /* Returns a copy of bytes as a bytea. */
@@ -300,7 +334,8 @@ Datum sketch_send(PG_FUNCTION_ARGS)
 static Datum type_from_bytea(FunctionCallInfo fcinfo, Kind kind)
 {
     bytea *bytes = PG_GETARG_BYTEA_PP(0);
-    PG_RETURN_POINTER(import(kind, VARDATA_ANY(bytes), VARSIZE_ANY_EXHDR(bytes), ERRCODE_INVALID_BINARY_REPRESENTATION));
+    Sketch *sketch = unchecked(VARDATA_ANY(bytes), VARSIZE_ANY_EXHDR(bytes));
+    PG_RETURN_POINTER(import(kind, sketch, ERRCODE_INVALID_BINARY_REPRESENTATION));
 }
 
 PG_FUNCTION_INFO_V1(sketch_image);
@@ -341,7 +376,7 @@ static Datum type_from_image(FunctionCallInfo fcinfo, Kind kind)
     bytea *image = PG_GETARG_BYTEA_PP(0);
     uint8 items = items_of(kind, STRINGS | BIGINTS);
     uint64 seed = PG_NARGS() > 1 ? seed_argument(fcinfo, 1) : 0;
-    PG_RETURN_POINTER(import_image(kind, items, VARDATA_ANY(image), VARSIZE_ANY_EXHDR(image), seed));
+    PG_RETURN_POINTER(import_image(kind, items, VARDATA_ANY(image), VARSIZE_ANY_EXHDR(image), seed, NULL));
 }
 
 #define FORMS(type, kind) \
