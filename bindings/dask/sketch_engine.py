@@ -59,24 +59,30 @@ def add_item_words(parser: argparse.ArgumentParser, words: bool = True, weights:
                      help="items are field N of each line, between runs of white space; a line without it has no item")
     if weights:
         group.add_argument("--weight", metavar="NAME", help="the column with the items' weights (each weighs 1)")
+        group.add_argument("-w", "--weight-field", type=field_number, metavar="N",
+                           help="the field with the weight of a line's item, or of the line without --field: a line with an item "
+                                "and without this number is an error")
     group.add_argument("--no-header", action="store_true", help="the first line names no columns")
     group.add_argument("-d", "--delimiter", type=delimiter_of, metavar="C",
-                       help=r"the character between columns (,); with --field take the field between single characters C of ASCII, "
+                       help=r"the character between columns (,); with -f or -w take fields between single characters C of ASCII, "
                             r"without quoting; \t is a tab")
 
 
 def parsed(parser: argparse.ArgumentParser, arguments: Sequence[str] | None) -> argparse.Namespace:
-    """Reads the command line. Exits with a usage error if a delimiter has neither columns nor fields."""
+    """Reads the command line. Exits with a usage error if a delimiter has neither columns nor fields, or if a field is the weight
+    of words or columns."""
     words = parser.parse_args(arguments)
-    chosen = [getattr(words, name, None) for name in ("column", "field", "key_column", "key_field")]
+    chosen = [getattr(words, name, None) for name in ("column", "field", "weight_field", "key_column", "key_field")]
     if words.delimiter is not None and chosen.count(None) == len(chosen):
         parser.error("argument -d/--delimiter: needs a column or a field")
+    if getattr(words, "weight_field", None) is not None and (words.words or words.column is not None):
+        parser.error("argument -w/--weight-field: not allowed with --words or --column")
     return words
 
 
 def items_of(words: argparse.Namespace) -> dict[str, Any]:
     """Returns the command line's options for columns and fields, as arguments of `cut_files`."""
-    return {name: getattr(words, name) for name in ("column", "weight", "no_header", "field", "delimiter")}
+    return {name: getattr(words, name) for name in ("column", "weight", "no_header", "field", "weight_field", "delimiter")}
 
 
 def whole_number(least: int, most: int = 2**63 - 1) -> Callable[[str], int]:
@@ -111,14 +117,15 @@ def delimiter_of(text: str) -> str:
 
 def cut_files(paths: Sequence[str], parts: int | None, *, words: bool = False, column: str | None = None,
               weight: str | None = None, no_header: bool = False, field: int | None = None,
-              delimiter: str | None = None) -> list[Part]:
+              weight_field: int | None = None, delimiter: str | None = None) -> list[Part]:
     """Cuts files into parts, at least one a file. Raises `OSError` or `BadInput` if a file cannot be read or cut."""
     if column is None and (weight is not None or no_header):
         raise ValueError("a weight, or no header, needs a column")
-    if words + (column is not None) + (field is not None) > 1:
+    of_fields = field is not None or weight_field is not None
+    if words + (column is not None) + of_fields > 1:
         raise ValueError("items are words, a column's strings or a field, and no two of these")
-    chosen = None if field is None else field_between(delimiter, field)
-    if field is None and delimiter is not None and (len(delimiter) != 1 or delimiter in "\"\r\n"):
+    chosen = fields_between(delimiter, field, weight_field) if of_fields else None
+    if not of_fields and delimiter is not None and (len(delimiter) != 1 or delimiter in "\"\r\n"):
         raise ValueError(f"a delimiter is one character, and no quote or line end, not {delimiter!r}")
     files = [sketch_parts.whole(os.path.abspath(path), words=words, field=chosen) for path in paths]
     max_bytes = PART_BYTES if parts is None else max(1, -(-sum(file.end for file in files) // parts))
@@ -127,13 +134,12 @@ def cut_files(paths: Sequence[str], parts: int | None, *, words: bool = False, c
     return [part for file in files for part in sketch_parts.cut(file, max_bytes)]
 
 
-def field_between(delimiter: str | None, number: int) -> Field:
-    """Returns the field of a number from 1, between delimiters, or between runs of white space without one."""
-    if delimiter is None:
-        return Field(number - 1)
-    if len(delimiter) != 1 or not delimiter.isascii():
+def fields_between(delimiter: str | None, item: int | None, weight: int | None) -> Field:
+    """Returns the fields of these numbers from 1, between delimiters, or between runs of white space without one."""
+    if delimiter is not None and (len(delimiter) != 1 or not delimiter.isascii()):
         raise ValueError(f"a delimiter of fields is one character of ASCII, not {delimiter!r}")
-    return Field(number - 1, delimiter.encode())
+    places = [None if number is None else number - 1 for number in (item, weight)]
+    return Field(places[0], None if delimiter is None else delimiter.encode(), places[1])
 
 
 def with_columns(file: Part, column: str, weight: str | None, no_header: bool, delimiter: str) -> Part:
@@ -167,7 +173,7 @@ def with_columns(file: Part, column: str, weight: str | None, no_header: bool, d
 def image_of(words: argparse.Namespace, shape: Shape, parts: Sequence[Part]) -> bytes:
     """Returns the image of the sketch of all parts. Threads of this process count lines and words, which the library does without
     the interpreter's lock. Workers of Dask count columns and fields, and all that a scheduler is named for."""
-    if words.scheduler is None and words.column is None and words.field is None:
+    if words.scheduler is None and words.column is None and words.field is None and words.weight_field is None:
         return image_by_threads(shape, parts, words.workers, words.fan_in)
     with connect(words.workers, words.scheduler) as client:
         return answer(client, merged(shape, sketches(shape, parts), words.fan_in))

@@ -32,6 +32,7 @@ LONGEST_LINE = 1 << 24
 PACKED_STEP = 512  # this number of bytes of a .gz or .zst unpacks to at most some 16 MiB
 MAX_WINDOW = 1 << 27  # the maximum memory to unpack a file; `xz -9` and `zstd -19` need less
 NUMBER = re.compile(r"\s*[+-]?0*[0-9]{1,20}\s*", re.ASCII)
+DIGITS = re.compile(rb"-?0*[0-9]{1,20}")
 BLANK_LINES = re.compile(rb"(?:\A|(?<=\n))(?:\r?\n)+")
 OF_PROCESS = re.compile(r"/dev/(stdin|stdout|stderr|fd/.*)|/proc/.*")
 
@@ -58,10 +59,12 @@ class Columns:
 
 @dataclass(frozen=True)
 class Field:
-    """A field of a line, from 0: between single bytes, or between runs of white space if there is no delimiter."""
+    """A field of a line, from 0: between single bytes, or between runs of white space if there is no delimiter. The item is the
+    field, or the line if the index is None. `weight` is the field with the item's weight, if it does not weigh 1."""
 
-    index: int
+    index: int | None
     delimiter: bytes | None = None
+    weight: int | None = None
 
 
 @dataclass(frozen=True)
@@ -226,7 +229,7 @@ def batch_of(part: Part, at: int, data: bytes, least: int, most: int) -> Batch:
     if part.words:
         return Batch(words_of(text_of(part.path, at, data)), None, [])
     if part.field is not None:
-        return fields_with_lines(part.field, text_of(part.path, at, data))
+        return fields_with_lines(part, part.field, at, data, least, most)
     lines = lines_of(part.path, at, data)
     return Batch(lines, None, lines) if part.columns is None else columns_of(part, part.columns, at, data, lines, least, most)
 
@@ -341,6 +344,8 @@ def fields_of(field: Field, data: bytes) -> list[bytes]:
     A CR before LF is not of the line, but one at the end of a last line without LF is, as for the program `sketches`.
     """
     index, delimiter = field.index, field.delimiter
+    if index is None:
+        return [line for line in data.replace(b"\r\n", b"\n").split(b"\n") if line]
     if delimiter is None and b"\v" in data:  # white space for Python alone; UTF-8 has no byte 0xff
         return [item.replace(b"\xff", b"\v") for item in fields_of(field, data.replace(b"\v", b"\xff"))]
     lines = data.replace(b"\r\n", b"\n").split(b"\n")
@@ -353,11 +358,28 @@ def field_lines(field: Field, data: bytes) -> bytes | None:
     return None if b"\r\n" in text else text
 
 
-def fields_with_lines(field: Field, text: str) -> Batch:
-    """Returns the field of each line of a block that has it, with its line."""
-    lines = [line for line in text.replace("\r\n", "\n").split("\n") if line]
-    found = [(item.decode(), line) for line in lines for item in fields_of(field, line.encode())]
-    return Batch([item for item, _ in found], None, [line for _, line in found], len(lines) - len(found))
+def fields_with_lines(part: Part, field: Field, at: int, data: bytes, least: int, most: int) -> Batch:
+    """Returns the item of each line of a block that has it, with its weight and its line."""
+    lines = [line for line in text_of(part.path, at, data).replace("\r\n", "\n").split("\n") if line]
+    found = [(number, item.decode()) for number, line in enumerate(lines) for item in fields_of(field, line.encode())]
+    weights: list[int] | None = None
+    if field.weight is not None:
+        weighed, weights = dataclasses.replace(field, index=field.weight), []
+        for number, _ in found:
+            try:
+                weights.append(field_weight(fields_of(weighed, lines[number].encode()), least, most))
+            except ValueError as error:
+                raise BadInput(part.path, str(error), at + line_at(data, number)) from None
+    return Batch([item for _, item in found], weights, [lines[number] for number, _ in found], len(lines) - len(found))
+
+
+def field_weight(fields: Sequence[bytes], least: int, most: int) -> int:
+    """Returns the weight in the only field, if any. Raises `ValueError` if it is not a whole number in the range."""
+    if not fields:
+        raise ValueError("there is no field with the weight")
+    if not DIGITS.fullmatch(fields[0]):
+        raise ValueError(f"the weight {fields[0].decode()!r} is no whole number from {least} to {most}")
+    return weight(fields[0].decode(), least, most)
 
 
 def line_at(data: bytes, index: int) -> int:
@@ -512,7 +534,7 @@ def lines_for_sketch(part: Part, data: bytes) -> bytes | None:
     if part.words:
         return data
     if part.field is not None:
-        return field_lines(part.field, data)
+        return field_lines(part.field, data) if part.field.weight is None else None
     return full_lines(data) if part.columns is None else column_lines(part.columns, data)
 
 

@@ -5,6 +5,7 @@
 prints a line for each check that failed, and then 'N passed, M failed'.
 """
 import collections
+import fcntl
 import os
 import random
 import re
@@ -242,6 +243,40 @@ class Tests:
                             self.check(name, ran[:3] == (2, b"", said), ran)
         data = (1 << 23) * b"z" + b"\n"
         self.is_exact("a line of 8 MB", self.run(["top"], 3 * data), counts_of([3 * data], lambda line: [line]))
+
+    def piped(self, words, block, times):
+        """Runs the program on a block that a pipe has `times` times, and returns its status, output, messages and peak of KiB."""
+        how = {"stdin": subprocess.PIPE, "stdout": subprocess.PIPE, "stderr": subprocess.PIPE, "env": {"PATH": "/usr/bin:/bin"}}
+        ran, peak = subprocess.Popen([self.program, *words], **how), 0
+        fcntl.fcntl(ran.stdin, fcntl.F_SETPIPE_SZ, 1 << 20)
+        try:
+            for _ in range(times):
+                ran.stdin.write(block)
+                with open(f"/proc/{ran.pid}/status", encoding="ascii") as file:
+                    peak = max([peak, *(int(kib) for kib in re.findall(r"VmHWM:\s+(\d+) kB", file.read()))])
+        except BrokenPipeError:
+            pass
+        said = ran.communicate()
+        return ran.returncode, *said, peak
+
+    def large_inputs(self):
+        """Checks results and memory for a log of 10 GB and for a line of 1 GB, from a pipe."""
+        line = b'10.0.%d.%d - - [29/Nov/2026:18:24:35 +0000] "GET /page/%d HTTP/1.1" 200 %d "https://example.org/" "Mozilla/5.0 (X11)"\n'
+        lines = [line % (n % 256, n % 199, n * n % 1000, n) for n in range(40000)]
+        times = -(-10**10 // sum(map(len, lines)))
+        counts = collections.Counter(each.split()[6] for each in lines)
+        rows = sorted(((times * count, item) for item, count in counts.items()), key=lambda row: (-row[0], row[1]))
+        status, out, said, peak = self.piped(["top", "-f", "7", "-n", "3"], b"".join(lines), times)
+        found = out.split(b"\n")
+        head = b"# error 0 of %d" % (times * len(lines))
+        self.check("10 GB: status and error", (status, said, found[0], found[-1]) == (0, b"", head, b""), (status, out, said))
+        heaviest = {count for count, _ in rows[:3]}
+        wanted = {b"%d\t%d\t%s" % (count, count, item) for count, item in rows if count in heaviest}
+        self.check("10 GB: rows", len(found) == 5 and set(found[1:4]) <= wanted, out)
+        self.check("10 GB: memory", 0 < peak < 4 << 10, peak)
+        status, out, said, peak = self.piped(["top"], (1 << 20) * b"x", 1 << 10)
+        self.check("1 GB: a line", (status, out, said) == (2, b"", b"sketches: -: a line is longer than --max-line\n"), (status, said))
+        self.check("1 GB: memory", 0 < peak < 160 << 10, peak)
 
     def is_unseen(self, name, ran, inputs, items_of, repeated=False, status=0, said=b""):
         """Checks what `uniq` wrote, and its note, for so few items that the filter has no false positive."""
@@ -511,6 +546,7 @@ def main():
         tests.random_bytes()
         tests.cuts()
         tests.long_lines()
+        tests.large_inputs()
         tests.many_items()
         tests.statuses()
         tests.failures_in_turn()

@@ -409,6 +409,30 @@ class OfFields(Tests):
                 one.update(item, weight)
             self.assertEqual({each["key"]: each["estimate"] for each in told["keys"]}, {item: one[item] for item in asked})
 
+    def test_weights_of_fields(self):
+        chance = random.Random(7)
+        rows = [(chance.choice(WORDS), chance.choice((0, 1, 7, 10**12))) for _ in range(3000)]
+        table = write(FOLDER, "weighed.csv", "".join(f"{item},{weight:05}\n" for item, weight in rows) + "\n")
+        spaced = write(FOLDER, "weighed.txt", "".join(f" {weight}\t{item} x\r\n" for item, weight in rows))
+        wanted = collections.Counter()
+        for item, weight in rows:
+            wanted[item] += weight
+        for words in ([table, "-d", ",", "-f", "1", "-w", "2"], [spaced, "-f", "2", "--weight-field", "1"]):
+            found = self.found(heavy.main, *words, "--top", "9999", "--parts", "5")
+            self.assertEqual((found["total"], found["error"]), (sum(wanted.values()), 0))
+            self.assertEqual({each["item"]: each["lower"] for each in found["items"]}, {item: n for item, n in wanted.items() if n})
+            asked = next(item for item in wanted)
+            self.assertEqual(self.found(traffic.main, *words, "--ask", asked)["total"], sum(wanted.values()))
+        lines = self.found(heavy.main, table, "-d", ",", "-w", "2", "--top", "1")
+        self.assertTrue(lines["items"][0]["item"].endswith(",1000000000000"), lines)
+        for line, said in (("a,\n", "the weight '' is"), ("a,-1\n", "the weight '-1' is"), ("a, 1\n", "the weight ' 1' is"),
+                           ("a\n", "there is no field with the weight"), ("a,99999999999999999999\n", "the weight '999")):
+            bad = write(FOLDER, "bad.csv", "a,1\n\n" + line)
+            self.assertIn(f"bad.csv, line at byte 5: {said}", self.refused(heavy.main, bad, "-d", ",", "-f", "1", "-w", "2"))
+        signed = write(FOLDER, "signed.csv", "a,-5\nb,3\n")
+        found = self.found(traffic.main, signed, "--signed", "-d", ",", "-f", "1", "-w", "2", "--ask", "a")
+        self.assertEqual([each["estimate"] for each in found["keys"]], [-5])
+
     def test_kept_lines(self):
         keys = write(FOLDER, "keys.csv", "1," + self.lines[1].split(",")[0] + "\nno key\n")
         folder = Path(FOLDER, "kept fields")
@@ -435,7 +459,8 @@ class OfFields(Tests):
         for command, *words in ((heavy.main, "-f", "1", "--words"), (heavy.main, "-f", "1", "--column", "a"),
                                 (heavy.main, "--words", "--column", "a"), (heavy.main, "-d", ","),
                                 (heavy.main, "--words", "-d", ","), (heavy.main, "-f", "0"),
-                                (heavy.main, "-f", str(2**32)), (heavy.main, "-f", "x"),
+                                (heavy.main, "-f", str(2**32)), (heavy.main, "-f", "x"), (heavy.main, "-f", "1", "-w", "0"),
+                                (heavy.main, "--words", "-w", "1"), (heavy.main, "--column", "a", "-w", "1"),
                                 (traffic.main, "--ask", "x", "-f", "1", "--words"), (traffic.main, "--ask", "x", "-d", ","),
                                 (seen.main, bad, "-f", "1", "--column", "a"), (seen.main, bad, "-d", ","),
                                 (seen.main, bad, "--key-field", "1", "--key-column", "a")):
