@@ -39,7 +39,7 @@ TABLE_KEY = {"DATASKETCHES_TABLE_KEY": bytes(range(16)).hex()}
 # The C type of each Rust type of an export. A slice is a pointer and a length, and an allocator is not passed.
 CROSSES = {"u8": "uint8_t", "u16": "uint16_t", "u32": "uint32_t", "u64": "uint64_t", "i32": "int32_t", "i64": "int64_t"}
 CROSSES |= {"usize": "size_t", "bool": "bool", "SketchHandle": "ds_sketch", "Status": "ds_status"}
-CROSSES |= {"ItemBounds": "ds_frequent_items_bounds", "ItemsArgument": "ds_items", "FedBytes": "ds_string"}
+CROSSES |= {"ItemBounds": "ds_frequent_items_bounds", "ItemsArgument": "ds_items"}
 
 # The exports of the sources that only the library's own C calls.
 INTERNAL = {"ds_free_handle", "ds_new_frequent_items", "ds_read_image"}

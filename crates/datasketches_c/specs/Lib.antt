@@ -9,7 +9,6 @@ pub mod CountJoins
 pub mod CountSteps
 pub mod Equality
 pub mod Estimates
-pub mod Fed
 pub mod FilterCalls
 pub mod FilterImages
 pub mod FrequentBatches

@@ -11,10 +11,8 @@ use Rattle.sketch_base.specs.Hashes.{fed_bytes}
 use Rattle.sketch_base.specs.Split.{words_of}
 use Rattle.sketch_base.specs.Strings.{AreOffsets, strings_at, strings_of}
 use Rattle.sketch_base.specs.declared.fault.Fault.TheVariants.{InvalidUtf8}
-use Rattle.datasketches_c.specs.Fed.{fed_whole}
 use Rattle.datasketches_c.specs.Numbers.{bad_argument, bad_offsets, no_room, refusal_number, wrong_kind}
 use Rattle.datasketches_c.specs.ValidRows.{bits_from, of_valid}
-use Rattle.datasketches_c.specs.declared.fed_bytes.FedBytes.{FedBytes}
 use Rattle.datasketches_c.specs.declared.items_argument.GivenItems.{GivenItems}
 use Rattle.datasketches_c.specs.declared.items_argument.GivenRows.{GivenRows}
 use Rattle.datasketches_c.specs.declared.items_argument.GivenRows.TheVariants as given
@@ -27,7 +25,7 @@ pub data Rows : Type 0 where
   u64s : List ℕ → Rows
   i64s : List ℤ → Rows
   strings : List (List ℕ) → Rows
-  fed_as_given : List FedBytes → Rows
+  fed_as_given : List (List ℕ) → Rows
 
 -- many items: rows, with a bit for each that says whether it is valid if some may be null. The items are the valid rows
 pub record ManyItems : Type 0 where
@@ -45,7 +43,7 @@ abbrev pub fed_rows : Rows → List (List ℕ)
 fed_rows (u64s rows) = map (fed_bytes fed.u64) rows
 fed_rows (i64s rows) = map (fed_bytes fed.i64) rows
 fed_rows (strings rows) = map (fed_bytes fed.str) rows
-fed_rows (fed_as_given rows) = map (fed_bytes (λ item. fed_whole item.bytes.now)) rows
+fed_rows (fed_as_given rows) = rows
 
 -- the bytes that the hash of each item feeds
 abbrev pub fed_items : ManyItems → List (List ℕ)
@@ -78,7 +76,7 @@ rows_of Offsets32 a = strings (strings_of a.bytes.now a.offsets32.now)
 rows_of Strings a = strings (strings_at a.strings.now)
 rows_of Words a = strings (words_of a.bytes.now)
 rows_of Lines a = strings (lines a.bytes.now)
-rows_of Fed a = fed_as_given a.fed.now
+rows_of Fed a = fed_as_given (map (λ item. item.now) a.fed.now)
 
 -- the items of an argument of this kind
 abbrev pub items_of : ItemsKind → ItemsArgument → ManyItems
@@ -181,7 +179,7 @@ given_rows (given.Offsets32 rows) = strings rows
 given_rows (given.Strings rows) = strings rows
 given_rows (given.Words text) = strings (words_of text.now)
 given_rows (given.Lines text) = strings (lines text.now)
-given_rows (given.Fed rows) = fed_as_given rows.now
+given_rows (given.Fed rows) = fed_as_given (map (λ item. item.now) rows.0.now)
 
 -- the items of a valid argument
 abbrev pub many : GivenItems → ManyItems

@@ -1,6 +1,5 @@
 //! Calls on Count-Min sketches in handles, for any type of weights and of items.
 ghost use Rattle.std.specs.Prelude.{◌≡◌, ◌+◌, ◌-◌, ◌<◌, ◌≤◌, length, map, unsigned_abs};
-ghost use Rattle.sketch_base.specs.Hashes.{fed_bytes};
 ghost use Rattle.datasketches_c.specs.CountCalls.{AddsWeight, AddsEach, AddsWeights, IsBound};
 ghost use Rattle.datasketches_c.specs.CountJoins.{IsJoined};
 ghost use Rattle.datasketches_c.specs.CountSteps.{Weighs};
@@ -17,7 +16,6 @@ use sketch_base::Fault;
 use sketch_countmin::laws::min_cell_bounds;
 use sketch_countmin::{CountMinItems, CountMinSketch, CountMinValue, RowItem};
 use std::alloc::Global;
-use std::hash::Hash;
 
 /// Adds a weight to an item's in a sketch, and the weight's distance from 0 to the total. Returns the result's number.
 #[inline(always)]
@@ -95,19 +93,19 @@ where
 
 /// Writes an upper bound of an item's weight: the estimate plus the margin.
 #[inline]
-pub(crate) fn upper_bound<V: CountMinValue, I: Hash + Drop>(
+pub(crate) fn upper_bound<V: CountMinValue, R: RowItem<V> + Drop>(
     alloc: Global,
     handle: &mut SketchHandle,
-    item: I,
+    item: R,
     bound: &mut V,
 ) -> i32
 where
     CountMinSketch<V>: Kind,
     ensures { WritesDown (reads (⟦<CountMinSketch<V> as Kind>⟧.part)) handle.old.value handle.new.value result bound.old bound.new
-        (IsBound V.greatest (fed_bytes I.hash_input item) (V.number bound.new)) }
+        (IsBound V.greatest (R.bytes item) (V.number bound.new)) }
 {
     reading_kind!(alloc, handle, CountMinSketch<V>, sketch => {
-        *bound = sketch.upper_bound(item);
+        *bound = sketch.upper_bound_item(item);
         OK
     })
 }

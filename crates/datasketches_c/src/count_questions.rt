@@ -110,7 +110,7 @@ pub extern "C" fn ds_count_min_u64_upper_bound_u64(
     ensures bound { Bounds (reads count_u64_of) max_u64 handle.old.value handle.new.value result (fed_bytes fed.u64 item) (pos bound.new) }
     ensures untouched { OnRefused result (bound.new ≡ bound.old) }
 {
-    count::upper_bound(alloc, handle, item, bound)
+    count::upper_bound(alloc, handle, &item, bound)
 }
 
 /// Writes the estimate of a string's weight plus a margin, or 2^64 - 1 if the sum exceeds it. The margin is e times the
@@ -152,7 +152,7 @@ pub extern "C" fn ds_count_min_i64_upper_bound_u64(
     ensures bound { Bounds (reads count_i64_of) max_i64 handle.old.value handle.new.value result (fed_bytes fed.u64 item) bound.new }
     ensures untouched { OnRefused result (bound.new ≡ bound.old) }
 {
-    count::upper_bound(alloc, handle, item, bound)
+    count::upper_bound(alloc, handle, &item, bound)
 }
 
 /// Writes the estimate of a string's weight plus a margin, or 2^63 - 1 if the sum exceeds it. The margin is e times the

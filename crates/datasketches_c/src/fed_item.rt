@@ -1,12 +1,10 @@
 //! Calls for one item that is given by the bytes that its hash feeds.
 ghost use Rattle.std.specs.Prelude.{pos, ◌≡◌, Some, if◌then◌else◌};
-ghost use Rattle.sketch_base.specs.Hashes.{fed_bytes};
 ghost use Rattle.sketch_bloom.specs.History.BloomHistory.{Insert};
 ghost use Rattle.sketch_bloom.specs.Stands.{Extends};
 ghost use Rattle.sketch_bloom.specs.State.{contains_item, inserted};
 ghost use Rattle.datasketches_c.specs.CountCalls.{AddsWeight, Bounds, Estimates};
 ghost use Rattle.datasketches_c.specs.Estimates.{IsEstimate};
-ghost use Rattle.datasketches_c.specs.Fed.{fed_whole};
 ghost use Rattle.datasketches_c.specs.FilterCalls.{TellsAndInserts};
 ghost use Rattle.datasketches_c.specs.ImageViews.{AsksCount};
 ghost use Rattle.datasketches_c.specs.Kinds.{OnFilter, ReadsFilter, count_i64_of, count_u64_of};
@@ -15,10 +13,10 @@ ghost use Rattle.datasketches_c.specs.Sharing.{reads};
 ghost use Rattle.datasketches_c.specs.declared.any_sketch.Held.TheVariants.{Own};
 ghost use Rattle.datasketches_c.specs.declared.any_sketch.AnySketch.TheVariants.{Filter};
 
-use crate::fed_bytes::FedBytes;
 use crate::filter_joins::contains_and_insert;
 use crate::handle::SketchHandle;
 use crate::{count, filter, image_views};
+use sketch_base::FedBytes;
 use std::alloc::Global;
 
 /// Inserts an item that is given by the bytes that its hash feeds, in one piece.
@@ -28,10 +26,10 @@ use std::alloc::Global;
 #[unsafe(no_mangle)]
 pub extern "C" fn ds_bloom_insert_fed(alloc: Global, handle: &mut SketchHandle, item: &[u8]) -> i32
     ensures { OnFilter handle.old.value handle.new.value result (λ s.
-        (result ≡ ok) × (handle.new.value ≡ Some (Filter (Own (inserted s (fed_bytes fed_whole item.now)))))
-        × Extends s (inserted s (fed_bytes fed_whole item.now)) (λ h. Insert h (fed_bytes fed_whole item.now))) }
+        (result ≡ ok) × (handle.new.value ≡ Some (Filter (Own (inserted s item.now))))
+        × Extends s (inserted s item.now) (λ h. Insert h item.now)) }
 {
-    filter::insert(alloc, handle, &FedBytes { bytes: item })
+    filter::insert(alloc, handle, FedBytes(item))
 }
 
 /// Returns `YES` if the filter contains an item that is given as in `ds_bloom_insert_fed`, and `NO` otherwise.
@@ -46,9 +44,9 @@ pub extern "C" fn ds_bloom_contains_fed(
 ) -> i32
     ensures kept { handle.new.value ≡ handle.old.value }
     ensures answer { ReadsFilter handle.old.value handle.new.value result (λ s.
-        result ≡ (if contains_item s (fed_bytes fed_whole item.now) then yes else no)) }
+        result ≡ (if contains_item s item.now then yes else no)) }
 {
-    filter::contains(alloc, handle, &FedBytes { bytes: item })
+    filter::contains(alloc, handle, FedBytes(item))
 }
 
 /// Inserts an item that is given as in `ds_bloom_insert_fed`, and returns `YES` if the filter contained it before, and `NO`
@@ -62,9 +60,9 @@ pub extern "C" fn ds_bloom_contains_and_insert_fed(
     handle: &mut SketchHandle,
     item: &[u8],
 ) -> i32
-    ensures { TellsAndInserts handle.old.value handle.new.value result (fed_bytes fed_whole item.now) }
+    ensures { TellsAndInserts handle.old.value handle.new.value result item.now }
 {
-    contains_and_insert(alloc, handle, &FedBytes { bytes: item })
+    contains_and_insert(alloc, handle, FedBytes(item))
 }
 
 /// Adds a weight to that of an item that is given as in `ds_bloom_insert_fed`.
@@ -80,10 +78,10 @@ pub extern "C" fn ds_count_min_u64_update_fed(
     item: &[u8],
     weight: u64,
 ) -> i32
-    ensures call { AddsWeight count_u64_of max_u64 handle.old.value handle.new.value result (fed_bytes fed_whole item.now) (pos weight) }
+    ensures call { AddsWeight count_u64_of max_u64 handle.old.value handle.new.value result item.now (pos weight) }
     ensures refused { OnRefused result (handle.new.value ≡ handle.old.value) }
 {
-    count::update(alloc, handle, &FedBytes { bytes: item }, weight)
+    count::update(alloc, handle, FedBytes(item), weight)
 }
 
 /// Writes the estimate of the weight of an item that is given as in `ds_bloom_insert_fed`: the minimum of its cells.
@@ -98,10 +96,10 @@ pub extern "C" fn ds_count_min_u64_estimate_fed(
     estimate: &mut u64,
 ) -> i32
     ensures kept { handle.new.value ≡ handle.old.value }
-    ensures estimate { Estimates (reads count_u64_of) handle.old.value handle.new.value result (fed_bytes fed_whole item.now) (pos estimate.new) }
+    ensures estimate { Estimates (reads count_u64_of) handle.old.value handle.new.value result item.now (pos estimate.new) }
     ensures untouched { OnRefused result (estimate.new ≡ estimate.old) }
 {
-    count::estimate(alloc, handle, &FedBytes { bytes: item }, estimate)
+    count::estimate(alloc, handle, FedBytes(item), estimate)
 }
 
 /// Writes this estimate plus a margin, or 2^64 - 1 if the sum exceeds it. The margin is e times the total over the number of
@@ -117,10 +115,10 @@ pub extern "C" fn ds_count_min_u64_upper_bound_fed(
     bound: &mut u64,
 ) -> i32
     ensures kept { handle.new.value ≡ handle.old.value }
-    ensures bound { Bounds (reads count_u64_of) max_u64 handle.old.value handle.new.value result (fed_bytes fed_whole item.now) (pos bound.new) }
+    ensures bound { Bounds (reads count_u64_of) max_u64 handle.old.value handle.new.value result item.now (pos bound.new) }
     ensures untouched { OnRefused result (bound.new ≡ bound.old) }
 {
-    count::upper_bound(alloc, handle, FedBytes { bytes: item }, bound)
+    count::upper_bound(alloc, handle, FedBytes(item), bound)
 }
 
 /// Writes the estimate of an item that is given as in `ds_bloom_insert_fed` by the Count-Min sketch in an image, whose seed is
@@ -135,10 +133,10 @@ pub extern "C" fn ds_count_min_u64_image_estimate_fed(
     estimate: &mut u64,
 ) -> i32
     ensures estimate { AsksCount (pos 0) max_u64 seed image.now (λ s. (result ≡ ok)
-        × IsEstimate s (fed_bytes fed_whole item.now) (pos estimate.new)) result }
+        × IsEstimate s item.now (pos estimate.new)) result }
     ensures untouched { OnRefused result (estimate.new ≡ estimate.old) }
 {
-    image_views::estimate(image, seed, &FedBytes { bytes: item }, estimate)
+    image_views::estimate(image, seed, FedBytes(item), estimate)
 }
 
 /// Adds a weight to that of an item that is given as in `ds_bloom_insert_fed`, and the weight's distance from 0 to the total.
@@ -154,10 +152,10 @@ pub extern "C" fn ds_count_min_i64_update_fed(
     item: &[u8],
     weight: i64,
 ) -> i32
-    ensures call { AddsWeight count_i64_of max_i64 handle.old.value handle.new.value result (fed_bytes fed_whole item.now) weight }
+    ensures call { AddsWeight count_i64_of max_i64 handle.old.value handle.new.value result item.now weight }
     ensures refused { OnRefused result (handle.new.value ≡ handle.old.value) }
 {
-    count::update(alloc, handle, &FedBytes { bytes: item }, weight)
+    count::update(alloc, handle, FedBytes(item), weight)
 }
 
 /// Writes the estimate of the weight of an item that is given as in `ds_bloom_insert_fed`: the minimum of its cells.
@@ -172,10 +170,10 @@ pub extern "C" fn ds_count_min_i64_estimate_fed(
     estimate: &mut i64,
 ) -> i32
     ensures kept { handle.new.value ≡ handle.old.value }
-    ensures estimate { Estimates (reads count_i64_of) handle.old.value handle.new.value result (fed_bytes fed_whole item.now) estimate.new }
+    ensures estimate { Estimates (reads count_i64_of) handle.old.value handle.new.value result item.now estimate.new }
     ensures untouched { OnRefused result (estimate.new ≡ estimate.old) }
 {
-    count::estimate(alloc, handle, &FedBytes { bytes: item }, estimate)
+    count::estimate(alloc, handle, FedBytes(item), estimate)
 }
 
 /// Writes this estimate plus a margin, or 2^63 - 1 if the sum exceeds it. The margin is e times the total over the number of
@@ -191,10 +189,10 @@ pub extern "C" fn ds_count_min_i64_upper_bound_fed(
     bound: &mut i64,
 ) -> i32
     ensures kept { handle.new.value ≡ handle.old.value }
-    ensures bound { Bounds (reads count_i64_of) max_i64 handle.old.value handle.new.value result (fed_bytes fed_whole item.now) bound.new }
+    ensures bound { Bounds (reads count_i64_of) max_i64 handle.old.value handle.new.value result item.now bound.new }
     ensures untouched { OnRefused result (bound.new ≡ bound.old) }
 {
-    count::upper_bound(alloc, handle, FedBytes { bytes: item }, bound)
+    count::upper_bound(alloc, handle, FedBytes(item), bound)
 }
 
 /// Writes the estimate of an item that is given as in `ds_bloom_insert_fed` by the Count-Min sketch in an image, whose seed is
@@ -209,8 +207,8 @@ pub extern "C" fn ds_count_min_i64_image_estimate_fed(
     estimate: &mut i64,
 ) -> i32
     ensures estimate { AsksCount min_i64 max_i64 seed image.now (λ s. (result ≡ ok)
-        × IsEstimate s (fed_bytes fed_whole item.now) estimate.new) result }
+        × IsEstimate s item.now estimate.new) result }
     ensures untouched { OnRefused result (estimate.new ≡ estimate.old) }
 {
-    image_views::estimate(image, seed, &FedBytes { bytes: item }, estimate)
+    image_views::estimate(image, seed, FedBytes(item), estimate)
 }

@@ -4,9 +4,10 @@ ghost use Rattle.datasketches_c.specs.ManyItems.{GivesItems, GivesRows, HasBits,
 ghost use Rattle.datasketches_c.specs.Numbers.{ok};
 ghost use Rattle.datasketches_c.specs.ValidRows.{bits_from};
 
-use crate::fed_bytes::FedBytes;
 use crate::status_code::{BAD_ARGUMENT, OK, refusal_number};
-use sketch_base::{ByteStrings, Fault, Lines, OffsetStrings, Strings, Validity, Words, from_utf8};
+use sketch_base::{
+    ByteStrings, Fault, FedItems, Lines, OffsetStrings, Strings, Validity, Words, from_utf8,
+};
 
 /// A kind of many items.
 #[derive(Clone, Copy)]
@@ -50,7 +51,7 @@ pub struct ItemsArgument<'a> {
     pub offsets32: &'a [u32],
     pub strings: &'a [&'a [u8]],
     /// The bytes of items as a hash feeds them. They need not be UTF-8.
-    pub fed: &'a [FedBytes<'a>],
+    pub fed: &'a [&'a [u8]],
     /// A bit for each row, lowest first in each byte: a row is valid if its bit is set. All are valid if the bitmap is empty.
     pub validity: &'a [u8],
     /// The bit of the first row.
@@ -67,7 +68,7 @@ pub enum GivenRows<'a> {
     Strings(ByteStrings<'a>),
     Words(&'a str),
     Lines(&'a str),
-    Fed(&'a [FedBytes<'a>]),
+    Fed(FedItems<'a>),
 }
 
 /// The items of a valid argument: its valid rows.
@@ -160,7 +161,7 @@ fn given_rows<'a>(kind: ItemsKind, items: &ItemsArgument<'a>) -> Result<GivenRow
             Ok(text) => Ok(GivenRows::Lines(text)),
             Err(_) => Err(refusal_number(Fault::InvalidUtf8)),
         },
-        ItemsKind::Fed => Ok(GivenRows::Fed(items.fed)),
+        ItemsKind::Fed => Ok(GivenRows::Fed(FedItems(items.fed))),
     }
 }
 
@@ -189,7 +190,7 @@ pub(crate) fn num_rows(rows: &GivenRows<'_>) -> usize
         GivenRows::Strings(strings) => strings.len(),
         GivenRows::Words(text) => count_strings(Words::new(text)),
         GivenRows::Lines(text) => count_strings(Lines::new(text)),
-        GivenRows::Fed(items) => items.len(),
+        GivenRows::Fed(items) => items.0.len(),
     }
 }
 

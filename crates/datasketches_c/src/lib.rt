@@ -15,7 +15,6 @@ mod count_questions;
 mod count_sketches;
 mod count_update;
 mod equality;
-pub mod fed_bytes;
 mod fed_item;
 mod filter;
 mod filter_items;
