@@ -8,12 +8,16 @@
 from __future__ import annotations
 
 import argparse
+import functools
 import sys
 from typing import Any, Sequence
 
 import sketch_engine as engine
 from sketch_parts import Heavy
 from sketch_report import Row, bars, number, plural
+
+
+ESCAPES = str.maketrans({"\\": r"\\", "\t": r"\t", "\n": r"\n", "\r": r"\r"})
 
 
 def words_of(arguments: Sequence[str] | None) -> argparse.Namespace:
@@ -31,6 +35,10 @@ def words_of(arguments: Sequence[str] | None) -> argparse.Namespace:
                         help="hash under these 32 hexadecimal digits, so that runs over the same parts have the same result (a "
                              "random key for each sketch)")
     engine.add_engine_words(parser)
+    parser.add_argument("--tsv", action="store_true",
+                        help="print what `sketches top` prints: the error and the total, and then a line for each item, with its lower "
+                             "and its upper bound and tabs between; with --column, backslashes, tabs and line ends of an item are "
+                             r"written as \\, \t, \n and \r")
     return engine.parsed(parser, arguments)
 
 
@@ -67,10 +75,19 @@ def show(found: dict[str, Any]) -> None:
           f"{number(found['complete_above'])} is missing.")
 
 
+def show_lines(found: dict[str, Any], escaped: bool) -> None:
+    """Prints a line for each item, as `sketches top` does."""
+    print(f"# error {found['error']} of {found['total']}")
+    for each in found["items"]:
+        item = each["item"].translate(ESCAPES) if escaped else each["item"]
+        print(each["lower"], each["upper"], item, sep="\t")
+
+
 def main(arguments: Sequence[str] | None = None) -> int:
     """Runs the command, and returns the exit status."""
     words = words_of(arguments)
-    return engine.run("heavy.py", lambda: heaviest(words), show, words.json)
+    as_lines = functools.partial(show_lines, escaped=words.column is not None)
+    return engine.run("heavy.py", lambda: heaviest(words), as_lines if words.tsv else show, words.json)
 
 
 if __name__ == "__main__":

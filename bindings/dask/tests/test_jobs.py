@@ -433,6 +433,14 @@ class OfFields(Tests):
         found = self.found(traffic.main, signed, "--signed", "-d", ",", "-f", "1", "-w", "2", "--ask", "a")
         self.assertEqual([each["estimate"] for each in found["keys"]], [-5])
 
+    def test_lines_of_items(self):
+        table = write(FOLDER, "tabs.csv", 'a\\,1\n"b\tc",1\na\\,1\n')
+        for words, wanted in ((["-d", ",", "-f", "1"], "# error 0 of 3\n2\t2\ta\\\n1\t1\t\"b\tc\"\n"),
+                              (["--column", "1", "--no-header"], "# error 0 of 3\n2\t2\ta\\\\\n1\t1\tb\\tc\n")):
+            with contextlib.redirect_stdout(io.StringIO()) as printed:
+                self.assertEqual(heavy.main([table, *words, "--tsv"]), 0)
+            self.assertEqual(printed.getvalue(), wanted)
+
     def test_kept_lines(self):
         keys = write(FOLDER, "keys.csv", "1," + self.lines[1].split(",")[0] + "\nno key\n")
         folder = Path(FOLDER, "kept fields")
