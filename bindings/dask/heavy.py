@@ -14,10 +14,7 @@ from typing import Any, Sequence
 
 import sketch_engine as engine
 from sketch_parts import Heavy
-from sketch_report import Row, bars, number, plural
-
-
-ESCAPES = str.maketrans({"\\": r"\\", "\t": r"\t", "\n": r"\n", "\r": r"\r"})
+from sketch_report import Row, bars, number, plural, print_lines
 
 
 def words_of(arguments: Sequence[str] | None) -> argparse.Namespace:
@@ -35,10 +32,7 @@ def words_of(arguments: Sequence[str] | None) -> argparse.Namespace:
                         help="hash under these 32 hexadecimal digits, so that runs over the same parts have the same result (a "
                              "random key for each sketch)")
     engine.add_engine_words(parser)
-    parser.add_argument("--tsv", action="store_true",
-                        help="print what `sketches top` prints: the error and the total, and then a line for each item, with its lower "
-                             "and its upper bound and tabs between; with --column, backslashes, tabs and line ends of an item are "
-                             r"written as \\, \t, \n and \r")
+    engine.add_line_word(parser, "`sketches top` prints: the error and the total, and then a line for each item, with its bounds")
     return engine.parsed(parser, arguments)
 
 
@@ -78,9 +72,7 @@ def show(found: dict[str, Any]) -> None:
 def show_lines(found: dict[str, Any], escaped: bool) -> None:
     """Prints a line for each item, as `sketches top` does."""
     print(f"# error {found['error']} of {found['total']}")
-    for each in found["items"]:
-        item = each["item"].translate(ESCAPES) if escaped else each["item"]
-        print(each["lower"], each["upper"], item, sep="\t")
+    print_lines(((f"{each['lower']}\t{each['upper']}", each["item"]) for each in found["items"]), escaped)
 
 
 def main(arguments: Sequence[str] | None = None) -> int:

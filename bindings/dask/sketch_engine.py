@@ -47,6 +47,13 @@ def add_engine_words(parser: argparse.ArgumentParser) -> None:
     shown.add_argument("--json", action="store_true", help="print the result as JSON")
 
 
+def add_line_word(parser: argparse.ArgumentParser, what: str) -> None:
+    """Adds the option for lines in the form of the program `sketches`."""
+    parser.add_argument("--tsv", action="store_true",
+                        help=f"print what {what} and tabs between; with --column, backslashes, tabs and line ends of an item are "
+                             r"written as \\, \t, \n and \r")
+
+
 def add_item_words(parser: argparse.ArgumentParser, words: bool = True, weights: bool = True) -> None:
     """Adds the options for the items of a file. Without them items are lines."""
     group = parser.add_argument_group("items")

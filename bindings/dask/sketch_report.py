@@ -3,9 +3,10 @@ from __future__ import annotations
 
 import shutil
 import sys
-from typing import NamedTuple, Sequence
+from typing import Iterable, NamedTuple, Sequence
 
 GREATEST_LABEL = 32
+ESCAPES = str.maketrans({"\\": r"\\", "\t": r"\t", "\n": r"\n", "\r": r"\r"})
 
 
 class Row(NamedTuple):
@@ -44,3 +45,9 @@ def bars(rows: Sequence[Row], width: int | None = None, full: str | None = None)
         bar = full[0] * low + full[1] * (high - low)
         lines.append(f"{label:{wide}}  {bar:{room}}  {row.text:>{behind}}")
     return lines
+
+
+def print_lines(rows: Iterable[tuple[str, str]], escaped: bool) -> None:
+    """Prints numbers and an item a line, with a tab between. Escapes backslashes, tabs and line ends of items if asked to."""
+    for numbers, item in rows:
+        print(numbers, item.translate(ESCAPES) if escaped else item, sep="\t")

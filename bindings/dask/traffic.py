@@ -8,13 +8,14 @@
 from __future__ import annotations
 
 import argparse
+import functools
 import math
 import sys
 from typing import Any, Sequence
 
 import sketch_engine as engine
 from sketch_parts import Traffic, batches
-from sketch_report import Row, bars, number, plural
+from sketch_report import Row, bars, number, plural, print_lines
 
 
 def words_of(arguments: Sequence[str] | None) -> argparse.Namespace:
@@ -31,6 +32,7 @@ def words_of(arguments: Sequence[str] | None) -> argparse.Namespace:
                         help="rows: more make a bad estimate rarer (%(default)s)")
     parser.add_argument("--signed", action="store_true", help="weights may be below 0")
     engine.add_engine_words(parser)
+    engine.add_line_word(parser, "`sketches weigh` prints: the total, and then a line for each key, with its estimate")
     return engine.parsed(parser, arguments)
 
 
@@ -75,10 +77,17 @@ def show(found: dict[str, Any]) -> None:
               f"{number(margin)}, by the published formula.")
 
 
+def show_lines(found: dict[str, Any], escaped: bool) -> None:
+    """Prints a line for each key, as `sketches weigh` does."""
+    print(f"# total {found['total']}")
+    print_lines(((str(each["estimate"]), each["key"]) for each in found["keys"]), escaped)
+
+
 def main(arguments: Sequence[str] | None = None) -> int:
     """Runs the command, and returns the exit status."""
     words = words_of(arguments)
-    return engine.run("traffic.py", lambda: weigh(words), show, words.json)
+    as_lines = functools.partial(show_lines, escaped=words.column is not None)
+    return engine.run("traffic.py", lambda: weigh(words), as_lines if words.tsv else show, words.json)
 
 
 if __name__ == "__main__":

@@ -440,6 +440,9 @@ class OfFields(Tests):
             with contextlib.redirect_stdout(io.StringIO()) as printed:
                 self.assertEqual(heavy.main([table, *words, "--tsv"]), 0)
             self.assertEqual(printed.getvalue(), wanted)
+            with contextlib.redirect_stdout(io.StringIO()) as printed:
+                self.assertEqual(traffic.main([table, *words, "--tsv", "--ask", "x", "--ask", "a\\"]), 0)
+            self.assertEqual(printed.getvalue(), f"# total 3\n0\tx\n2\t{wanted.splitlines()[1].split(chr(9))[2]}\n")
 
     def test_kept_lines(self):
         keys = write(FOLDER, "keys.csv", "1," + self.lines[1].split(",")[0] + "\nno key\n")
