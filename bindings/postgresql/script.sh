@@ -127,8 +127,8 @@ SQL
     function_of "sketch_bounds(sketch $type, item $item, OUT lower_bound bigint, OUT estimate bigint, OUT upper_bound bigint)" \
         "${type}_bounds"
     function_of "frequent_rows(sketch $type, mode text DEFAULT 'no_false_negatives', threshold bigint DEFAULT 0,
-    OUT item $item, OUT estimate bigint, OUT lower_bound bigint, OUT upper_bound bigint) RETURNS SETOF record" \
-        "${type}_rows" 'STABLE STRICT' ' ROWS 100'
+    OUT item $item, OUT lower_bound bigint, OUT estimate bigint, OUT upper_bound bigint) RETURNS SETOF record" \
+        "${type}_report" 'STABLE STRICT' ' ROWS 100'
     function_of "sketch_status(sketch $type, OUT total_weight bigint, OUT maximum_error bigint, OUT num_active_items bigint,
     OUT maximum_map_capacity bigint, OUT current_map_capacity bigint, OUT max_map_size bigint)" "${type}_status"
 }

@@ -302,7 +302,7 @@ template <class T> void reports(std::size_t count)
     std::size_t rows = 0;
     std::uint64_t before = UINT64_MAX;
     bool same = true;
-    for (auto &[item, estimate, lower, upper] : take(made.rows(ds::error_type::no_false_negatives))) {
+    for (auto &[item, lower, estimate, upper] : take(made.rows(ds::error_type::no_false_negatives))) {
         auto found = exact.find(T(item));
         same &= found != exact.end() && found->second == estimate && lower == estimate && upper == estimate && estimate <= before;
         before = estimate;

@@ -136,8 +136,8 @@ static Datum rows_of(FunctionCallInfo fcinfo, Kind kind)
         CHECK_FOR_INTERRUPTS();
         values[0] = has_strings ? string_value(rows.bytes + rows.offsets[i], rows.offsets[i + 1] - rows.offsets[i])
                                 : Int64GetDatum(rows.bigints[i]);
-        values[1] = Int64GetDatum(as_bigint(rows.bounds[i].estimate));
-        values[2] = Int64GetDatum(as_bigint(rows.bounds[i].lower_bound));
+        values[1] = Int64GetDatum(as_bigint(rows.bounds[i].lower_bound));
+        values[2] = Int64GetDatum(as_bigint(rows.bounds[i].estimate));
         values[3] = Int64GetDatum(as_bigint(rows.bounds[i].upper_bound));
         tuplestore_putvalues(store, row, values, nulls);
         if (has_strings) pfree(DatumGetPointer(values[0]));
@@ -174,7 +174,7 @@ static Datum status_row(FunctionCallInfo fcinfo, Kind kind)
     BOUND(type##_estimate, kind, estimate) \
     BOUND(type##_upper_bound, kind, upper_bound) \
     FUNCTION(type##_bounds, bounds_row, kind) \
-    FUNCTION(type##_rows, rows_of, kind) \
+    FUNCTION(type##_report, rows_of, kind) \
     FUNCTION(type##_status, status_row, kind)
 
 QUERIES(frequent_strings, DS_FREQUENT_ITEMS_STRING)

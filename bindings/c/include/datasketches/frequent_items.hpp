@@ -13,8 +13,8 @@ enum class error_type { no_false_positives, no_false_negatives };
 /* An item of a report and its bounds. A string lies in the report. */
 template <class T> struct frequent_row {
     std::conditional_t<std::is_same_v<T, std::string>, std::string_view, T> item;
-    std::uint64_t estimate;
     std::uint64_t lower_bound;
+    std::uint64_t estimate;
     std::uint64_t upper_bound;
 };
 
@@ -149,7 +149,7 @@ public:
 
     /* Returns the rows whose bound exceeds the threshold and the sketch's error: `.._rows`.
      *
-     *     for (auto &[item, estimate, lower, upper] : sketch.rows(error_type::no_false_negatives)) .. */
+     *     for (auto &[item, lower, estimate, upper] : sketch.rows(error_type::no_false_negatives)) .. */
     outcome<frequent_rows<T>> rows(error_type type, std::uint64_t threshold = 0)
     {
         constexpr bool of_strings = std::is_same_v<T, std::string>;
@@ -182,7 +182,7 @@ public:
         if (code < 0) count = 0;
         report.rows_.reserve(count);
         for (std::size_t i = 0; i < count; i++)
-            report.rows_.push_back({item(i), found[i].estimate, found[i].lower_bound, found[i].upper_bound});
+            report.rows_.push_back({item(i), found[i].lower_bound, found[i].estimate, found[i].upper_bound});
         return detail::done(code, std::move(report));
     }
 
