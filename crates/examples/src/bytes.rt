@@ -1,7 +1,8 @@
 //! Examples of bytes that are hashed, written and read.
 use sketch_base::{
-    Divisor, Error, ErrorKind, Family, Fault, MurmurHash3X64128, RehashableItem, SketchBytes,
-    SketchSlice, XxHash64, murmur3_of_str, xxh64_of_str,
+    Divisor, Error, ErrorKind, Family, Fault, FedBytes, FedItems, Item, Items, MurmurHash3X64128,
+    Rehashable, RehashableBytes, RehashableItem, SketchBytes, SketchSlice, XxHash64,
+    murmur3_of_str, xxh64_of_str,
 };
 use std::alloc::Global;
 use std::hash::{Hash, Hasher};
@@ -57,6 +58,22 @@ pub fn hashes_of_both_rows(user: u64, seeds: (u64, u64)) -> (u64, u64) {
 pub fn kept_bytes(user: u64) -> Option<usize> {
     let item = RehashableItem::new(&user);
     item.short().map(|bytes| bytes.len())
+}
+
+/// Returns the hashes of an address under the seeds of two rows.
+pub fn hashes_of_address(address: &[u8; 4], seeds: (u64, u64)) -> (u64, u64) {
+    let address = RehashableBytes::new(address);
+    (address.murmur3(seeds.0).0, address.murmur3(seeds.1).0)
+}
+
+/// Returns whether the bytes of a number are hashed as the number.
+pub fn is_same_item(number: u32, seed: u64) -> bool {
+    FedBytes(&number.to_le_bytes()).xxh64(seed) == (&number).xxh64(seed)
+}
+
+/// Returns whether there are items.
+pub fn has_items(mut items: FedItems<'_>) -> bool {
+    items.next().is_some()
 }
 
 /// Returns the bucket of a hash, of 128 buckets.

@@ -1,4 +1,5 @@
 //! Tests of what the examples return.
+use crate::bytes;
 use crate::bytes::bucket;
 use crate::bytes::checksum_of;
 use crate::bytes::halves_of;
@@ -360,6 +361,13 @@ fn hashes_of_a_string() -> bool {
             == murmur3_of(&"a string of more than 16 bytes", 2).0
 }
 
+/// Returns whether items given by their bytes are hashed as the items.
+fn hashes_of_bytes() -> bool {
+    bytes::is_same_item(7, 9001)
+        && bytes::hashes_of_address(&[7, 0, 0, 0], (1, 2)).1 == murmur3_of(&7_u32, 2).0
+        && bytes::has_items(sketch_base::FedItems(&[b"ann"]))
+}
+
 #[test]
 fn many_strings_are_as_the_docs_say(rt: HostRuntime) {
     assert!(rt;
@@ -372,6 +380,7 @@ fn many_strings_are_as_the_docs_say(rt: HostRuntime) {
     assert!(rt; many_fruits(rt.alloc()) == Ok((30, 47)));
     assert!(rt; strings_in_three_forms());
     assert!(rt; hashes_of_a_string());
+    assert!(rt; hashes_of_bytes());
 }
 
 /// Returns the bytes of two hosts in a week of three equal days.
