@@ -225,17 +225,10 @@ def main():
     whole = sizes == []
     folder = PAGE if whole else f"{TOP}/bench/out/postgresql"
     plots(f"{folder}/plots", table)
-    body = "\n".join([*wrapped(head), "", *text, "", "![Time of the queries](plots/time.png)", "",
-                      "![Memory of the queries](plots/memory.png)"])
-    if whole:
-        with open(f"{folder}/README.md", encoding="utf-8") as file:
-            page = file.read()
-        page = re.sub(r"(?s)(<!-- bench -->\n).*?(<!-- end of bench -->)", lambda found: f"{found[1]}{body}\n{found[2]}", page)
-    else:
-        page = body + "\n"
-    with open(f"{folder}/README.md", "w", encoding="utf-8") as file:
-        file.write(page)
-    print(f"written to {os.path.relpath(folder, TOP)}/README.md")
+    written = f"{TOP}/bench/results/{datetime.date.today()}-postgresql.txt" if whole else f"{folder}/table.txt"
+    with open(written, "w", encoding="utf-8") as file:
+        file.write("\n".join([*wrapped(head), "", *text, ""]))
+    print(f"written to {os.path.relpath(written, TOP)}")
 
 
 def processor():
