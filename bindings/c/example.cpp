@@ -29,7 +29,7 @@ try {
     auto report = heavy.rows(datasketches::error_type::no_false_positives, 1);
     /* rows of equal estimates come in any order */
     std::vector<std::string> lines;
-    for (auto &[word, estimate, lower, upper] : report)
+    for (auto &[word, lower, estimate, upper] : report)
         lines.push_back(std::string(word) + ": " + std::to_string(estimate) + ", between " + std::to_string(lower) + " and " +
                         std::to_string(upper));
     std::sort(lines.begin(), lines.end());
