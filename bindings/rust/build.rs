@@ -5,7 +5,7 @@ use std::path::{Path, PathBuf};
 use std::process::{self, Command};
 
 /// The first version of the C library that has all calls of `src/sys.rs`.
-const VERSION: &str = "0.2";
+const VERSION: &str = "0.3";
 
 const HELP: &str = "\
 the C library of datasketches was not found. Do one of these:

@@ -129,7 +129,7 @@ class Tests:
         exported = subprocess.run(["nm", "-D", "--defined-only", library], check=True, capture_output=True, text=True).stdout
         listed = subprocess.run(["dpkg-deb", "-I", *glob.glob(f"{built}/libdatasketches0_*.deb"), "symbols"],
                                 capture_output=True, text=True)
-        self.check("the symbols of the library", set(re.findall(r" (ds_\w+)@DATASKETCHES_0 0\.2\.0\n", listed.stdout))
+        self.check("the symbols of the library", set(re.findall(r" (ds_\w+)@DATASKETCHES_0 0\.3\.0\n", listed.stdout))
                    == set(re.findall(r" (ds_\w+)@", exported)) != set(), listed)
 
     def pages(self, built):

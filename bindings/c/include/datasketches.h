@@ -66,11 +66,11 @@ extern "C" {
 
 /* The version of this header. `ds_version` returns that of the library. */
 #define DS_VERSION_MAJOR 0
-#define DS_VERSION_MINOR 2
+#define DS_VERSION_MINOR 3
 #define DS_VERSION_PATCH 0
-#define DS_VERSION "0.2.0"
+#define DS_VERSION "0.3.0"
 
-/* Returns the version of the library, as "0.2.0". The string is static: do not free it. */
+/* Returns the version of the library, as "0.3.0". The string is static: do not free it. */
 const char *ds_version(void);
 
 /* A sketch of some kind, or none if `sketch` is null. Never read or write the pointer. */

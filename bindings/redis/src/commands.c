@@ -186,7 +186,7 @@ static bool create_command(RedisModuleCtx *ctx, const Command *row)
     RedisModuleCommandInfo info = {.version = REDISMODULE_COMMAND_INFO_VERSION,
                                    .summary = row->summary,
                                    .complexity = row->complexity,
-                                   .since = "0.2.0",
+                                   .since = "0.3.0",
                                    .arity = row->arity,
                                    .key_specs = keys,
                                    .args = row->arguments};

@@ -1,6 +1,9 @@
 /* The module: its arguments and its start. */
 #include "module.h"
 
+/* The version as one number, which MODULE LIST shows: 10203 is 1.2.3. */
+#define MODULE_VERSION (10000 * DS_VERSION_MAJOR + 100 * DS_VERSION_MINOR + DS_VERSION_PATCH)
+
 /* Reads the arguments of the module: pairs of a name and a number. Returns false after a message in the server's log. */
 static bool read_arguments(Call *call)
 {
@@ -39,7 +42,7 @@ __attribute__((visibility("default"))) int RedisModule_OnLoad(RedisModuleCtx *ct
 int RedisModule_OnLoad(RedisModuleCtx *ctx, RedisModuleString **argv, int argc)
 {
     Call call = {ctx, argv, argc, NULL, NULL};
-    if (RedisModule_Init(ctx, "rattle_sketches", 1, REDISMODULE_APIVER_1) != REDISMODULE_OK) return REDISMODULE_ERR;
+    if (RedisModule_Init(ctx, "rattle_sketches", MODULE_VERSION, REDISMODULE_APIVER_1) != REDISMODULE_OK) return REDISMODULE_ERR;
     if (RedisModule_TryAlloc == NULL || RedisModule_SetCommandInfo == NULL) {
         RedisModule_Log(ctx, "warning", "the module needs Redis 7.0 or later");
         return REDISMODULE_ERR;

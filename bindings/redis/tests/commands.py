@@ -1,5 +1,6 @@
 """Every command: its replies in both versions of the protocol, by redis-cli and by python3-redis, its errors, and what the server
 knows of it."""
+import os
 import random
 import subprocess
 
@@ -7,6 +8,7 @@ import redis
 
 from resp import Error
 
+TOP = os.path.dirname(os.path.dirname(os.path.dirname(os.path.dirname(os.path.abspath(__file__)))))
 WRONG_TYPE = Error("WRONGTYPE Operation against a key holding the wrong kind of value")
 OK = "OK"
 
@@ -432,13 +434,17 @@ def documented(tests):
             info[0].decode() if isinstance(info[0], bytes) else info[0]: info for info in client.done("COMMAND", "INFO", *names)
         }
         tests.check("the number of commands", len(names) == 36, names)
+        modules = {module["name"]: module["ver"] for module in client.done("MODULE", "LIST")}
+        with open(f"{TOP}/VERSION", encoding="utf-8") as file:
+            major, minor, patch = [int(number) for number in file.read().split(".")]
+        tests.check("the version of the module", modules == {b"rattle_sketches": 10000 * major + 100 * minor + patch}, modules)
         for name in names:
             doc, info = docs[name], infos[name]
             tests.check(
                 f"COMMAND DOCS {name}",
                 doc["summary"]
                 and doc["complexity"].startswith(b"O(")
-                and doc["since"] == b"0.2.0"
+                and doc["since"] == b"0.3.0"
                 and {word if isinstance(word, str) else word.decode() for word in doc["arguments"][0]} >= {"name", "type"},
                 doc,
             )

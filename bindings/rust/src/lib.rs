@@ -72,7 +72,7 @@ mod sys;
 pub use options::{ImageOptions, Key, DEFAULT_SEED};
 pub use shared::{Reader, Shared, Sketch};
 
-/// Returns the version of the C library, such as `"0.2.0"`.
+/// Returns the version of the C library, such as `"0.3.0"`.
 pub fn version() -> &'static str {
     handle::version()
 }

@@ -18,7 +18,7 @@ The manual page and docs/FORMATS.md have all commands. The environment variable
 DATASKETCHES_TABLE_KEY fixes the key of the run: plain, or 32 hexadecimal digits.";
 
 /// The version, that of all parts of the library.
-pub const VERSION: &str = "datasketches_cli 0.2.0";
+pub const VERSION: &str = "datasketches_cli 0.3.0";
 
 /// What the arguments ask for.
 #[derive(Clone, Copy)]

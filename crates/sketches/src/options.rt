@@ -20,7 +20,7 @@ pub const BAD_ERROR: &str =
 pub fn command<'a>(alloc: Global) -> Result<Command<'a>, AllocError> {
     Ok(
         Command::new(alloc, "sketches")
-            .version("0.2.0")
+            .version("0.3.0")
             .about("Summaries of the lines of files, in bounded memory")
             .subcommand_required(true)
             .arg_required_else_help(true)
