@@ -221,7 +221,7 @@ SQL
 }
 
 cat <<'SQL'
--- sketches_rattle 0.2.0: frequent items, Count-Min sketches and Bloom filters.
+-- sketches_rattle: frequent items, Count-Min sketches and Bloom filters.
 \echo Use "CREATE EXTENSION sketches_rattle" to load this file. \quit
 
 -- States of aggregates, of all types. SSPACE is the number of bytes from which the planner and a hash of groups foresee their

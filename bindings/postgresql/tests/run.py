@@ -33,6 +33,7 @@ import limits  # noqa: E402
 import page  # noqa: E402
 import server  # noqa: E402
 import stored  # noqa: E402
+import updates  # noqa: E402
 import versions  # noqa: E402
 
 PYTHON = "/usr/bin/python3"
@@ -146,9 +147,10 @@ def valgrind(tests):
 
 
 GROUPS = [queries, isolation, bounds.every_key, ends.cancels, ends.many_cancels, ends.killed, ends.out_of_memory,
-          stored.dump_and_restore, stored.copied, stored.encodings, stored.collations, stored.versions, stored.owned, frames.linear,
-          item_types.types, item_types.orders, item_types.images_of_other_items, item_types.comments, limits.small_images, limits.planned,
-          limits.administrators, limits.settings, limits.kept_by_use, limits.kept_in_part, limits.long_strings,
+          stored.dump_and_restore, stored.copied, stored.encodings, stored.collations, stored.versions, stored.owned,
+          updates.from_the_version_before, frames.linear, item_types.types, item_types.orders, item_types.images_of_other_items,
+          item_types.comments, limits.small_images, limits.planned, limits.administrators, limits.settings,
+          limits.kept_by_use, limits.kept_in_part, limits.long_strings,
           exchange.interfaces, exchange.seeds, page.page_queries, errors.page_errors, damage.damaged_bytes, versions.compiles]
 
 

@@ -6,6 +6,9 @@ import psycopg2
 import golden
 from ends import code_of
 
+# The version from which an update leads to this one.
+BEFORE = "0.2.0"
+
 TYPES = {"strings": "frequent_strings", "bigints": "frequent_bigints", "counts": "count_min", "signed_counts": "signed_count_min",
          "filter": "bloom_filter"}
 BYTES = ", ".join(f"{name}::bytea" for name in TYPES)
@@ -189,8 +192,9 @@ def versions(tests):
         cursor.execute("ALTER EXTENSION sketches_rattle UPDATE")
         cursor.execute(f"ALTER EXTENSION sketches_rattle UPDATE TO '{offered}'")
         tests.check("an update keeps each sketch", everything(cursor) == before)
-        cursor.execute("SELECT count(*) FROM pg_extension_update_paths('sketches_rattle') WHERE path IS NOT NULL")
-        tests.check("no other version", cursor.fetchone() == (0,))
+        cursor.execute("SELECT path FROM pg_extension_update_paths('sketches_rattle') WHERE path IS NOT NULL")
+        paths = cursor.fetchall()
+        tests.check("updates come from the version before alone", paths == [(f"{BEFORE}--{offered}",)], paths)
         for name, sketch in golden.SKETCHES.items():
             for form, value in [("bytea", sketch), ("text", golden.text(sketch))]:
                 literal = cursor.mogrify(f"%s::{form if form == 'bytea' else name}::{name}", (value,)).decode()
