@@ -484,7 +484,9 @@ class Tests:
             said = b"sketches: DATASKETCHES_TABLE_KEY must be plain or 32 hexadecimal digits\n"
             self.check(f"a bad variable {value}", ran[:3] == (2, b"", said), ran)
             self.check("the option comes first", self.run(["top", "--key", "plain"], b"a\n", key=value)[0] == 0)
-        for words, part in [(["--version"], b"sketches "), (["--help"], b"Usage"), (["top", "--help"], b"--max-line"), (["help", "top"], b"FILE")]:
+        with open(f"{os.path.dirname(TESTS)}/VERSION", "rb") as file:
+            version = b"sketches " + file.read()
+        for words, part in [(["--version"], version), (["--help"], b"Usage"), (["top", "--help"], b"--max-line"), (["help", "top"], b"FILE")]:
             status, out, said, _ = self.run(words)
             self.check(f"{words}", (status, said) == (0, b"") and part in out, (status, out, said))
         with open("/dev/full", "wb") as full:
