@@ -24,8 +24,8 @@ CATALOGS = {
 
 # A view, a function and a constraint that use the extension.
 DEPENDENTS = """
-CREATE VIEW merged AS SELECT frequent_strings_union(strings)::bytea AS strings, count_min_union(counts)::bytea AS counts,
-    signed_count_min_union(signed_counts)::bytea AS signed_counts, bloom_filter_union(filter)::bytea AS filter FROM sketches WHERE size = 100;
+CREATE VIEW merged AS SELECT sketch_estimate(frequent_strings_union(strings), 'é€😀 8') AS estimate, count_min_union(counts) AS counts,
+    signed_count_min_union(signed_counts) AS signed_counts, bloom_filter_union(filter | filter) AS filter FROM sketches WHERE size = 100;
 CREATE FUNCTION has(bloom_filter, bigint) RETURNS boolean RETURN sketch_contains($1, $2);
 ALTER TABLE sketches ADD CHECK (sketch_contains(filter, 0::bigint));
 """
@@ -79,7 +79,8 @@ def from_the_version_before(tests):
     # The script of that version, which only this test installs.
     shutil.copy(f"{HERE}/sketches_rattle--{BEFORE}.sql", f"{tests.tree}{server.asked('--sharedir')}/extension")
     with tests.main.session("updated") as session, session.cursor() as cursor:
-        cursor.execute(f"CREATE EXTENSION sketches_rattle VERSION '{BEFORE}'; {SKETCHES} {DEPENDENTS} CREATE TABLE merged_before AS TABLE merged")
+        cursor.execute(f"CREATE EXTENSION sketches_rattle VERSION '{BEFORE}'; {SKETCHES} {DEPENDENTS}"
+                       "CREATE TABLE merged_before AS TABLE merged")
         for name, sketch in golden.SKETCHES.items():
             cursor.execute(f"CREATE TABLE golden_{name} AS SELECT %s::{name} AS sketch", (golden.text(sketch),))
         before = everything(cursor)
@@ -92,9 +93,10 @@ def from_the_version_before(tests):
             others = [row for row in found if row not in wanted[name]] + [row for row in wanted[name] if row not in found]
             tests.check(f"{name} after an update, as after an installation", found == wanted[name], others[:4])
         tests.check("an update keeps each sketch", len(before) == 6 and everything(cursor) == before)
-        cursor.execute("SELECT count(*) FROM merged JOIN merged_before USING (strings, counts, signed_counts, filter)")
+        cursor.execute("SELECT count(*) FROM merged JOIN merged_before USING (estimate, counts, signed_counts, filter) WHERE estimate > 0")
         tests.check("a view after an update", cursor.fetchone() == (1,))
-        cursor.execute("SELECT has(filter, 7), sketch_lower_bound(strings, 'é€😀 8'), sketch_upper_bound(bigints, -7) FROM sketches WHERE size = 10")
+        cursor.execute("SELECT has(filter, 7), sketch_lower_bound(strings, 'é€😀 8'), sketch_upper_bound(bigints, -7) FROM sketches "
+                       "WHERE size = 10")
         tests.check("queries of stored sketches after an update", cursor.fetchone() == (True, 2, 7))
         for name in golden.SKETCHES:
             for query, answer in golden.QUERIES[name]:
