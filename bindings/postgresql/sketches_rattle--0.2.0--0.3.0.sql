@@ -1,3 +1,15 @@
 \echo Use "ALTER EXTENSION sketches_rattle UPDATE TO '0.3.0'" to load this file. \quit
 
--- Types, functions, aggregates, operators and casts are those of 0.2.0.
+-- The columns of `frequent_rows` have another order. A view that uses it is dropped first, and created again after the update.
+
+DROP FUNCTION frequent_rows(frequent_strings, text, bigint);
+CREATE FUNCTION frequent_rows(sketch frequent_strings, mode text DEFAULT 'no_false_negatives', threshold bigint DEFAULT 0,
+    OUT item text, OUT lower_bound bigint, OUT estimate bigint, OUT upper_bound bigint) RETURNS SETOF record
+    LANGUAGE C STABLE STRICT PARALLEL SAFE ROWS 100 AS 'MODULE_PATHNAME', 'frequent_strings_report';
+COMMENT ON FUNCTION frequent_rows(frequent_strings, text, bigint) IS 'the items above a threshold with their bounds';
+
+DROP FUNCTION frequent_rows(frequent_bigints, text, bigint);
+CREATE FUNCTION frequent_rows(sketch frequent_bigints, mode text DEFAULT 'no_false_negatives', threshold bigint DEFAULT 0,
+    OUT item bigint, OUT lower_bound bigint, OUT estimate bigint, OUT upper_bound bigint) RETURNS SETOF record
+    LANGUAGE C STABLE STRICT PARALLEL SAFE ROWS 100 AS 'MODULE_PATHNAME', 'frequent_bigints_report';
+COMMENT ON FUNCTION frequent_rows(frequent_bigints, text, bigint) IS 'the items above a threshold with their bounds';

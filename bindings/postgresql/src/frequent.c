@@ -113,8 +113,9 @@ static Rows string_rows(ds_sketch *handle, bool negatives, uint64 threshold, siz
     return rows;
 }
 
-/* Puts the rows of a sketch into the call's result, in descending order of estimates. */
-static Datum rows_of(FunctionCallInfo fcinfo, Kind kind)
+/* Puts the rows of a sketch into the call's result, in descending order of estimates. `estimate` is the column of the estimate, 1 or
+ * 2, and the other one has the lower bound. */
+static Datum rows_of(FunctionCallInfo fcinfo, Kind kind, int estimate)
 {
     bool negatives = no_false_negatives(fcinfo), has_strings = kind == DS_FREQUENT_ITEMS_STRING;
     bool nulls[4] = {false, false, false, false};
@@ -136,8 +137,8 @@ static Datum rows_of(FunctionCallInfo fcinfo, Kind kind)
         CHECK_FOR_INTERRUPTS();
         values[0] = has_strings ? string_value(rows.bytes + rows.offsets[i], rows.offsets[i + 1] - rows.offsets[i])
                                 : Int64GetDatum(rows.bigints[i]);
-        values[1] = Int64GetDatum(as_bigint(rows.bounds[i].lower_bound));
-        values[2] = Int64GetDatum(as_bigint(rows.bounds[i].estimate));
+        values[3 - estimate] = Int64GetDatum(as_bigint(rows.bounds[i].lower_bound));
+        values[estimate] = Int64GetDatum(as_bigint(rows.bounds[i].estimate));
         values[3] = Int64GetDatum(as_bigint(rows.bounds[i].upper_bound));
         tuplestore_putvalues(store, row, values, nulls);
         if (has_strings) pfree(DatumGetPointer(values[0]));
@@ -169,12 +170,14 @@ static Datum status_row(FunctionCallInfo fcinfo, Kind kind)
     { \
         PG_RETURN_INT64(as_bigint(bounds_of(fcinfo, kind).bound)); \
     }
+/* `_rows` is called by the SQL functions of 0.2.0, until they are updated. */
 #define QUERIES(type, kind) \
     BOUND(type##_lower_bound, kind, lower_bound) \
     BOUND(type##_estimate, kind, estimate) \
     BOUND(type##_upper_bound, kind, upper_bound) \
     FUNCTION(type##_bounds, bounds_row, kind) \
-    FUNCTION(type##_report, rows_of, kind) \
+    FUNCTION(type##_report, rows_of, kind, 2) \
+    FUNCTION(type##_rows, rows_of, kind, 1) \
     FUNCTION(type##_status, status_row, kind)
 
 QUERIES(frequent_strings, DS_FREQUENT_ITEMS_STRING)

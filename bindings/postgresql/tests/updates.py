@@ -4,6 +4,7 @@ import shutil
 
 import golden
 import server
+from ends import code_of
 from stored import BEFORE, SKETCHES, database, everything
 
 HERE = os.path.dirname(os.path.abspath(__file__))
@@ -84,7 +85,21 @@ def from_the_version_before(tests):
         for name, sketch in golden.SKETCHES.items():
             cursor.execute(f"CREATE TABLE golden_{name} AS SELECT %s::{name} AS sketch", (golden.text(sketch),))
         before = everything(cursor)
-        cursor.execute("ALTER EXTENSION sketches_rattle UPDATE")
+        # Rows whose bounds differ, as the tables have room for 48 of 300 items.
+        cursor.execute("CREATE TABLE inexact AS SELECT frequent_strings_agg(i % 300 || '', 1, 64) AS strings, "
+                       "frequent_bigints_agg(i % 300, 1, 64) AS bigints FROM generate_series(1::bigint, 3000) AS i")
+        rows = ("SELECT item, lower_bound, estimate, upper_bound FROM inexact, frequent_rows(strings, 'no_false_negatives') "
+                "UNION ALL SELECT item::text, lower_bound, estimate, upper_bound FROM inexact, frequent_rows(bigints) ORDER BY 3, 1, 2")
+        cursor.execute(f"CREATE VIEW old_rows AS {rows}; SELECT * FROM old_rows")
+        rows_before = cursor.fetchall()
+        code = code_of(cursor, "ALTER EXTENSION sketches_rattle UPDATE")
+        tests.check("an update drops no function that a view uses", code == "2BP01", code)
+        cursor.execute("SELECT * FROM old_rows")
+        tests.check("the view stays as it was", len(rows_before) > 20 and cursor.fetchall() == rows_before)
+        tests.check("the columns of the version before", all(lower < estimate <= upper for _, lower, estimate, upper in rows_before))
+        cursor.execute("DROP VIEW old_rows; ALTER EXTENSION sketches_rattle UPDATE")
+        cursor.execute(rows)
+        tests.check("columns by name after an update", cursor.fetchall() == rows_before)
         tests.check("an update keeps each sketch of an open session", everything(cursor) == before)
     with tests.main.session("updated") as session, session.cursor() as cursor:
         cursor.execute("SELECT extversion FROM pg_extension WHERE extname = 'sketches_rattle'")
