@@ -1,4 +1,4 @@
-"""Runs `sketches top --csv` over generated files, and compares the reports with exact counts by Python's `csv`.
+"""Runs `sketches` with `--csv` over generated files, and compares what it prints with exact sets and sums by Python's `csv`.
 
     python3 tests/program/sketch_csv.py crates/sketches/out/sketches
 
@@ -28,6 +28,58 @@ def records_of(data, delimiter=","):
     csv.field_size_limit(1 << 30)
     reader = csv.reader(io.StringIO(data.decode("latin-1"), newline=""), delimiter=delimiter)
     return [[field.encode("latin-1") for field in row] for row in reader]
+
+
+def raws_of(data, delimiter=","):
+    """Returns the records of an input with their bytes: the lines that Python's reader took for each."""
+    csv.field_size_limit(1 << 30)
+    lines = [line + "\n" for line in data.decode("latin-1").split("\n")]
+    lines[-1] = lines[-1][:-1]
+    lines = lines if lines[-1] else lines[:-1]
+    reader = csv.reader(iter(lines), delimiter=delimiter)
+    found, at = [], 0
+    for row in reader:
+        raw = "".join(lines[at:reader.line_num]).encode("latin-1")
+        found.append((raw, [field.encode("latin-1") for field in row]))
+        at = reader.line_num
+    return found
+
+
+def split(inputs, header):
+    """Returns the header of the first input, and the records of all inputs after their headers."""
+    found = [raws_of(data) for data in inputs]
+    first = found[0][0][0] if header and found and found[0] else b""
+    return first if first.endswith(b"\n") or not first else first + b"\n", [pair for each in found for pair in each[header:]]
+
+
+def unseen(inputs, field, header=False, repeated=False):
+    """Returns what `uniq` prints."""
+    out, rows = split(inputs, header)
+    seen = set()
+    for raw, row in rows:
+        item = row[field - 1] if len(row) >= field else None
+        if (item in seen) == repeated:
+            out += raw
+        if item is not None:
+            seen.add(item)
+    return out
+
+
+def joined(keys, inputs, keys_field, field, header=False, wanted=True):
+    """Returns what `join` prints."""
+    items = {row[keys_field - 1] for _, row in raws_of(keys)[header:] if len(row) >= keys_field}
+    out, rows = split(inputs, header)
+    return out + b"".join(raw for raw, row in rows if (len(row) >= field and row[field - 1] in items) == wanted)
+
+
+def weighed(keys, inputs, keys_field, field, weight=None, header=False):
+    """Returns what `weigh` prints if no number exceeds its weight."""
+    sums = collections.Counter()
+    for _, row in split(inputs, header)[1]:
+        if len(row) >= field:
+            sums[row[field - 1]] += int(row[weight - 1]) if weight else 1
+    found = [row[keys_field - 1] for _, row in raws_of(keys)[header:] if len(row) >= keys_field]
+    return b"# total %d\n" % sums.total() + b"".join(b"%d\t%s\n" % (sums[key], shown(key)) for key in found)
 
 
 def text_of(item):
@@ -230,6 +282,114 @@ class Tests:
         said = b"sketches: 2 lines are not UTF-8: their bytes are shown as U+FFFD\n"
         self.is_exact("the note", self.run("top", "--csv", "-f", 1, data=data), counts_of([data], 1, header=True), 10, 0, said)
 
+    def records(self):
+        """Checks what `uniq`, `join` and `weigh` print for records that were written down by hand."""
+        table = self.file("table.csv", b'id,name\r\n1,"tea, green"\r\n2,"two\nlines"\n1,x\n3,"tea, green"\n\n2\n4')
+        head = b"id,name\r\n"
+        tea, two, last = b'1,"tea, green"\r\n', b'2,"two\nlines"\n', b'3,"tea, green"\n'
+        keys = self.file("keys.csv", b'"a ""key""",n\n"tea, green",1\n,2\n"two\nlines",3\n"tea, green",1\n')
+        self.file("bad.csv", b"a,n\nx,1\n\"y\n\",z\n")
+        cases = [
+            (["uniq", "-f", "name", table], head + tea + two + b"1,x\n\n2\n4"),
+            (["uniq", "-f", "2", "--repeated", table], head + last),
+            (["uniq", "-f", "id", table], head + tea + two + last + b"\n4"),
+            (["uniq", "-f", "1", "--no-csv-header", table], head + tea + two + last + b"\n4"),
+            (["join", "-f", "name", "--keys-field", 'a "key"', "--keys", keys, table], head + tea + two + last),
+            (["join", "-f", "2", "--keys-field", "1", "--keys", keys, table], head + tea + two + last),
+            (["join", "-v", "-f", "name", "--keys-field", "1", "--keys", keys, table], head + b"1,x\n\n2\n4"),
+            (["join", "-f", "id", "--keys-field", "n", "--keys", keys, table], head + tea + two + b"1,x\n" + last + b"2\n"),
+            (["weigh", "-f", "name", "--keys-field", "1", "--keys", keys, table], b"# total 4\n2\ttea, green\n0\t\n1\ttwo\\nlines\n2\ttea, green\n"),
+            (["weigh", "-f", "name", "-w", "id", "--keys-field", "1", "--keys", keys, table], b"# total 7\n4\ttea, green\n0\t\n2\ttwo\\nlines\n4\ttea, green\n"),
+            (["weigh", "-f", "a", "-w", "n", "--no-header", "--keys-field", "a", "--keys", "bad.csv", "bad.csv"], 3),
+        ]
+        for words, wanted in cases:
+            note = [] if words[0] == "weigh" else ["--no-note"]
+            ran = self.run(words[0], "--csv", *note, *words[1:])
+            if isinstance(wanted, int):
+                wanted, said, status = b"", b"sketches: bad.csv: line 2: bad weight 'z'\n", 2
+            else:
+                said, status = b"", 0
+            self.check(f"{words}", ran == (status, wanted, said), ran)
+        ran = self.run("weigh", "--escape", "--keys", keys, data=b"a\\b\n")
+        self.check("weigh --escape", ran[0] == 0 and ran[1].split(b"\n")[2] == b'0\t"tea, green",1', ran)
+
+    def random_records(self):
+        """Compares `uniq`, `join` and `weigh` on random bytes with exact sets and sums."""
+        rng = random.Random(7)
+        fixed = ["--csv", "--no-note", "--items", "4096"]
+        for number in range(200):
+            data = [b"".join(rng.choices(PIECES, k=rng.choice([3, 10, 40, 400]))) for _ in range(4)]
+            field, keys_field, header = rng.randint(1, 4), rng.randint(1, 3), rng.random() < 0.5
+            words = ["-f", field] + ([] if header else ["--no-csv-header"])
+            names = [self.file(f"random{at}.csv", one) for at, one in enumerate(data)]
+            with_keys = [*words, "--keys-field", keys_field, "--keys", names[0]]
+            for repeated in [False, True]:
+                ran = self.run("uniq", *fixed, *words, *(["--repeated"] if repeated else []), *names)
+                self.check(f"random uniq {number} {repeated}", ran == (0, unseen(data, field, header, repeated), b""), ran)
+            for wanted in [True, False]:
+                ran = self.run("join", *fixed, *with_keys, *([] if wanted else ["-v"]), *names[1:])
+                self.check(f"random join {number} {wanted}", ran == (0, joined(data[0], data[1:], keys_field, field, header, wanted), b""), ran)
+            ran = self.run("weigh", "--csv", *with_keys, *names[1:])
+            self.check(f"random weigh {number}", ran == (0, weighed(data[0], data[1:], keys_field, field, header=header), b""), ran)
+
+    def cut_records(self):
+        """Checks files whose records are cut at every place of a block, as inputs and as keys."""
+        pattern = b'"a\n,""b",2\r\n"c"\r\n"dd\r\n\n",3\n,"e"\n"f""",\n\n'
+        for shift in range(len(pattern) + 2):
+            rows = (BLOCK - shift - 2) // 4
+            data = b"x" * (BLOCK - shift - 4 * rows - 1) + b"\n" + b"y,1\n" * rows + pattern * 2
+            cut, few = self.file("cut.csv", data), self.file("few.csv", pattern + b"y\n")
+            words = ["--csv", "--no-csv-header", "-f", 1]
+            ran = self.run("uniq", "--no-note", *words, cut)
+            self.check(f"uniq cut {shift}", ran == (0, unseen([data], 1), b""), ran)
+            ran = self.run("join", "--no-note", "-v", *words, "--keys-field", 1, "--keys", cut, few)
+            self.check(f"keys cut {shift}", ran == (0, b"", b""), ran)
+            ran = self.run("join", "--no-note", *words, "--keys-field", 1, "--keys", few, cut)
+            self.check(f"join cut {shift}", ran == (0, data[data.index(b"\n") + 1:-1].replace(b'\n\n"a', b'\n"a'), b""), ran)
+
+    def record_headers(self):
+        """Checks the headers that `uniq` and `join` print, and names in several files."""
+        one, two = self.file("one.csv", b"a,b\n1,x\n2,y\n"), self.file("two.csv", b"a,b,c\n3,x\n")
+        other, absent = self.file("other.csv", b"b,a\nz,9\n"), self.file("absent.csv", b"c,d\n5,6\n")
+        only, marked = self.file("only.csv", b"a,b"), self.file("marked.csv", b'\xef\xbb\xbf"a","b\n"\r\n1,2\n')
+        cases = [
+            ("uniq", ["-f", "b"], [one, two], 0, b"a,b\n1,x\n2,y\n", b""),
+            ("uniq", ["-f", "b"], [one, other], 1, b"a,b\n1,x\n2,y\n", b"sketches: other.csv: column 'b' is field 1, and was field 2 before\n"),
+            ("uniq", ["-f", "b"], [one, absent], 1, b"a,b\n1,x\n2,y\n", b"sketches: absent.csv: no column 'b'\n"),
+            ("uniq", ["-f", "b"], [absent, one], 2, b"", b"sketches: absent.csv: no column 'b'\n"),
+            ("uniq", ["-f", "b"], ["none.csv", two], 1, b"a,b,c\n3,x\n", b"sketches: none.csv: No such file or directory (os error 2)\n"),
+            ("uniq", ["-f", "b"], [only, one], 0, b"a,b\n1,x\n2,y\n", b""),
+            ("uniq", ["-f", "a"], [marked], 0, b'\xef\xbb\xbf"a","b\n"\r\n1,2\n', b""),
+            ("uniq", ["-f", "b"], ["/dev/null"], 2, b"", b"sketches: /dev/null: no column 'b'\n"),
+            ("join", ["-f", "b", "--keys-field", "b", "--keys", two], [one, other], 1, b"a,b\n1,x\n", b"sketches: other.csv: column 'b' is field 1, and was field 2 before\n"),
+            ("join", ["-f", "b", "--keys-field", "b", "--keys", only], [one], 0, b"a,b\n", b""),
+            ("join", ["-f", "b", "--keys-field", "e", "--keys", two], [one], 2, b"", b"sketches: two.csv: no column 'e'\n"),
+            ("join", ["-f", "e", "--keys-field", "b", "--keys", two], [one], 2, b"", b"sketches: one.csv: no column 'e'\n"),
+            ("join", ["-f", "b", "--keys-field", "b", "--keys", "none.csv"], [one], 2, b"", b"sketches: none.csv: No such file or directory (os error 2)\n"),
+            ("join", ["-f", "a", "--keys-field", "1", "--keys", "-"], [one], 0, b"a,b\n1,x\n", b""),
+        ]
+        for command, words, files, status, wanted, said in cases:
+            ran = self.run(command, "--csv", "--no-note", *words, *files, data=b"k\n1\n")
+            self.check(f"{command} {words} {files}", ran == (status, wanted, said), ran)
+        for wanted in [b"a,b\n1,x\n2,y\n", b"a,b\n"]:
+            ran = self.run("uniq", "--csv", "--no-note", "--state", "state", "-f", "a", one)
+            self.check("uniq --state", ran == (0, wanted, b""), ran)
+        ran = self.run("weigh", "--csv", "-f", "b", "-w", "e", "--keys-field", "b", "--keys", two, one)
+        self.check("weigh without a column", ran == (2, b"", b"sketches: one.csv: no column 'e'\n"), ran)
+
+    def wrong_records(self):
+        """Checks options of `uniq`, `join` and `weigh` that do not fit."""
+        keys = ["--keys", self.file("k.csv", b"a\n1\n")]
+        for words in [["uniq"], ["uniq", "-f", "0"], ["uniq", "-f", "a", "--no-csv-header"], ["uniq", "-f", "1", "-d", '"'], ["uniq", "-f", "1", "-w", "1"],
+                      ["join", "-f", "1", *keys], ["join", "--keys-field", "1", *keys], ["join", "-f", "1", "--keys-field", "a", "--no-csv-header", *keys],
+                      ["join", "-f", "1", "--keys-field", "0", *keys], ["weigh", "-f", "1", "-w", "0", "--keys-field", "1", *keys]]:
+            ran = self.run(words[0], "--csv", *words[1:], data=b"a,b\n1,2\n")
+            self.check(f"{words}", ran[:2] == (2, b"") and ran[2], ran)
+        for words in [["uniq", "-f", "a"], ["uniq", "-d", ","], ["join", "--keys-field", "a", *keys], ["join", "-d", ",", *keys], ["weigh", "-w", "a", *keys],
+                      ["join", "-f", "0", *keys], ["uniq", "--no-csv-header"]]:
+            ran = self.run(*words, data=b"a b\n")
+            self.check(f"{words} of lines", ran[:2] == (2, b"") and ran[2], ran)
+
     def large(self):
         """Checks the memory of a large input from a pipe."""
         row = b'%d,"/page/%d, ""x""",200\n'
@@ -259,6 +419,11 @@ def main():
         tests.wrong_use()
         tests.saved()
         tests.not_utf8()
+        tests.records()
+        tests.random_records()
+        tests.cut_records()
+        tests.record_headers()
+        tests.wrong_records()
         tests.large()
     print(f"{tests.passed} passed, {tests.failed} failed")
     sys.exit(1 if tests.failed else 0)

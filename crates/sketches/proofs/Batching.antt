@@ -1,21 +1,19 @@
--- Lines whose items are inserted in one call.
+-- Records whose items are inserted in one call.
 use Rattle.std.proofs.Common.{◌≡◌, ℕ, ◌+◌, ◌<◌, Bool, true, false, not, ◌||◌, List, [], ◌∷◌, ◌++◌, length, get_or, map, take, drop, set, append_assoc, append-nil, refl, sym, ◌∙◌, ap, arith}
 use Rattle.std.proofs.lemmas.List.{drop_more, map-append, take_more_set}
 use Rattle.std.specs.Borrow.{Bor}
 use Rattle.std.specs.List.{flat_map}
-use Rattle.std.specs.Str.Lines.{lines}
 use Rattle.sketch_base.specs.Strings.{strings_at}
 use Rattle.sketch_bloom.specs.State.{FilterState, all_inserted, answers_in_turn, contains_item, inserted}
-use Rattle.sketches.specs.Items.{part_of}
 use Rattle.sketches.specs.Joined.{joined_lines}
-use Rattle.sketches.specs.RawLines.{raw_lines}
+use Rattle.sketches.specs.RecordParts.{part_in, raws_by, records_by}
 use Rattle.sketches.specs.Unseen.{AreNextLines, hashed, is_seen, item_of, unseen_lines, with_items, with_lines, written_by, written_of}
 use Rattle.sketches.specs.UnseenLaws.{items_both}
-use Rattle.sketches.specs.declared.selection.Part.{Part}
+use Rattle.sketches.specs.declared.record_parts.RecordPart.{RecordPart}
 
--- the item of a line with its end is that of the line without it
-pub item_is : (part : Part) (raw line : List ℕ) → lines raw ≡ line ∷ [] → item_of part raw ≡ part_of part line
-item_is part raw line one = ap (flat_map (part_of part)) one ∙ append-nil (part_of part line)
+-- the item of a record with its end is that of the record without it
+pub item_is : (part : RecordPart) (raw line : List ℕ) → records_by part raw ≡ line ∷ [] → item_of part raw ≡ part_in part line
+item_is part raw line one = ap (flat_map (part_in part)) one ∙ append-nil (part_in part line)
 
 strings_push : (words : List (Bor (List ℕ))) (word : Bor (List ℕ)) → strings_at (words ++ word ∷ []) ≡ strings_at words ++ word.now ∷ []
 strings_push [] word = refl
@@ -25,14 +23,14 @@ strings_push (x ∷ xs) word = ap (λ (l : List (List ℕ)). x.now ∷ l) (strin
 pushed_at : (xs : List (Bor (List ℕ))) (count : ℕ) (x : Bor (List ℕ)) → count < length xs → strings_at (take (count + 1) (set xs count x)) ≡ strings_at (take count xs) ++ x.now ∷ []
 pushed_at xs count x less = ap strings_at (take_more_set xs count x less) ∙ strings_push (take count xs) x
 
--- ---- the next lines
+-- ---- the next records
 
-pub next_none : (part : Part) (bytes : List ℕ) → AreNextLines part bytes bytes [] []
+pub next_none : (part : RecordPart) (bytes : List ℕ) → AreNextLines part bytes bytes [] []
 next_none part bytes = record { parts = refl; items_are = refl }
 
-pub next_more : (part : Part) (bytes rest later raw line item : List ℕ) (raws items : List (List ℕ)) → AreNextLines part bytes rest raws items → raw_lines rest ≡ raw ∷ raw_lines later → lines raw ≡ line ∷ [] → part_of part line ≡ item ∷ [] → AreNextLines part bytes later (raws ++ raw ∷ []) (items ++ item ∷ [])
+pub next_more : (part : RecordPart) (bytes rest later raw line item : List ℕ) (raws items : List (List ℕ)) → AreNextLines part bytes rest raws items → raws_by part rest ≡ raw ∷ raws_by part later → records_by part raw ≡ line ∷ [] → part_in part line ≡ item ∷ [] → AreNextLines part bytes later (raws ++ raw ∷ []) (items ++ item ∷ [])
 next_more part bytes rest later raw line item raws items so next one is = record {
-  parts = so.parts ∙ (ap (λ l. raws ++ l) next ∙ sym (append_assoc raws (raw ∷ []) (raw_lines later)));
+  parts = so.parts ∙ (ap (λ l. raws ++ l) next ∙ sym (append_assoc raws (raw ∷ []) (raws_by part later)));
   items_are =
       map-append (item_of part) raws (raw ∷ [])
       ∙ (ap (λ l. l ++ item_of part raw ∷ []) so.items_are
@@ -45,7 +43,7 @@ or_false : (b : Bool) → (b || false) ≡ b
 or_false true = refl
 or_false false = refl
 
-pub record IsBatch (repeated : Bool) (part : Part) (filter : FilterState) (raws items : List (List ℕ)) : Type 0 where
+pub record IsBatch (repeated : Bool) (part : RecordPart) (filter : FilterState) (raws items : List (List ℕ)) : Type 0 where
   pub written : unseen_lines repeated part filter raws ≡ written_by repeated (answers_in_turn filter (map hashed items)) raws
   pub filter_is : with_lines part filter raws ≡ all_inserted filter (map hashed items)
 
@@ -55,7 +53,7 @@ same_head x y xs ys e = cc
 same_tail : (x y : List (List ℕ)) (xs ys : List (List (List ℕ))) → x ∷ xs ≡ y ∷ ys → xs ≡ ys
 same_tail x y xs ys e = cc
 
-pub batch : (repeated : Bool) (part : Part) (filter : FilterState) (raws items : List (List ℕ)) → map (item_of part) raws ≡ map (λ (x : List ℕ). x ∷ []) items → IsBatch repeated part filter raws items
+pub batch : (repeated : Bool) (part : RecordPart) (filter : FilterState) (raws items : List (List ℕ)) → map (item_of part) raws ≡ map (λ (x : List ℕ). x ∷ []) items → IsBatch repeated part filter raws items
 batch repeated part filter [] [] e = record { written = refl; filter_is = refl }
 batch repeated part filter [] (y ∷ items) e = cc
 batch repeated part filter (raw ∷ raws) [] e = cc
@@ -75,7 +73,7 @@ batch repeated part filter (raw ∷ raws) (item ∷ items) e =
     }
 
 -- what is written of a batch if its items are only looked up
-pub joined_batch : (wanted : Bool) (part : Part) (filter : FilterState) (raws items : List (List ℕ)) → map (item_of part) raws ≡ map (λ (x : List ℕ). x ∷ []) items
+pub joined_batch : (wanted : Bool) (part : RecordPart) (filter : FilterState) (raws items : List (List ℕ)) → map (item_of part) raws ≡ map (λ (x : List ℕ). x ∷ []) items
     → joined_lines wanted part filter raws ≡ written_by wanted (map (contains_item filter) (map hashed items)) raws
 joined_batch wanted part filter [] [] e = refl
 joined_batch wanted part filter [] (y ∷ items) e = cc
@@ -86,7 +84,7 @@ joined_batch wanted part filter (raw ∷ raws) (item ∷ items) e =
     ap (λ (t : Bool). written_of wanted t raw ++ joined_lines wanted part filter raws) seen
     ∙ ap (λ l. written_of wanted (contains_item filter (hashed item)) raw ++ l) (joined_batch wanted part filter raws items (same_tail _ _ _ _ e))
 
--- ---- one line after another
+-- ---- one record after another
 
 pub one_written : (repeated : Bool) (seens : List Bool) (raws : List (Bor (List ℕ))) (i : ℕ) (d : Bool) (r : Bor (List ℕ)) → i < length seens → i < length raws
     → written_by repeated (drop i seens) (strings_at (drop i raws)) ≡ written_of repeated (get_or seens i d) (get_or raws i r).now ++ written_by repeated (drop (i + 1) seens) (strings_at (drop (i + 1) raws))
@@ -101,8 +99,8 @@ write_step repeated seens raws i d r all held now less less' so e =
     so ∙ (ap (λ l. held ++ l) (one_written repeated seens raws i d r less less')
     ∙ (sym (append_assoc held (written_of repeated (get_or seens i d) (get_or raws i r).now) later) ∙ ap (λ l. l ++ later) (sym e)))
 
-pub taken_more : (part : Part) (bytes rest later line item : List ℕ) (raws items : List (Bor (List ℕ))) (count : ℕ) (r t : Bor (List ℕ)) → count < length raws → count < length items
-    → AreNextLines part bytes rest (strings_at (take count raws)) (strings_at (take count items)) → raw_lines rest ≡ r.now ∷ raw_lines later → lines r.now ≡ line ∷ [] → part_of part line ≡ item ∷ [] → t.now ≡ item
+pub taken_more : (part : RecordPart) (bytes rest later line item : List ℕ) (raws items : List (Bor (List ℕ))) (count : ℕ) (r t : Bor (List ℕ)) → count < length raws → count < length items
+    → AreNextLines part bytes rest (strings_at (take count raws)) (strings_at (take count items)) → raws_by part rest ≡ r.now ∷ raws_by part later → records_by part r.now ≡ line ∷ [] → part_in part line ≡ item ∷ [] → t.now ≡ item
     → AreNextLines part bytes later (strings_at (take (count + 1) (set raws count r))) (strings_at (take (count + 1) (set items count t)))
 taken_more part bytes rest later line item raws items count r t less less' so next one is same =
     rw (pushed_at raws count r less, pushed_at items count t less')
@@ -116,7 +114,7 @@ pub not_false : (b : Bool) → not b ≡ false → b ≡ true
 not_false true e = refl
 not_false false e = cc
 
--- a line that is not written
+-- a record that is not written
 pub write_skip : (repeated : Bool) (seens : List Bool) (raws : List (Bor (List ℕ))) (i : ℕ) (d : Bool) (all held : List ℕ) → i < length seens → i < length raws
     → all ≡ held ++ written_by repeated (drop i seens) (strings_at (drop i raws)) → ((raw : List ℕ) → written_of repeated (get_or seens i d) raw ≡ []) → all ≡ held ++ written_by repeated (drop (i + 1) seens) (strings_at (drop (i + 1) raws))
 write_skip repeated seens [] i d all held less less' so none = absurd (omega (arith, less'))

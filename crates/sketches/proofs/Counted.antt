@@ -4,7 +4,7 @@ use Rattle.std.proofs.lemmas.List.Concat.{flat_map-append}
 use Rattle.std.specs.List.{AllZip, flat_map}
 use Rattle.sketches.specs.Added.{Sketch, AddsLines, AddsWeighed}
 use Rattle.sketches.specs.Failures.{FailsLines, FailsTop}
-use Rattle.sketches.specs.Inputs.{AreReadBy, FailsAmongBy, FailsInputsBy, HaveLongRecord, FailsTakingInputsBy, TakesEach, TakesInputsBy}
+use Rattle.sketches.specs.Inputs.{AreRead, FailsAmong, FailsInputs, HaveLongRecord, FailsTakingInputs, TakesEach, TakesInputs}
 use Rattle.sketches.specs.Reading.{AreFirstRecords}
 use Rattle.sketches.specs.Utf8LineLaws.{grows_none, not_utf8_append}
 use Rattle.sketches.specs.Utf8Lines.{GrowsBy, not_utf8_in}
@@ -59,9 +59,9 @@ each_grown old new (bytes ∷ read) (mid, ((_, kept), first), rest) =
 -- the items of what was read of each input were added, and its lines that are not UTF-8 were counted
 abbrev pub CountsInputs : Weighing → Option (List (List ℕ)) → Bool → (old new : Sketch) → (before after : ℕ) → Type 0
 CountsInputs p was complete old new before after = IfSome was (λ inputs.
-    (read : List (List ℕ)) × AreReadBy (splits_of p) complete inputs read × AddsEach p old read new × GrowsBy before (not_utf8_in (flat_map (records_of p) read)) after)
+    (read : List (List ℕ)) × AreRead (splits_of p) complete inputs read × AddsEach p old read new × GrowsBy before (not_utf8_in (flat_map (records_of p) read)) after)
 
-pub counted : (was : Option (List (List ℕ))) (complete : Bool) (old new : Counter) → TakesInputsBy (splits_of old.0.weighing) Counts was complete old new → CountsInputs old.0.weighing was complete old.0.sketch new.0.sketch old.0.not_utf8 new.0.not_utf8
+pub counted : (was : Option (List (List ℕ))) (complete : Bool) (old new : Counter) → TakesInputs (splits_of old.0.weighing) Counts was complete old new → CountsInputs old.0.weighing was complete old.0.sketch new.0.sketch old.0.not_utf8 new.0.not_utf8
 counted None complete old new taken = tt
 counted (Some inputs) complete old new (read, are, each) = (read, are, (each_counted old new read each).0, each_grown old new read each)
 
@@ -81,7 +81,7 @@ few_of_each p (bytes ∷ inputs) [] fronts = absurd fronts
 few_of_each p (bytes ∷ inputs) (r ∷ read) fronts =
     omega (arith, few_first p bytes r fronts.0, few_of_each p inputs read fronts.1, total_both (weighed_of p r) (flat_map (weighed_of p) read), total_both (weighed_of p bytes) (flat_map (weighed_of p) inputs))
 
-too_many : (old : Counter) (inputs : List (List ℕ)) → old.0.sketch.total ≡ 0 → FailsAmongBy (splits_of old.0.weighing) Counts FailsCounting inputs old TooManyItems → 2 ^ 64 ≤ total_of (flat_map (weighed_of old.0.weighing) inputs)
+too_many : (old : Counter) (inputs : List (List ℕ)) → old.0.sketch.total ≡ 0 → FailsAmong (splits_of old.0.weighing) Counts FailsCounting inputs old TooManyItems → 2 ^ 64 ≤ total_of (flat_map (weighed_of old.0.weighing) inputs)
 too_many old inputs new f =
     let p : Weighing = old.0.weighing in
     let (added, same) = each_counted old f.mid f.read f.taken in
@@ -91,7 +91,7 @@ too_many old inputs new f =
 
 -- ---- a line without a weight
 
-bad_weight : (old : Counter) (inputs : List (List ℕ)) (found : BadWeight) → FailsAmongBy (splits_of old.0.weighing) Counts FailsCounting inputs old (failures.BadWeight found) → 0 < length (flat_map (unweighed_of old.0.weighing) inputs)
+bad_weight : (old : Counter) (inputs : List (List ℕ)) (found : BadWeight) → FailsAmong (splits_of old.0.weighing) Counts FailsCounting inputs old (failures.BadWeight found) → 0 < length (flat_map (unweighed_of old.0.weighing) inputs)
 bad_weight old inputs found f =
     let p : Weighing = old.0.weighing in
     let (added, same) = each_counted old f.mid f.read f.taken in
@@ -101,7 +101,7 @@ bad_weight old inputs found f =
 
 -- ---- a failure
 
-taking_failed : (options : Options) (was : Option (List (List ℕ))) (old : Counter) (e : Failure) → old.0.sketch.total ≡ 0 → old.0.weighing ≡ options.weighing → FailsTakingInputsBy (splits_of old.0.weighing) Counts FailsCounting was old e → FailsTop options was e
+taking_failed : (options : Options) (was : Option (List (List ℕ))) (old : Counter) (e : Failure) → old.0.sketch.total ≡ 0 → old.0.weighing ≡ options.weighing → FailsTakingInputs (splits_of old.0.weighing) Counts FailsCounting was old e → FailsTop options was e
 taking_failed options was old Memory new same f = tt
 taking_failed options was old LineTooLong new same f = absurd f.some.2
 taking_failed options None old TooManyItems new same f = tt
@@ -111,7 +111,7 @@ taking_failed options (Some inputs) old (failures.BadWeight found) new same f = 
 taking_failed options was old BadSize new same f = absurd f.some.2
 taking_failed options was old (Write error) new same f = tt
 
-pub count_failed : (options : Options) (was : Option (List (List ℕ))) (old : Counter) (e : Failure) → old.0.sketch.total ≡ 0 → old.0.weighing ≡ options.weighing → FailsInputsBy (splits_of old.0.weighing) Counts FailsCounting (options.max_line + 1) was old e → FailsTop options was e
+pub count_failed : (options : Options) (was : Option (List (List ℕ))) (old : Counter) (e : Failure) → old.0.sketch.total ≡ 0 → old.0.weighing ≡ options.weighing → FailsInputs (splits_of old.0.weighing) Counts FailsCounting (options.max_line + 1) was old e → FailsTop options was e
 count_failed options was old e new same failed = ⊎_elim
     (λ memory. rw memory tt)
     (λ other. ⊎_elim (λ long. rw long.0 (subst (λ (p : Weighing). IfSome was (HaveLongRecord (splits_of p) (options.max_line + 1))) same long.1)) (λ taking. taking_failed options was old e new same taking) other)

@@ -1,5 +1,5 @@
 -- Items with weights that are added one after another, lines of keys that are written, and the table.
-use Rattle.std.proofs.Common.{◌≡◌, ◌≢◌, ⊎_elim, inl, inr, ◌⊎◌, ℕ, zero, suc, ◌*◌, ◌^◌, ◌<◌, ◌≤◌, true, false, eqb, List, [], ◌∷◌, ◌++◌, None, Some, pos, append_assoc, append-nil, refl, sym, ◌∙◌, ap, subst, arith}
+use Rattle.std.proofs.Common.{◌≡◌, ◌≢◌, ⊎_elim, inl, inr, ◌⊎◌, ℕ, zero, suc, ◌*◌, ◌^◌, ◌<◌, ◌≤◌, Bool, true, false, eqb, List, [], ◌∷◌, ◌++◌, None, Some, pos, append_assoc, append-nil, refl, sym, ◌∙◌, ap, subst, arith}
 use Rattle.std.proofs.lemmas.Bool.{cases_lt, eq-eqb}
 use Rattle.std.proofs.lemmas.Bool.Decides.{nat_tests}
 use Rattle.std.proofs.lemmas.List.Concat.{flat_map-append}
@@ -16,78 +16,78 @@ use Rattle.sketch_countmin.specs.History.CountHistory.{New}
 use Rattle.sketch_countmin.specs.Stands.{StandsFor}
 use Rattle.sketch_countmin.specs.State.{CountState, IsMinCell, empty_state}
 use Rattle.sketches.specs.Faults.{failure_of}
-use Rattle.sketches.specs.Items.{part_of}
 use Rattle.sketches.specs.KeyWeightLaws.{all_lines, estimates_both, estimates_none, lines_later, lines_sooner, no_lines, one_fails, one_line}
 use Rattle.sketches.specs.KeyWeights.{CountsLines, CountsWeighed, IsEmptyTable, IsTableFor, Row, WritesEstimates, row_line, unweighed_line, usable_seed, weighed_line}
+use Rattle.sketches.specs.RecordParts.{part_in}
 use Rattle.sketches.specs.Unseen.{hashed}
 use Rattle.sketches.specs.WeighFailures.{FailsCounting, FailsLines, FailsTable}
 use Rattle.sketches.specs.declared.failure.Failure.{Failure}
-use Rattle.sketches.specs.declared.item_weigher.WeighedLine.{WeighedLine}
-use Rattle.sketches.specs.declared.selection.Part.{Part}
+use Rattle.sketches.specs.declared.item_weigher.WeighedRecord.{WeighedRecord}
+use Rattle.sketches.specs.declared.record_parts.RecordPart.{RecordPart}
 
--- ---- the items of lines
+-- ---- the items of records
 
--- the items of the lines before those that are left were added
-pub record HasCountedLines (chosen : WeighedLine) (old : CountState) (all left : List (List ℕ)) (new : CountState) : Type 0 where
+-- the items of the records before those that are left were added
+pub record HasCountedLines (chosen : WeighedRecord) (old : CountState) (all left : List (List ℕ)) (new : CountState) : Type 0 where
   pub done : List (List ℕ)
   pub parts : all ≡ done ++ left
   pub counts : CountsLines chosen old done new
 
-pub lines_none : (chosen : WeighedLine) (old : CountState) (all : List (List ℕ)) → HasCountedLines chosen old all all old
+pub lines_none : (chosen : WeighedRecord) (old : CountState) (all : List (List ℕ)) → HasCountedLines chosen old all all old
 lines_none chosen old all = record { done = []; parts = refl; counts = no_lines chosen old }
 
--- one more line
-pub lines_more : (chosen : WeighedLine) (old mid new : CountState) (all left later : List (List ℕ)) (line : List ℕ) → HasCountedLines chosen old all left mid → left ≡ line ∷ later → CountsWeighed mid (weighed_line chosen line) new × (unweighed_line chosen line ≡ []) → HasCountedLines chosen old all later new
+-- one more record
+pub lines_more : (chosen : WeighedRecord) (old mid new : CountState) (all left later : List (List ℕ)) (line : List ℕ) → HasCountedLines chosen old all left mid → left ≡ line ∷ later → CountsWeighed mid (weighed_line chosen line) new × (unweighed_line chosen line ≡ []) → HasCountedLines chosen old all later new
 lines_more chosen old mid new all left later line so next more = record {
   done = so.done ++ line ∷ [];
   parts = so.parts ∙ (ap (λ l. so.done ++ l) next ∙ sym (append_assoc so.done (line ∷ []) later));
   counts = all_lines chosen old mid new so.done (line ∷ []) so.counts (one_line chosen mid new line more);
 }
 
--- all lines
-pub lines_all : (chosen : WeighedLine) (old new : CountState) (all left : List (List ℕ)) → HasCountedLines chosen old all left new → left ≡ [] → CountsLines chosen old all new
+-- all records
+pub lines_all : (chosen : WeighedRecord) (old new : CountState) (all left : List (List ℕ)) → HasCountedLines chosen old all left new → left ≡ [] → CountsLines chosen old all new
 lines_all chosen old new all left so none = subst (λ l. CountsLines chosen old l new) (sym (so.parts ∙ (ap (λ l. so.done ++ l) none ∙ append-nil so.done))) so.counts
 
--- a failure at one more line
-pub lines_failed : (chosen : WeighedLine) (old mid : CountState) (all left later : List (List ℕ)) (line : List ℕ) (e : Failure) → HasCountedLines chosen old all left mid → left ≡ line ∷ later → FailsCounting mid (weighed_line chosen line) (unweighed_line chosen line) e → FailsLines chosen old all e
+-- a failure at one more record
+pub lines_failed : (chosen : WeighedRecord) (old mid : CountState) (all left later : List (List ℕ)) (line : List ℕ) (e : Failure) → HasCountedLines chosen old all left mid → left ≡ line ∷ later → FailsCounting mid (weighed_line chosen line) (unweighed_line chosen line) e → FailsLines chosen old all e
 lines_failed chosen old mid all left later line e so next f =
     subst (λ l. FailsLines chosen old l e) (sym (so.parts ∙ ap (λ l. so.done ++ l) next))
     (lines_later chosen old mid so.done (line ∷ later) e so.counts (lines_sooner chosen mid (line ∷ []) later e (one_fails chosen mid line e f)))
 
--- ---- the keys of lines
+-- ---- the keys of records
 
 -- a line for one key
-pub one_written : (s : CountState) (key : List ℕ) (number : ℕ) (held holds : List ℕ) → IsMinCell s (hashed key) (pos number) → holds ≡ held ++ row_line (number, key) → WritesEstimates s (key ∷ []) (Some held) (Some holds)
-one_written s key number held holds least wrote = record {
+pub one_written : (escaped : Bool) (s : CountState) (key : List ℕ) (number : ℕ) (held holds : List ℕ) → IsMinCell s (hashed key) (pos number) → holds ≡ held ++ row_line escaped (number, key) → WritesEstimates escaped s (key ∷ []) (Some held) (Some holds)
+one_written escaped s key number held holds least wrote = record {
   rows = (number, key) ∷ [];
   keys_are = refl;
   estimates = All-cons (λ (row : Row). IsMinCell s (hashed row.1) (pos row.0)) (number, key) [] least (All-nil (λ (row : Row). IsMinCell s (hashed row.1) (pos row.0)));
-  wrote = wrote ∙ ap (λ l. held ++ l) (sym (append-nil (row_line (number, key))));
+  wrote = wrote ∙ ap (λ l. held ++ l) (sym (append-nil (row_line escaped (number, key))));
 }
 
--- the lines of the keys of the lines before those that are left were written
-pub record HasWrittenKeys (part : Part) (s : CountState) (all left : List (List ℕ)) (held holds : List ℕ) : Type 0 where
+-- the lines of the keys of the records before those that are left were written
+pub record HasWrittenKeys (escaped : Bool) (part : RecordPart) (s : CountState) (all left : List (List ℕ)) (held holds : List ℕ) : Type 0 where
   pub done : List (List ℕ)
   pub parts : all ≡ done ++ left
-  pub wrote : WritesEstimates s (flat_map (part_of part) done) (Some held) (Some holds)
+  pub wrote : WritesEstimates escaped s (flat_map (part_in part) done) (Some held) (Some holds)
 
-pub keys_none : (part : Part) (s : CountState) (all : List (List ℕ)) (held : List ℕ) → HasWrittenKeys part s all all held held
-keys_none part s all held = record { done = []; parts = refl; wrote = estimates_none s (Some held) }
+pub keys_none : (escaped : Bool) (part : RecordPart) (s : CountState) (all : List (List ℕ)) (held : List ℕ) → HasWrittenKeys escaped part s all all held held
+keys_none escaped part s all held = record { done = []; parts = refl; wrote = estimates_none escaped s (Some held) }
 
--- one more line
-pub keys_more : (part : Part) (s : CountState) (all left later : List (List ℕ)) (line held holds now : List ℕ) → HasWrittenKeys part s all left held holds → left ≡ line ∷ later → WritesEstimates s (part_of part line) (Some holds) (Some now) → HasWrittenKeys part s all later held now
-keys_more part s all left later line held holds now so next more = record {
+-- one more record
+pub keys_more : (escaped : Bool) (part : RecordPart) (s : CountState) (all left later : List (List ℕ)) (line held holds now : List ℕ) → HasWrittenKeys escaped part s all left held holds → left ≡ line ∷ later → WritesEstimates escaped s (part_in part line) (Some holds) (Some now) → HasWrittenKeys escaped part s all later held now
+keys_more escaped part s all left later line held holds now so next more = record {
   done = so.done ++ line ∷ [];
   parts = so.parts ∙ (ap (λ l. so.done ++ l) next ∙ sym (append_assoc so.done (line ∷ []) later));
   wrote =
-      subst (λ l. WritesEstimates s l (Some held) (Some now)) (sym (flat_map-append (part_of part) so.done (line ∷ []) ∙ ap (λ l. flat_map (part_of part) so.done ++ l) (append-nil (part_of part line))))
-      (estimates_both s (flat_map (part_of part) so.done) (part_of part line) (Some held) (Some holds) (Some now) so.wrote more);
+      subst (λ l. WritesEstimates escaped s l (Some held) (Some now)) (sym (flat_map-append (part_in part) so.done (line ∷ []) ∙ ap (λ l. flat_map (part_in part) so.done ++ l) (append-nil (part_in part line))))
+      (estimates_both escaped s (flat_map (part_in part) so.done) (part_in part line) (Some held) (Some holds) (Some now) so.wrote more);
 }
 
--- all lines
-pub keys_all : (part : Part) (s : CountState) (all left : List (List ℕ)) (held holds : List ℕ) → HasWrittenKeys part s all left held holds → left ≡ [] → WritesEstimates s (flat_map (part_of part) all) (Some held) (Some holds)
-keys_all part s all left held holds so none =
-    subst (λ l. WritesEstimates s (flat_map (part_of part) l) (Some held) (Some holds)) (sym (so.parts ∙ (ap (λ l. so.done ++ l) none ∙ append-nil so.done))) so.wrote
+-- all records
+pub keys_all : (escaped : Bool) (part : RecordPart) (s : CountState) (all left : List (List ℕ)) (held holds : List ℕ) → HasWrittenKeys escaped part s all left held holds → left ≡ [] → WritesEstimates escaped s (flat_map (part_in part) all) (Some held) (Some holds)
+keys_all escaped part s all left held holds so none =
+    subst (λ l. WritesEstimates escaped s (flat_map (part_in part) l) (Some held) (Some holds)) (sym (so.parts ∙ (ap (λ l. so.done ++ l) none ∙ append-nil so.done))) so.wrote
 
 -- ---- the table
 

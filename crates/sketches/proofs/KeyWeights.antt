@@ -9,19 +9,19 @@ use Rattle.std.specs.Io.KnownBytes.{Appends}
 use Rattle.std.specs.List.{AllZip, flat_map}
 use Rattle.std.specs.Prelude.{◌==◌, All, sum_by}
 use Rattle.std.specs.Str.{bytes_eq}
-use Rattle.std.specs.Str.Lines.{lines}
 use Rattle.sketch_countmin.specs.Buckets.{bucket_of}
 use Rattle.sketch_countmin.specs.History.{CountHistory, each_updated, of_first, value_over}
 use Rattle.sketch_countmin.specs.History.CountHistory.{New, Update}
 use Rattle.sketch_countmin.specs.Stands.{StandsFor}
 use Rattle.sketch_countmin.specs.State.{CountState, IsMinCell, item_cell}
 use Rattle.sketch_countmin.proofs.Estimates.{bucket_below}
-use Rattle.sketches.specs.AddingLaws.{lines_both}
+use Rattle.sketches.specs.AddingLaws.{records_both}
 use Rattle.sketches.specs.Failures.{FailsWriting}
-use Rattle.sketches.specs.Inputs.{FailsAmong, FailsInputs, FailsTakingInputs, TakesEach, TakesInputs}
+use Rattle.sketches.specs.Inputs.{FailsAmong, FailsInputs, FailsTakingInputs, HaveLongRecord, TakesEach, TakesInputs}
 use Rattle.sketches.specs.KeyWeightLaws.{all_lines, no_lines}
 use Rattle.sketches.specs.KeyWeights.{CountsLines, CountsWeighed, IsEmptyTable, IsWeightOf, Row, WritesEstimates, WritesWeights, bucket_weight, counted, parts_in, total_line, unweighed_in, unweighed_line, unweighed_lines, usable_seed, weighed_in, weighed_line, weighed_lines}
-use Rattle.sketches.specs.Reading.{AreFirstLines, FailsInput, TakesInput}
+use Rattle.sketches.specs.Reading.{AreFirstRecords, FailsInput, TakesInput}
+use Rattle.sketches.specs.RecordParts.{records_by, splits_by}
 use Rattle.sketches.specs.Unseen.{hashed}
 use Rattle.sketches.specs.UnseenLaws.{appends_both}
 use Rattle.sketches.specs.WeighFailures.{ComesLate, FailsLines, FailsWeigh}
@@ -31,10 +31,9 @@ use Rattle.sketches.specs.declared.failure.BadWeight.{BadWeight as BadWeightValu
 use Rattle.sketches.specs.declared.failure.Failure.{Failure}
 use Rattle.sketches.specs.declared.failure.Failure.TheVariants.{Memory, LineTooLong, TooManyItems, BadSize, BadWeight, Write}
 use Rattle.sketches.specs.declared.item_weigher.ItemWeigher.{ItemWeigher}
-use Rattle.sketches.specs.declared.item_weigher.WeighedLine.{WeighedLine}
+use Rattle.sketches.specs.declared.item_weigher.WeighedRecord.{WeighedRecord}
 use Rattle.sketches.specs.declared.key_weights.KeyWeights.{KeyWeights}
-use Rattle.sketches.specs.declared.records.Records.TheVariants.{Lines}
-use Rattle.sketches.specs.declared.selection.Part.{Part}
+use Rattle.sketches.specs.declared.record_parts.RecordPart.{RecordPart}
 use Rattle.sketches.specs.declared.weigh.WeighOptions.{WeighOptions}
 use Rattle.sketches.proofs.ReadInputs.{IsTaken, taken_one}
 
@@ -136,51 +135,55 @@ are_weights made s seed items rows some new adds estimates =
 abbrev Weigher : Type 0
 Weigher = ItemWeigher × Unit {0}
 
--- what the sink does with bytes of lines
+-- what the sink does with bytes of records
 abbrev pub Weighs : Weigher → List ℕ → Weigher → Type 0
-Weighs old bytes new = CountsLines old.0.chosen old.0.sketch (lines bytes) new.0.sketch × (new.0.chosen ≡ old.0.chosen)
+Weighs old bytes new = CountsLines old.0.chosen old.0.sketch (records_by old.0.chosen.item bytes) new.0.sketch × (new.0.chosen ≡ old.0.chosen)
 
 abbrev pub FailsWeighs : Weigher → List ℕ → Failure → Type 0
-FailsWeighs old bytes failure = FailsLines old.0.chosen old.0.sketch (lines bytes) failure
+FailsWeighs old bytes failure = FailsLines old.0.chosen old.0.sketch (records_by old.0.chosen.item bytes) failure
 
-abbrev WeighsAll : WeighedLine → (old : CountState) → List (List ℕ) → Weigher → Type 0
-WeighsAll p old read new = CountsLines p old (flat_map lines read) new.0.sketch × (new.0.chosen ≡ p)
+abbrev WeighsAll : WeighedRecord → (old : CountState) → List (List ℕ) → Weigher → Type 0
+WeighsAll p old read new = CountsLines p old (flat_map (records_by p.item) read) new.0.sketch × (new.0.chosen ≡ p)
 
 -- the items of each list were added
 each_weighed : (old new : Weigher) (read : List (List ℕ)) → TakesEach Weighs old read new → WeighsAll old.0.chosen old.0.sketch read new
 each_weighed old new [] same = subst (λ (s : Weigher). WeighsAll old.0.chosen old.0.sketch [] s) (sym same) (no_lines old.0.chosen old.0.sketch, refl)
 each_weighed old new (bytes ∷ read) (mid, (first, kept), rest) =
     let (later, kept') = each_weighed mid new read rest in (
-      all_lines old.0.chosen old.0.sketch mid.0.sketch new.0.sketch (lines bytes) (flat_map lines read) first
-          (subst (λ (p : WeighedLine). CountsLines p mid.0.sketch (flat_map lines read) new.0.sketch) kept later),
+      all_lines old.0.chosen old.0.sketch mid.0.sketch new.0.sketch (records_by old.0.chosen.item bytes) (flat_map (records_by old.0.chosen.item) read) first
+          (subst (λ (p : WeighedRecord). CountsLines p mid.0.sketch (flat_map (records_by p.item) read) new.0.sketch) kept later),
       kept' ∙ kept,
     )
 
 -- ---- what was written
 
 module _ {W : Type 0} (contents : W → Option (List ℕ)) where
-  -- what the sink does with lines of keys
+  -- what the sink does with records of keys
   abbrev pub WritesKeys : KeyWeights × W → List ℕ → KeyWeights × W → Type 0
   WritesKeys old bytes new =
-      WritesEstimates old.0.sketch (parts_in old.0.part bytes) (contents old.1) (contents new.1) × (new.0.sketch ≡ old.0.sketch) × (new.0.part ≡ old.0.part)
+      WritesEstimates old.0.escaped old.0.sketch (parts_in old.0.part bytes) (contents old.1) (contents new.1)
+      × (new.0.sketch ≡ old.0.sketch) × (new.0.part ≡ old.0.part) × (new.0.escaped ≡ old.0.escaped)
 
   abbrev pub FailsKeys : KeyWeights × W → List ℕ → Failure → Type 0
   FailsKeys old bytes failure = FailsWriting failure
 
   pub weights_written : {E : Type 0} (options : WeighOptions) (was : Option (List (List ℕ))) (bytes : Option (List ℕ)) (complete : Bool) (failure : Option E) (made : CountState) (weigher weighed : Weigher) (total : ℕ) (held : Option (List ℕ)) (old new : KeyWeights × W)
-      → IsEmptyTable options.parts options.questions options.seed made → weigher.0.sketch ≡ made → weigher.0.chosen ≡ options.chosen → TakesInputs Weighs was complete weigher weighed
-      → pos total ≡ pos weighed.0.sketch.total → Appends held (contents old.1) (total_line options.header total) → old.0.sketch ≡ weighed.0.sketch → old.0.part ≡ options.keys_part → TakesInput WritesKeys bytes failure old new
+      → IsEmptyTable options.parts options.questions options.seed made → weigher.0.sketch ≡ made → weigher.0.chosen ≡ options.chosen → TakesInputs (splits_by options.chosen.item) Weighs was complete weigher weighed
+      → pos total ≡ pos weighed.0.sketch.total → Appends held (contents old.1) (total_line options.header total) → old.0.sketch ≡ weighed.0.sketch → old.0.part ≡ options.keys_part → old.0.escaped ≡ options.escaped → TakesInput (splits_by options.keys_part) WritesKeys bytes failure old new
       → IfSome was (λ inputs. IfSome bytes (λ keys. WritesWeights options inputs complete keys failure held (contents new.1)))
-  weights_written options None bytes complete failure made weigher weighed total held old new empty begin part weighs sum wrote sketch keys_part taken = tt
-  weights_written options (Some inputs) None complete failure made weigher weighed total held old new empty begin part weighs sum wrote sketch keys_part taken = tt
-  weights_written {E = E} options (Some inputs) (Some keys) complete failure made weigher weighed total held old new empty begin part (read, are, each) sum wrote sketch keys_part taken =
-      let one : IsTaken Lines WritesKeys keys (failure ≡ None) old new = taken_one Lines WritesKeys keys failure old new taken in
+  weights_written options None bytes complete failure made weigher weighed total held old new empty begin part weighs sum wrote sketch keys_part escaped taken = tt
+  weights_written options (Some inputs) None complete failure made weigher weighed total held old new empty begin part weighs sum wrote sketch keys_part escaped taken = tt
+  weights_written {E = E} options (Some inputs) (Some keys) complete failure made weigher weighed total held old new empty begin part (read, are, each) sum wrote sketch keys_part escaped taken =
+      let split = splits_by options.keys_part in
+      let one : IsTaken split WritesKeys keys (failure ≡ None) old new = taken_one split WritesKeys keys failure old new taken in
       let items : Weighed = weighed_in options.chosen read in
-      let counts : CountsLines options.chosen made (flat_map lines read) weighed.0.sketch =
-      subst (λ (p : WeighedLine). CountsLines p made (flat_map lines read) weighed.0.sketch) part (subst (λ (s : CountState). CountsLines weigher.0.chosen s (flat_map lines read) weighed.0.sketch) begin (each_weighed weigher weighed read each).0) in
+      let counts : CountsLines options.chosen made (flat_map (records_by options.chosen.item) read) weighed.0.sketch =
+      subst (λ (p : WeighedRecord). CountsLines p made (flat_map (records_by p.item) read) weighed.0.sketch) part (subst (λ (s : CountState). CountsLines weigher.0.chosen s (flat_map (records_by weigher.0.chosen.item) read) weighed.0.sketch) begin (each_weighed weigher weighed read each).0) in
       let adds : CountsWeighed made items weighed.0.sketch = counts.0 in
-      let written : WritesEstimates weighed.0.sketch (parts_in options.keys_part one.got) (contents old.1) (contents new.1) =
-      subst (λ (p : Part). WritesEstimates weighed.0.sketch (parts_in p one.got) (contents old.1) (contents new.1)) keys_part (subst (λ (s : CountState). WritesEstimates s (parts_in old.0.part one.got) (contents old.1) (contents new.1)) sketch one.taken.0) in
+      let written : WritesEstimates options.escaped weighed.0.sketch (parts_in options.keys_part one.got) (contents old.1) (contents new.1) =
+      subst (λ (p : RecordPart). WritesEstimates options.escaped weighed.0.sketch (parts_in p one.got) (contents old.1) (contents new.1)) keys_part
+      (subst (λ (s : CountState). WritesEstimates options.escaped s (parts_in old.0.part one.got) (contents old.1) (contents new.1)) sketch
+      (subst (λ (b : Bool). WritesEstimates b old.0.sketch (parts_in old.0.part one.got) (contents old.1) (contents new.1)) escaped one.taken.0)) in
       let none : made.total ≡ 0 = ap (λ (s : CountState). s.total) empty.is in
       let all : total ≡ total_of items = omega (arith, ints, sum, adds.total, none) in
       record {
@@ -201,73 +204,76 @@ module _ {W : Type 0} (contents : W → Option (List ℕ)) where
 
 -- ---- failures
 
-module _ (p : WeighedLine) where
+module _ (p : WeighedRecord) where
+  abbrev records : List ℕ → List (List ℕ)
+  records bytes = records_by p.item bytes
+
   -- the items of the first input and of the others
-  first_weighed : (bytes : List ℕ) (inputs : List (List ℕ)) → weighed_in p (bytes ∷ inputs) ≡ weighed_lines p (lines bytes) ++ weighed_in p inputs
-  first_weighed bytes inputs = flat_map-append (weighed_line p) (lines bytes) (flat_map lines inputs)
+  first_weighed : (bytes : List ℕ) (inputs : List (List ℕ)) → weighed_in p (bytes ∷ inputs) ≡ weighed_lines p (records bytes) ++ weighed_in p inputs
+  first_weighed bytes inputs = flat_map-append (weighed_line p) (records bytes) (flat_map records inputs)
 
-  -- the first lines weigh at most all
-  few_first : (bytes read : List ℕ) → AreFirstLines bytes read → total_of (weighed_lines p (lines read)) ≤ total_of (weighed_lines p (lines bytes))
-  few_first bytes read ([], parts, whole) = let same = ap (λ (l : List ℕ). total_of (weighed_lines p (lines l))) (parts ∙ append-nil read) in omega (arith, same)
+  -- the first records weigh at most all
+  few_first : (bytes read : List ℕ) → AreFirstRecords (splits_by p.item) bytes read → total_of (weighed_lines p (records read)) ≤ total_of (weighed_lines p (records bytes))
+  few_first bytes read ([], parts, whole) = let same = ap (λ (l : List ℕ). total_of (weighed_lines p (records l))) (parts ∙ append-nil read) in omega (arith, same)
   few_first bytes read (x ∷ rest, parts, whole) =
-      let both = ap (λ (l : Weighed). total_of l) (ap (λ (l : List ℕ). weighed_lines p (lines l)) parts ∙ (ap (weighed_lines p) (lines_both read (x ∷ rest) (whole (omega arith))) ∙ flat_map-append (weighed_line p) (lines read) (lines (x ∷ rest)))) in
-      omega (arith, both, total_both (weighed_lines p (lines read)) (weighed_lines p (lines (x ∷ rest))))
+      let both = ap (λ (l : Weighed). total_of l) (ap (λ (l : List ℕ). weighed_lines p (records l)) parts ∙ (ap (weighed_lines p) (records_both (splits_by p.item) read (x ∷ rest) (whole (omega arith))) ∙ flat_map-append (weighed_line p) (records read) (records (x ∷ rest)))) in
+      omega (arith, both, total_both (weighed_lines p (records read)) (weighed_lines p (records (x ∷ rest))))
 
-  few_of_each : (inputs read : List (List ℕ)) → AllZip AreFirstLines inputs read → total_of (weighed_in p read) ≤ total_of (weighed_in p inputs)
+  few_of_each : (inputs read : List (List ℕ)) → AllZip (AreFirstRecords (splits_by p.item)) inputs read → total_of (weighed_in p read) ≤ total_of (weighed_in p inputs)
   few_of_each [] [] fronts = omega arith
   few_of_each [] (r ∷ read) fronts = absurd fronts
   few_of_each (bytes ∷ inputs) [] fronts = absurd fronts
   few_of_each (bytes ∷ inputs) (r ∷ read) fronts =
       let here = ap (λ (l : Weighed). total_of l) (first_weighed r read) in
       let all = ap (λ (l : Weighed). total_of l) (first_weighed bytes inputs) in
-      omega (arith, few_first bytes r fronts.0, few_of_each inputs read fronts.1, here, all, total_both (weighed_lines p (lines r)) (weighed_in p read), total_both (weighed_lines p (lines bytes)) (weighed_in p inputs))
+      omega (arith, few_first bytes r fronts.0, few_of_each inputs read fronts.1, here, all, total_both (weighed_lines p (records r)) (weighed_in p read), total_both (weighed_lines p (records bytes)) (weighed_in p inputs))
 
-  -- the lines of inputs, of which one is in the midst
-  lines_among : (earlier later : List (List ℕ)) (input : List ℕ) → flat_map lines (earlier ++ input ∷ later) ≡ flat_map lines earlier ++ (lines input ++ flat_map lines later)
-  lines_among earlier later input = flat_map-append lines earlier (input ∷ later)
+  -- the records of inputs, of which one is in the midst
+  records_among : (earlier later : List (List ℕ)) (input : List ℕ) → flat_map records (earlier ++ input ∷ later) ≡ flat_map records earlier ++ (records input ++ flat_map records later)
+  records_among earlier later input = flat_map-append records earlier (input ∷ later)
 
-  weighed_among : (earlier later : List (List ℕ)) (input : List ℕ) → weighed_in p (earlier ++ input ∷ later) ≡ weighed_in p earlier ++ (weighed_lines p (lines input) ++ weighed_in p later)
+  weighed_among : (earlier later : List (List ℕ)) (input : List ℕ) → weighed_in p (earlier ++ input ∷ later) ≡ weighed_in p earlier ++ (weighed_lines p (records input) ++ weighed_in p later)
   weighed_among earlier later input =
-      ap (weighed_lines p) (lines_among earlier later input)
-      ∙ (flat_map-append (weighed_line p) (flat_map lines earlier) (lines input ++ flat_map lines later) ∙ ap (λ l. weighed_in p earlier ++ l) (flat_map-append (weighed_line p) (lines input) (flat_map lines later)))
+      ap (weighed_lines p) (records_among earlier later input)
+      ∙ (flat_map-append (weighed_line p) (flat_map records earlier) (records input ++ flat_map records later) ∙ ap (λ l. weighed_in p earlier ++ l) (flat_map-append (weighed_line p) (records input) (flat_map records later)))
 
-  unweighed_among : (earlier later : List (List ℕ)) (input : List ℕ) → unweighed_in p (earlier ++ input ∷ later) ≡ unweighed_in p earlier ++ (unweighed_lines p (lines input) ++ unweighed_in p later)
+  unweighed_among : (earlier later : List (List ℕ)) (input : List ℕ) → unweighed_in p (earlier ++ input ∷ later) ≡ unweighed_in p earlier ++ (unweighed_lines p (records input) ++ unweighed_in p later)
   unweighed_among earlier later input =
-      ap (unweighed_lines p) (lines_among earlier later input)
-      ∙ (flat_map-append (unweighed_line p) (flat_map lines earlier) (lines input ++ flat_map lines later) ∙ ap (λ l. unweighed_in p earlier ++ l) (flat_map-append (unweighed_line p) (lines input) (flat_map lines later)))
+      ap (unweighed_lines p) (records_among earlier later input)
+      ∙ (flat_map-append (unweighed_line p) (flat_map records earlier) (records input ++ flat_map records later) ∙ ap (λ l. unweighed_in p earlier ++ l) (flat_map-append (unweighed_line p) (records input) (flat_map records later)))
 
-too_many : (old : Weigher) (inputs : List (List ℕ)) → old.0.sketch.total ≡ 0 → FailsAmong Weighs FailsWeighs inputs old TooManyItems → 2 ^ 64 ≤ total_of (weighed_in old.0.chosen inputs)
+too_many : (old : Weigher) (inputs : List (List ℕ)) → old.0.sketch.total ≡ 0 → FailsAmong (splits_by old.0.chosen.item) Weighs FailsWeighs inputs old TooManyItems → 2 ^ 64 ≤ total_of (weighed_in old.0.chosen inputs)
 too_many old inputs new f =
-    let p : WeighedLine = old.0.chosen in
+    let p : WeighedRecord = old.0.chosen in
     let (added, same) = each_weighed old f.mid f.read f.taken in
-    let here : Weighed = weighed_lines p (lines f.input) in
-    let last : 2 ^ 64 ≤ f.mid.0.sketch.total + total_of here = subst (λ (q : WeighedLine). 2 ^ 64 ≤ f.mid.0.sketch.total + total_of (weighed_lines q (lines f.input))) same f.reason in
+    let here : Weighed = weighed_lines p (records_by p.item f.input) in
+    let last : 2 ^ 64 ≤ f.mid.0.sketch.total + total_of here = subst (λ (q : WeighedRecord). 2 ^ 64 ≤ f.mid.0.sketch.total + total_of (weighed_lines q (records_by q.item f.input))) same f.reason in
     let all = ap (λ (l : Weighed). total_of l) (ap (weighed_in p) f.parts ∙ weighed_among p f.earlier f.later f.input) in
     omega (arith, last, added.0.total, new, few_of_each p f.earlier f.read f.fronts, all, total_both (weighed_in p f.earlier) (here ++ weighed_in p f.later), total_both here (weighed_in p f.later))
 
-without_one : (old : Weigher) (inputs : List (List ℕ)) (found : BadWeightValue) → FailsAmong Weighs FailsWeighs inputs old (BadWeight found) → 0 < length (unweighed_in old.0.chosen inputs)
+without_one : (old : Weigher) (inputs : List (List ℕ)) (found : BadWeightValue) → FailsAmong (splits_by old.0.chosen.item) Weighs FailsWeighs inputs old (BadWeight found) → 0 < length (unweighed_in old.0.chosen inputs)
 without_one old inputs found f =
-    let p : WeighedLine = old.0.chosen in
+    let p : WeighedRecord = old.0.chosen in
     let (added, same) = each_weighed old f.mid f.read f.taken in
-    let here : List (List ℕ) = unweighed_lines p (lines f.input) in
-    let some : 0 < length here = subst (λ (q : WeighedLine). 0 < length (unweighed_lines q (lines f.input))) same f.reason in
+    let here : List (List ℕ) = unweighed_lines p (records_by p.item f.input) in
+    let some : 0 < length here = subst (λ (q : WeighedRecord). 0 < length (unweighed_lines q (records_by q.item f.input))) same f.reason in
     let all = ap (λ (l : List (List ℕ)). length l) (ap (unweighed_in p) f.parts ∙ unweighed_among p f.earlier f.later f.input) in
     omega (arith, some, all, length-append (unweighed_in p f.earlier) (here ++ unweighed_in p f.later), length-append here (unweighed_in p f.later))
 
-taking_failed : (options : WeighOptions) (was : Option (List (List ℕ))) (keys : Option (List ℕ)) (old : Weigher) (e : Failure) → old.0.sketch.total ≡ 0 → old.0.chosen ≡ options.chosen → FailsTakingInputs Weighs FailsWeighs was old e → FailsWeigh options was keys e
+taking_failed : (options : WeighOptions) (was : Option (List (List ℕ))) (keys : Option (List ℕ)) (old : Weigher) (e : Failure) → old.0.sketch.total ≡ 0 → old.0.chosen ≡ options.chosen → FailsTakingInputs (splits_by old.0.chosen.item) Weighs FailsWeighs was old e → FailsWeigh options was keys e
 taking_failed options was keys old Memory new same f = tt
 taking_failed options was keys old LineTooLong new same f = absurd f.some.2
 taking_failed options None keys old TooManyItems new same f = tt
-taking_failed options (Some inputs) keys old TooManyItems new same f = subst (λ (p : WeighedLine). 2 ^ 64 ≤ total_of (weighed_in p inputs)) same (too_many old inputs new f.known)
+taking_failed options (Some inputs) keys old TooManyItems new same f = subst (λ (p : WeighedRecord). 2 ^ 64 ≤ total_of (weighed_in p inputs)) same (too_many old inputs new f.known)
 taking_failed options None keys old (BadWeight found) new same f = tt
-taking_failed options (Some inputs) keys old (BadWeight found) new same f = subst (λ (p : WeighedLine). 0 < length (unweighed_in p inputs)) same (without_one old inputs found f.known)
+taking_failed options (Some inputs) keys old (BadWeight found) new same f = subst (λ (p : WeighedRecord). 0 < length (unweighed_in p inputs)) same (without_one old inputs found f.known)
 taking_failed options was keys old BadSize new same f = absurd f.some.2
 taking_failed options was keys old (Write error) new same f = tt
 
-pub weigh_failed : (options : WeighOptions) (was : Option (List (List ℕ))) (keys : Option (List ℕ)) (old : Weigher) (e : Failure) → old.0.sketch.total ≡ 0 → old.0.chosen ≡ options.chosen → FailsInputs Weighs FailsWeighs (options.max_line + 1) was old e → FailsWeigh options was keys e
+pub weigh_failed : (options : WeighOptions) (was : Option (List (List ℕ))) (keys : Option (List ℕ)) (old : Weigher) (e : Failure) → old.0.sketch.total ≡ 0 → old.0.chosen ≡ options.chosen → FailsInputs (splits_by old.0.chosen.item) Weighs FailsWeighs (options.max_line + 1) was old e → FailsWeigh options was keys e
 weigh_failed options was keys old e new same failed = ⊎_elim
     (λ memory. rw memory tt)
-    (λ other. ⊎_elim (λ long. rw long.0 (inl long.1)) (λ taking. taking_failed options was keys old e new same taking) other)
+    (λ other. ⊎_elim (λ long. rw long.0 (inl (subst (λ (p : WeighedRecord). IfSome was (HaveLongRecord (splits_by p.item) (options.max_line + 1))) same long.1))) (λ taking. taking_failed options was keys old e new same taking) other)
     failed
 
 -- a failure while the keys are read
@@ -283,7 +289,7 @@ writing_failed options was keys BadSize f = absurd f
 writing_failed options was keys (BadWeight found) f = absurd f
 writing_failed options was keys (Write error) f = record { fails = tt; late = tt }
 
-pub keys_failed : {W : Type 0} (contents : W → Option (List ℕ)) (options : WeighOptions) (was : Option (List (List ℕ))) (keys : Option (List ℕ)) (old : KeyWeights × W) (e : Failure) → FailsInput (FailsKeys contents) (options.max_line + 1) keys old e → IsLateFailure options was keys e
+pub keys_failed : {W : Type 0} (contents : W → Option (List ℕ)) (options : WeighOptions) (was : Option (List (List ℕ))) (keys : Option (List ℕ)) (old : KeyWeights × W) (e : Failure) → FailsInput (splits_by options.keys_part) (FailsKeys contents) (options.max_line + 1) keys old e → IsLateFailure options was keys e
 keys_failed contents options was keys old e failed = ⊎_elim
     (λ memory. rw memory (record { fails = tt; late = tt }))
     (λ other. ⊎_elim (λ long. rw long.0 (record { fails = inr long.1; late = tt })) (λ taking. writing_failed options was keys e taking.some.2) other)

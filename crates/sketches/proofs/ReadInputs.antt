@@ -1,15 +1,15 @@
 -- Inputs that are read one after another.
 use Rattle.std.proofs.Common.{◌≡◌, inl, inr, ⊎_elim, ℕ, Bool, true, List, [], ◌∷◌, ◌++◌, Option, None, Some, IfSome, append_assoc, append-nil, refl, sym, ◌∙◌, ap, subst, arith}
 use Rattle.sketch_frequencies.proofs.KeyedBatches.{all_zip_push}
-use Rattle.sketches.specs.Reading.{AreFirstRecords, FailsInputBy, HasLongRecord, TakesInputBy}
-use Rattle.sketches.specs.Inputs.{AreReadBy, FailsAmongBy, FailsInputsBy, HaveLongRecord, OpensNext, TakesEach, TakesInputsBy}
+use Rattle.sketches.specs.Reading.{AreFirstRecords, FailsInput, HasLongRecord, TakesInput}
+use Rattle.sketches.specs.Inputs.{AreRead, FailsAmong, FailsInputs, HaveLongRecord, OpensNext, TakesEach, TakesInputs}
 use Rattle.sketches.specs.declared.failure.Failure.{Failure}
 use Rattle.sketches.specs.declared.records.Records.{Records}
 
 some_is_not_none : {A : Type 0} (x : A) → Some x ≡ None → ⊥
 some_is_not_none x e = cc
 
-read_more : (records : Records) (complete complete' : Bool) (whole : Type 0) (done read : List (List ℕ)) (bytes got : List ℕ) → AreReadBy records complete done read → AreFirstRecords records bytes got → (whole → got ≡ bytes) → (complete' ≡ true → (complete ≡ true) × whole) → AreReadBy records complete' (done ++ bytes ∷ []) (read ++ got ∷ [])
+read_more : (records : Records) (complete complete' : Bool) (whole : Type 0) (done read : List (List ℕ)) (bytes got : List ℕ) → AreRead records complete done read → AreFirstRecords records bytes got → (whole → got ≡ bytes) → (complete' ≡ true → (complete ≡ true) × whole) → AreRead records complete' (done ++ bytes ∷ []) (read ++ got ∷ [])
 read_more records complete complete' whole done read bytes got are front same both = record {
   fronts = all_zip_push (AreFirstRecords records) done read bytes got are.fronts front;
   whole = λ e. let so = both e in ap (λ l. l ++ got ∷ []) (are.whole so.0) ∙ ap (λ (l : List ℕ). done ++ l ∷ []) (same so.1);
@@ -25,7 +25,7 @@ module _ (records : Records) {S : Type 0} (takes : S → List ℕ → S → Type
     pub done : List (List ℕ)
     pub read : List (List ℕ)
     pub parts : inputs ≡ done ++ left
-    pub are : AreReadBy records complete done read
+    pub are : AreRead records complete done read
     pub taken : TakesEach takes old read new
 
   -- if the inputs are known, the lines of those before the ones that are left were taken
@@ -43,12 +43,12 @@ module _ (records : Records) {S : Type 0} (takes : S → List ℕ → S → Type
     pub same : whole → got ≡ bytes
     pub taken : takes mid got new
 
-  pub taken_one : {E : Type 0} (bytes : List ℕ) (failure : Option E) (mid new : S) → TakesInputBy records takes (Some bytes) failure mid new → IsTaken bytes (failure ≡ None) mid new
+  pub taken_one : {E : Type 0} (bytes : List ℕ) (failure : Option E) (mid new : S) → TakesInput records takes (Some bytes) failure mid new → IsTaken bytes (failure ≡ None) mid new
   taken_one bytes None mid new taken = record { got = bytes; front = ([], sym (append-nil bytes), λ some. absurd (omega arith)); same = λ _. refl; taken = taken }
   taken_one bytes (Some error) mid new taken = record { got = taken.0; front = taken.1; same = λ e. absurd (some_is_not_none error e); taken = taken.2 }
 
   pub inputs_more : {R E : Type 0} (remaining : R → Option (List ℕ)) (complete complete' : Bool) (was is is' is'' : Option (List (List ℕ))) (old mid new : S) (next : Option R) (reader : R) (failure : Option E)
-      → HasTakenSome complete was is old mid → OpensNext remaining is is' next → next ≡ Some reader → TakesInputBy records takes (remaining reader) failure mid new → is'' ≡ is' → (complete' ≡ true → (complete ≡ true) × (failure ≡ None)) → HasTakenSome complete' was is'' old new
+      → HasTakenSome complete was is old mid → OpensNext remaining is is' next → next ≡ Some reader → TakesInput records takes (remaining reader) failure mid new → is'' ≡ is' → (complete' ≡ true → (complete ≡ true) × (failure ≡ None)) → HasTakenSome complete' was is'' old new
   inputs_more remaining complete complete' None is is' is'' old mid new next reader failure so opens e taken kept both = tt
   inputs_more remaining complete complete' (Some inputs) is is' is'' old mid new next reader failure (left, here, so) opens e taken kept both =
       let (bytes, later, parts, known, after) = rw (here, e) at opens in
@@ -65,12 +65,12 @@ module _ (records : Records) {S : Type 0} (takes : S → List ℕ → S → Type
       )
 
   pub inputs_all : {R : Type 0} (remaining : R → Option (List ℕ)) (complete : Bool) (was is is' : Option (List (List ℕ))) (old new : S) (next : Option R)
-      → HasTakenSome complete was is old new → OpensNext remaining is is' next → next ≡ None → TakesInputsBy records takes was complete old new
+      → HasTakenSome complete was is old new → OpensNext remaining is is' next → next ≡ None → TakesInputs records takes was complete old new
   inputs_all remaining complete None is is' old new next so opens e = tt
   inputs_all remaining complete (Some inputs) is is' old new next (left, here, so) opens e =
       let none : left ≡ [] = rw (here, e) at opens in
       let whole : inputs ≡ so.done = so.parts ∙ (ap (λ l. so.done ++ l) none ∙ append-nil so.done) in
-      (so.read, subst (λ l. AreReadBy records complete l so.read) (sym whole) so.are, so.taken)
+      (so.read, subst (λ l. AreRead records complete l so.read) (sym whole) so.are, so.taken)
 
   -- ---- a failure at one of the inputs
 
@@ -83,7 +83,7 @@ module _ (records : Records) {S : Type 0} (takes : S → List ℕ → S → Type
 
   module _ (fails : S → List ℕ → Failure → Type 0) where
     fails_among : {R : Type 0} (remaining : R → Option (List ℕ)) (complete : Bool) (was is is' : Option (List (List ℕ))) (old mid : S) (next : Option R) (reader : R) (e : Failure)
-        → HasTakenSome complete was is old mid → OpensNext remaining is is' next → next ≡ Some reader → IfSome (remaining reader) (λ bytes. fails mid bytes e) → IfSome was (λ inputs. FailsAmongBy records takes fails inputs old e)
+        → HasTakenSome complete was is old mid → OpensNext remaining is is' next → next ≡ Some reader → IfSome (remaining reader) (λ bytes. fails mid bytes e) → IfSome was (λ inputs. FailsAmong records takes fails inputs old e)
     fails_among remaining complete None is is' old mid next reader e so opens is_next known = tt
     fails_among remaining complete (Some inputs) is is' old mid next reader e (left, here, so) opens is_next reason =
         let (bytes, later, parts, known, after) = rw (here, is_next) at opens in
@@ -100,7 +100,7 @@ module _ (records : Records) {S : Type 0} (takes : S → List ℕ → S → Type
         }
 
     pub inputs_failed : {R : Type 0} (remaining : R → Option (List ℕ)) (limit : ℕ) (complete : Bool) (was is is' : Option (List (List ℕ))) (old mid : S) (next : Option R) (reader : R) (e : Failure)
-        → HasTakenSome complete was is old mid → OpensNext remaining is is' next → next ≡ Some reader → FailsInputBy records fails limit (remaining reader) mid e → FailsInputsBy records takes fails limit was old e
+        → HasTakenSome complete was is old mid → OpensNext remaining is is' next → next ≡ Some reader → FailsInput records fails limit (remaining reader) mid e → FailsInputs records takes fails limit was old e
     inputs_failed remaining limit complete was is is' old mid next reader e so opens is_next failed =
         ⊎_elim (λ memory. inl memory)
         (λ other. ⊎_elim

@@ -9,7 +9,7 @@ use Rattle.std.proofs.lemmas.List.Elements.{All-append}
 use Rattle.std.proofs.Math.Seq.{take-add}
 use Rattle.sketch_base.specs.Split.{IsBehindLast, separates}
 use Rattle.sketch_base.specs.declared.separator.Separator.TheVariants.{LineFeed}
-use Rattle.sketches.specs.Reading.{AreWholeLines, AreWholeRecords, FailsTaking, FailsWithin, HasLongRecord, IsBehindEnd, IsInOne, IsInOneLine, TakesInputBy, TakesRecords, place_of}
+use Rattle.sketches.specs.Reading.{AreWholeLines, AreWholeRecords, FailsTaking, FailsWithin, HasLongRecord, IsBehindEnd, IsInOne, IsInOneLine, TakesInput, TakesRecords, place_of}
 use Rattle.sketches.specs.declared.failure.Failure.{Failure}
 use Rattle.sketches.specs.declared.records.Records.{Records}
 use Rattle.sketches.specs.declared.records.Records.TheVariants.{Lines, Csv}
@@ -141,7 +141,7 @@ module _ (records : Records) {S : Type 0} (takes : S → List ℕ → S → Type
   }
 
   -- a read failed
-  pub taken_failed : {E : Type 0} (was is : Option (List ℕ)) (old new : S) (held : List ℕ) (error : E) → HasTaken was is old new held → TakesInputBy records takes was (Some error) old new
+  pub taken_failed : {E : Type 0} (was is : Option (List ℕ)) (old new : S) (held : List ℕ) (error : E) → HasTaken was is old new held → TakesInput records takes was (Some error) old new
   taken_failed None is old new held error h = tt
   taken_failed (Some bytes) None old new held error h = absurd h
   taken_failed (Some bytes) (Some left) old new held error h = (h.read, (held ++ left, h.parts, λ some. h.whole), h.taken)
@@ -170,7 +170,7 @@ module _ (records : Records) {S : Type 0} (takes : S → List ℕ → S → Type
         let all : bytes ≡ h.read ++ held = h.parts ∙ ap (λ l. h.read ++ l) (ap (λ l. held ++ l) end ∙ append-nil held) in
         subst (λ l. takes old l new) (sym all) (joined old mid new h.read held same h.whole h.taken more)
 
-    pub taken_last : (E : Type 0) (was is : Option (List ℕ)) (old mid new : S) (all held : List ℕ) → splits old ≡ records → HasTaken was is old mid all → all ≡ held → IsAtEnd is → takes mid held new → TakesInputBy records takes {E = E} was None old new
+    pub taken_last : (E : Type 0) (was is : Option (List ℕ)) (old mid new : S) (all held : List ℕ) → splits old ≡ records → HasTaken was is old mid all → all ≡ held → IsAtEnd is → takes mid held new → TakesInput records takes {E = E} was None old new
     taken_last E None is old mid new all held same h e end more = tt
     taken_last E (Some bytes) None old mid new all held same h e end more = absurd h
     taken_last E (Some bytes) (Some left) old mid new all held same h e end more = taken_all bytes left held old mid new same (subst (λ l. HasTakenKnown bytes left old mid l) e h) end more

@@ -25,7 +25,7 @@ use Rattle.sketch_frequencies.specs.declared.error_type.ErrorType.TheVariants.{N
 use Rattle.sketch_frequencies.proofs.SuggestedSizes.{error_by_budget}
 use Rattle.sketches.specs.Added.{Sketch, AddsWeighed}
 use Rattle.sketches.specs.Images.{HasItems, KeepsItems, Merges, ReportsItems, WritesMerge, all_items}
-use Rattle.sketches.specs.Inputs.{AreReadBy}
+use Rattle.sketches.specs.Inputs.{AreRead}
 use Rattle.sketches.specs.Reports.{Row, Encloses, HasAll, IsListed, Reports, ShowsTop, WritesReport, report_text}
 use Rattle.sketches.specs.Thresholds.{IsAbove}
 use Rattle.sketches.specs.Weighed.{Weighed, splits_of, total_of, weight_of, weighed_of}
@@ -287,5 +287,5 @@ pub items_kept : (options : Options) (inputs : Option (List (List ℕ))) (comple
     → (before after : ℕ) → CountsInputs options.weighing inputs complete start s before after → IfSome kept (λ t. t ≡ s) → KeepsItems options inputs complete kept
 items_kept options None complete kept start s new keeps before after counted is = tt
 items_kept options (Some all) complete kept start s new keeps before after (read, are, added, grown) is =
-    same_kept (λ t. (read : List (List ℕ)) × AreReadBy (splits_of options.weighing) complete all read × HasItems options.size (flat_map (weighed_of options.weighing) read) t) kept s is
+    same_kept (λ t. (read : List (List ℕ)) × AreRead (splits_of options.weighing) complete all read × HasItems options.size (flat_map (weighed_of options.weighing) read) t) kept s is
     (read, are, added_items options.size start s (flat_map (weighed_of options.weighing) read) new keeps added.0)

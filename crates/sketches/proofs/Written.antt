@@ -1,4 +1,4 @@
--- The lines of inputs that are written.
+-- The records of inputs that are written.
 use Rattle.std.proofs.Common.{◌≡◌, ℕ, zero, suc, ◌<◌, Bool, true, List, [], ◌∷◌, ◌++◌, length, get_or, map, Option, None, Some, IfSome, sym, ◌∙◌, ap, subst, arith}
 use Rattle.std.proofs.lemmas.Bool.{false≢true}
 use Rattle.std.proofs.lemmas.List.Folds.{list_any_at}
@@ -7,13 +7,13 @@ use Rattle.std.specs.List.{flat_map}
 use Rattle.sketch_bloom.specs.State.{FilterState, all_inserted, contains_item, inserted, item_positions}
 use Rattle.sketch_bloom.proofs.SetAlgebra.{inserted_is_contained, union_keeps}
 use Rattle.sketches.specs.Inputs.{TakesEach, TakesInputs}
-use Rattle.sketches.specs.RawLines.{raw_lines}
+use Rattle.sketches.specs.RecordParts.{raws_by, splits_by}
 use Rattle.sketches.specs.Unseen.{AreFirst, WritesUnseen, hashed, is_seen, item_of, unseen_lines, with_items, with_lines}
 use Rattle.sketches.specs.UnseenLaws.{appends_none, appends_both, unseen_both, with_both}
-use Rattle.sketches.specs.declared.selection.Part.{Part}
+use Rattle.sketches.specs.declared.record_parts.RecordPart.{RecordPart}
 use Rattle.sketches.specs.declared.unseen.UnseenLines.{UnseenLines}
 
--- ---- a line whose item is not seen is the first with its item
+-- ---- a record whose item is not seen is the first with its item
 
 -- an item that is contained stays contained
 kept_one : (filter : FilterState) (item other : List ℕ) → contains_item filter item ≡ true → contains_item (inserted filter other) item ≡ true
@@ -35,48 +35,49 @@ inserted_is_seen filter (first ∷ items) (suc k) item less here = inserted_is_s
 pub seen_at : (filter : FilterState) (items : List (List ℕ)) (k : ℕ) (item : List ℕ) → k < length items → get_or items k item ≡ item → contains_item filter (hashed item) ≡ true → is_seen filter items ≡ true
 seen_at filter items k item less here has = list_any_at (λ (x : List ℕ). contains_item filter (hashed x)) items k item less (ap (λ (x : List ℕ). contains_item filter (hashed x)) here ∙ has)
 
-are_first : (part : Part) (filter : FilterState) (raws : List (List ℕ)) → AreFirst part filter raws
+are_first : (part : RecordPart) (filter : FilterState) (raws : List (List ℕ)) → AreFirst part filter raws
 are_first part filter raws before after raw item parts unseen here earlier =
     absurd (false≢true (sym unseen ∙ seen_at (with_lines part filter before) (item_of part raw) here.0 item here.1 here.2 (inserted_is_seen filter (flat_map (item_of part) before) earlier.0 item earlier.1 earlier.2)))
 
 module _ {W : Type 0} (contents : W → Option (List ℕ)) where
-  -- what the sink does with bytes of lines
+  -- what the sink does with bytes of records
   abbrev pub Chooses : UnseenLines × W → List ℕ → UnseenLines × W → Type 0
   Chooses old bytes new =
-      (new.0.filter ≡ with_lines old.0.part old.0.filter (raw_lines bytes))
-      × Appends (contents old.1) (contents new.1) (unseen_lines old.0.repeated old.0.part old.0.filter (raw_lines bytes))
+      (new.0.filter ≡ with_lines old.0.part old.0.filter (raws_by old.0.part bytes))
+      × Appends (contents old.1) (contents new.1) (unseen_lines old.0.repeated old.0.part old.0.filter (raws_by old.0.part bytes))
       × (new.0.part ≡ old.0.part) × (new.0.repeated ≡ old.0.repeated)
 
-  -- the unseen lines of all lists were written
+  -- the unseen records of all lists were written
   each_written : (old new : UnseenLines × W) (read : List (List ℕ)) → TakesEach Chooses old read new
-      → Appends (contents old.1) (contents new.1) (unseen_lines old.0.repeated old.0.part old.0.filter (flat_map raw_lines read))
+      → Appends (contents old.1) (contents new.1) (unseen_lines old.0.repeated old.0.part old.0.filter (flat_map (raws_by old.0.part) read))
   each_written old new [] same = subst (λ (s : UnseenLines × W). Appends (contents old.1) (contents s.1) []) (sym same) (appends_none (contents old.1))
   each_written old new (bytes ∷ read) (mid, (filter, text, same_part, same_repeated), rest) =
       let later = each_written mid new read rest in
       let r = old.0.repeated in
       let p = old.0.part in
-      let more : unseen_lines mid.0.repeated mid.0.part mid.0.filter (flat_map raw_lines read) ≡ unseen_lines r p (with_lines p old.0.filter (raw_lines bytes)) (flat_map raw_lines read) =
-      ap (λ (q : Bool). unseen_lines q mid.0.part mid.0.filter (flat_map raw_lines read)) same_repeated
-      ∙ (ap (λ (q : Part). unseen_lines r q mid.0.filter (flat_map raw_lines read)) same_part ∙ ap (λ (s : FilterState). unseen_lines r p s (flat_map raw_lines read)) filter) in
+      let more : unseen_lines mid.0.repeated mid.0.part mid.0.filter (flat_map (raws_by mid.0.part) read) ≡ unseen_lines r p (with_lines p old.0.filter (raws_by p bytes)) (flat_map (raws_by p) read) =
+      ap (λ (q : Bool). unseen_lines q mid.0.part mid.0.filter (flat_map (raws_by mid.0.part) read)) same_repeated
+      ∙ (ap (λ (q : RecordPart). unseen_lines r q mid.0.filter (flat_map (raws_by q) read)) same_part ∙ ap (λ (s : FilterState). unseen_lines r p s (flat_map (raws_by p) read)) filter) in
       subst (Appends (contents old.1) (contents new.1))
-      (ap (λ l. unseen_lines r p old.0.filter (raw_lines bytes) ++ l) more ∙ sym (unseen_both r p old.0.filter (raw_lines bytes) (flat_map raw_lines read)))
+      (ap (λ l. unseen_lines r p old.0.filter (raws_by p bytes) ++ l) more ∙ sym (unseen_both r p old.0.filter (raws_by p bytes) (flat_map (raws_by p) read)))
       (appends_both (contents old.1) (contents mid.1) (contents new.1) _ _ text later)
 
   -- and their items inserted
-  each_inserted : (old new : UnseenLines × W) (read : List (List ℕ)) → TakesEach Chooses old read new → new.0.filter ≡ with_lines old.0.part old.0.filter (flat_map raw_lines read)
+  each_inserted : (old new : UnseenLines × W) (read : List (List ℕ)) → TakesEach Chooses old read new → new.0.filter ≡ with_lines old.0.part old.0.filter (flat_map (raws_by old.0.part) read)
   each_inserted old new [] same = ap (λ (s : UnseenLines × W). s.0.filter) same
   each_inserted old new (bytes ∷ read) (mid, (filter, text, same_part, same_repeated), rest) =
       each_inserted mid new read rest
-      ∙ (ap (λ (q : Part). with_lines q mid.0.filter (flat_map raw_lines read)) same_part
-      ∙ (ap (λ (s : FilterState). with_lines old.0.part s (flat_map raw_lines read)) filter ∙ sym (with_both old.0.part old.0.filter (raw_lines bytes) (flat_map raw_lines read))))
+      ∙ (ap (λ (q : RecordPart). with_lines q mid.0.filter (flat_map (raws_by q) read)) same_part
+      ∙ (ap (λ (s : FilterState). with_lines old.0.part s (flat_map (raws_by old.0.part) read)) filter ∙ sym (with_both old.0.part old.0.filter (raws_by old.0.part bytes) (flat_map (raws_by old.0.part) read))))
 
-  pub written : (was : Option (List (List ℕ))) (complete : Bool) (old new : UnseenLines × W) → TakesInputs Chooses was complete old new
-      → IfSome was (λ inputs. WritesUnseen old.0.repeated old.0.part old.0.filter new.0.filter inputs complete (contents old.1) (contents new.1))
-  written None complete old new taken = tt
-  written (Some inputs) complete old new (read, are, each) = record {
+  pub written : (header : List ℕ) (held : Option (List ℕ)) (was : Option (List (List ℕ))) (complete : Bool) (old new : UnseenLines × W)
+      → Appends held (contents old.1) header → TakesInputs (splits_by old.0.part) Chooses was complete old new
+      → IfSome was (λ inputs. WritesUnseen old.0.repeated old.0.part header old.0.filter new.0.filter inputs complete held (contents new.1))
+  written header held None complete old new begins taken = tt
+  written header held (Some inputs) complete old new begins (read, are, each) = record {
     read = read;
     are = are;
-    written = each_written old new read each;
-    first = are_first old.0.part old.0.filter (flat_map raw_lines read);
+    written = appends_both held (contents old.1) (contents new.1) header _ begins (each_written old new read each);
+    first = are_first old.0.part old.0.filter (flat_map (raws_by old.0.part) read);
     kept = each_inserted old new read each;
   }

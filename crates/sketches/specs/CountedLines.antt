@@ -1,25 +1,34 @@
--- The laws of lines that are counted.
-use Rattle.std.proofs.Common.{◌≡◌, ℕ, ◌+◌, ◌≤◌, ◌^◌, List, [], ◌++◌, length, ◌∙◌, ap, arith, length-append}
-use Rattle.sketches.specs.RawLines.{raw_lines}
-use Rattle.sketches.specs.Reading.{AreWholeLines}
-use Rattle.sketches.specs.UnseenLaws.{raw_both}
+-- The laws of records that are counted.
+use Rattle.std.proofs.Common.{◌≡◌, ℕ, ◌+◌, ◌≤◌, ◌^◌, List, [], ◌++◌, length, refl, ◌∙◌, ap, arith, length-append}
+use Rattle.sketches.specs.Reading.{AreWholeRecords}
+use Rattle.sketches.specs.RecordParts.{raws_by, splits_by}
+use Rattle.sketches.specs.UnseenLaws.{raw_records_both, raws_none}
 use Rattle.sketches.specs.declared.failure.Failure.{Failure}
 use Rattle.sketches.specs.declared.failure.Failure.TheVariants.{TooManyItems}
+use Rattle.sketches.specs.declared.record_parts.RecordPart.{RecordPart}
 
-number_both : (xs ys : List ℕ) → AreWholeLines xs → length (raw_lines (xs ++ ys)) ≡ length (raw_lines xs) + length (raw_lines ys)
-number_both xs ys whole = ap length (raw_both xs ys whole) ∙ length-append (raw_lines xs) (raw_lines ys)
+number_both : (p : RecordPart) (xs ys : List ℕ) → AreWholeRecords (splits_by p) xs → length (raws_by p (xs ++ ys)) ≡ length (raws_by p xs) + length (raws_by p ys)
+number_both p xs ys whole = ap length (raw_records_both (splits_by p) xs ys whole) ∙ length-append (raws_by p xs) (raws_by p ys)
 
-abbrev Exceeds : ℕ → List ℕ → Failure → Type 0
-Exceeds lines bytes failure = (failure ≡ TooManyItems) × (2 ^ 64 ≤ lines + length (raw_lines bytes))
+-- what the sink does with records
+abbrev Counts : (p : RecordPart) (lines lines' : ℕ) → List ℕ → RecordPart → Type 0
+Counts p lines lines' bytes q = (lines' ≡ lines + length (raws_by p bytes)) × (q ≡ p)
 
-pub counts_none : (lines : ℕ) → lines ≡ lines + length (raw_lines [])
-counts_none lines = omega arith
+abbrev Exceeds : RecordPart → ℕ → List ℕ → Failure → Type 0
+Exceeds p lines bytes failure = (failure ≡ TooManyItems) × (2 ^ 64 ≤ lines + length (raws_by p bytes))
 
-pub counts_both : (xs ys : List ℕ) → AreWholeLines xs → (a b c : ℕ) → b ≡ a + length (raw_lines xs) → c ≡ b + length (raw_lines ys) → c ≡ a + length (raw_lines (xs ++ ys))
-counts_both xs ys whole a b c first second = omega (arith, number_both xs ys whole, first, second)
+pub counts_none : (p : RecordPart) (lines : ℕ) → Counts p lines lines [] p
+counts_none p lines = rw (raws_none p) (omega arith, refl)
 
-pub exceeds_sooner : (xs ys : List ℕ) → AreWholeLines xs → (a : ℕ) (e : Failure) → Exceeds a xs e → Exceeds a (xs ++ ys) e
-exceeds_sooner xs ys whole a e (is, many) = (is, omega (arith, number_both xs ys whole, many))
+pub counts_both : (xs ys : List ℕ) (p q r : RecordPart) → AreWholeRecords (splits_by p) xs → (a b c : ℕ) → Counts p a b xs q → Counts q b c ys r → Counts p a c (xs ++ ys) r
+counts_both xs ys p q r whole a b c (first, same) (second, same') =
+    let later : c ≡ b + length (raws_by p ys) = second ∙ ap (λ (t : RecordPart). b + length (raws_by t ys)) same in
+    (omega (arith, number_both p xs ys whole, first, later), same' ∙ same)
 
-pub exceeds_later : (xs ys : List ℕ) → AreWholeLines xs → (a b : ℕ) (e : Failure) → b ≡ a + length (raw_lines xs) → Exceeds b ys e → Exceeds a (xs ++ ys) e
-exceeds_later xs ys whole a b e first (is, many) = (is, omega (arith, number_both xs ys whole, first, many))
+pub exceeds_sooner : (xs ys : List ℕ) (p : RecordPart) → AreWholeRecords (splits_by p) xs → (a : ℕ) (e : Failure) → Exceeds p a xs e → Exceeds p a (xs ++ ys) e
+exceeds_sooner xs ys p whole a e (is, many) = (is, omega (arith, number_both p xs ys whole, many))
+
+pub exceeds_later : (xs ys : List ℕ) (p q : RecordPart) → AreWholeRecords (splits_by p) xs → (a b : ℕ) (e : Failure) → Counts p a b xs q → Exceeds q b ys e → Exceeds p a (xs ++ ys) e
+exceeds_later xs ys p q whole a b e (first, same) (is, many) =
+    let more = ap (λ (t : RecordPart). length (raws_by t ys)) same in
+    (is, omega (arith, number_both p xs ys whole, first, more, many))

@@ -4,13 +4,15 @@ use Rattle.std.specs.List.{flat_map}
 use Rattle.sketch_bloom.specs.Sizes.{AreEnoughBitsRounded, IsLn2TimesWithin}
 use Rattle.sketch_frequencies.specs.Sizes.{size_fault}
 use Rattle.sketches.specs.Added.{Sketch}
-use Rattle.sketches.specs.Inputs.{HaveLongLine, HaveLongRecord}
+use Rattle.sketches.specs.Inputs.{HaveLongRecord}
+use Rattle.sketches.specs.RecordParts.{splits_by}
 use Rattle.sketches.specs.Weighed.{Weighed, splits_of, total_of, unweighed_of, unweighed_of_line, weighed_of, weighed_of_line}
 use Rattle.sketches.specs.declared.failure.Failure.{Failure}
 use Rattle.sketches.specs.declared.failure.Failure.TheVariants.{Memory, LineTooLong, TooManyItems, BadSize, BadWeight, Write}
 use Rattle.sketches.specs.declared.filter_size.FilterSize.{FilterSize}
 use Rattle.sketches.specs.declared.filter_size.FilterSize.TheVariants.{Target, Shape}
 use Rattle.sketches.specs.FilterSizes.{HasNoSize}
+use Rattle.sketches.specs.declared.record_parts.RecordPart.{RecordPart}
 use Rattle.sketches.specs.declared.top.Options.{Options}
 use Rattle.sketches.specs.declared.uniq.UniqOptions.{UniqOptions}
 use Rattle.sketches.specs.declared.weighing.Weighing.{Weighing}
@@ -56,7 +58,7 @@ FailsTop options was (BadWeight found) = IfSome was (λ inputs. 0 < length (flat
 FailsTop options was BadSize = IsSome (size_fault options.size)
 FailsTop options was (Write error) = Unit {0}
 
--- while lines are written, the memory is exhausted, or a write fails
+-- while records are written, the memory is exhausted, or a write fails
 abbrev pub FailsWriting : Failure → Type 0
 FailsWriting Memory = Unit {0}
 FailsWriting (Write error) = Unit {0}
@@ -74,17 +76,17 @@ FailsFilter (Target target) BadSize =
 FailsFilter (Shape shape) BadSize = HasNoSize (Shape shape)
 FailsFilter size _ = ⊥
 
--- The lines of inputs are not all written. Memory may be exhausted at any time, and a write may fail. Otherwise a line has at least
--- `limit` bytes.
-abbrev pub FailsWrittenLines : (limit : ℕ) → Option (List (List ℕ)) → Failure → Type 0
-FailsWrittenLines limit was Memory = Unit {0}
-FailsWrittenLines limit was LineTooLong = IfSome was (HaveLongLine limit)
-FailsWrittenLines limit was TooManyItems = ⊥
-FailsWrittenLines limit was BadSize = ⊥
-FailsWrittenLines limit was (BadWeight found) = ⊥
-FailsWrittenLines limit was (Write error) = Unit {0}
+-- The records of inputs are not all written. Memory may be exhausted at any time, and a write may fail. Otherwise a record has at
+-- least `limit` bytes.
+abbrev pub FailsWrittenLines : RecordPart → (limit : ℕ) → Option (List (List ℕ)) → Failure → Type 0
+FailsWrittenLines part limit was Memory = Unit {0}
+FailsWrittenLines part limit was LineTooLong = IfSome was (HaveLongRecord (splits_by part) limit)
+FailsWrittenLines part limit was TooManyItems = ⊥
+FailsWrittenLines part limit was BadSize = ⊥
+FailsWrittenLines part limit was (BadWeight found) = ⊥
+FailsWrittenLines part limit was (Write error) = Unit {0}
 
--- a run that writes unseen lines ends as any that writes lines, or a filter of this size is not allowed
+-- a run that writes unseen records ends as any that writes records, or a filter of this size is not allowed
 abbrev pub FailsUniq : UniqOptions → FilterSize → Option (List (List ℕ)) → Failure → Type 0
 FailsUniq options size was BadSize = FailsFilter size BadSize
-FailsUniq options size was failure = FailsWrittenLines (options.max_line + 1) was failure
+FailsUniq options size was failure = FailsWrittenLines options.part (options.max_line + 1) was failure

@@ -13,7 +13,7 @@ use Rattle.sketch_frequencies.specs.ManyMerges.{JoinsAll}
 use Rattle.sketch_frequencies.specs.Stands.{StandsFor, KeepsTailBudget}
 use Rattle.sketch_frequencies.specs.State.{IsState, max_sample_size}
 use Rattle.sketches.specs.Added.{Sketch}
-use Rattle.sketches.specs.Inputs.{AreReadBy}
+use Rattle.sketches.specs.Inputs.{AreRead}
 use Rattle.sketches.specs.Reports.{Row, Reports, ShowsTop, report_text}
 use Rattle.sketches.specs.Weighed.{Weighed, splits_of, total_of, weight_of, weighed_of}
 use Rattle.sketches.specs.declared.layout.Layout.{Layout}
@@ -110,5 +110,5 @@ pub record WritesImage (s : Sketch) (held holds : Option (List ℕ)) : Type 0 wh
 -- the sketch that was kept has the items of what was read of the inputs
 abbrev pub KeepsItems : Options → Option (List (List ℕ)) → Bool → Option Sketch → Type 0
 KeepsItems options inputs complete kept = IfSome inputs (λ all. IfSome kept (λ s.
-    (read : List (List ℕ)) × AreReadBy (splits_of options.weighing) complete all read
+    (read : List (List ℕ)) × AreRead (splits_of options.weighing) complete all read
     × HasItems options.size (flat_map (weighed_of options.weighing) read) s))

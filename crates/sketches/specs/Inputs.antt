@@ -5,7 +5,6 @@ use Rattle.sketches.specs.Reading.{AreFirstRecords, HasLongRecord}
 use Rattle.sketches.specs.declared.failure.Failure.{Failure}
 use Rattle.sketches.specs.declared.failure.Failure.TheVariants.{Memory, LineTooLong}
 use Rattle.sketches.specs.declared.records.Records.{Records}
-use Rattle.sketches.specs.declared.records.Records.TheVariants.{Lines}
 
 -- the next input was opened, and is left no more; or none is left
 abbrev pub OpensNext : {R : Type 0} → (R → Option (List ℕ)) → Option (List (List ℕ)) → Option (List (List ℕ)) → Option R → Type 0
@@ -13,7 +12,7 @@ OpensNext remaining was is next = IfSome was (λ inputs. MatchOption next (input
     (bytes : List ℕ) × (later : List (List ℕ)) × (inputs ≡ bytes ∷ later) × (remaining reader ≡ Some bytes) × (is ≡ Some later)))
 
 -- what was read of each input: the first records of each, and all of them if no read failed
-pub record AreReadBy (records : Records) (complete : Bool) (inputs read : List (List ℕ)) : Type 0 where
+pub record AreRead (records : Records) (complete : Bool) (inputs read : List (List ℕ)) : Type 0 where
   pub fronts : AllZip (AreFirstRecords records) inputs read
   pub whole : complete ≡ true → read ≡ inputs
 
@@ -33,13 +32,13 @@ module _ {S : Type 0} (takes : S → List ℕ → S → Type 0) where
 
 module _ (records : Records) {S : Type 0} (takes : S → List ℕ → S → Type 0) where
   -- the records of what was read of each input were taken
-  abbrev pub TakesInputsBy : Option (List (List ℕ)) → Bool → (old new : S) → Type 0
-  TakesInputsBy was complete old new = IfSome was (λ inputs.
-      (read : List (List ℕ)) × AreReadBy records complete inputs read × TakesEach takes old read new)
+  abbrev pub TakesInputs : Option (List (List ℕ)) → Bool → (old new : S) → Type 0
+  TakesInputs was complete old new = IfSome was (λ inputs.
+      (read : List (List ℕ)) × AreRead records complete inputs read × TakesEach takes old read new)
 
   module _ (fails : S → List ℕ → Failure → Type 0) where
     -- the failure may come while the records of an input are taken, after those of what was read of the inputs before
-    pub record FailsAmongBy (inputs : List (List ℕ)) (old : S) (failure : Failure) : Type 0 where
+    pub record FailsAmong (inputs : List (List ℕ)) (old : S) (failure : Failure) : Type 0 where
       pub earlier : List (List ℕ)
       pub input : List ℕ
       pub later : List (List ℕ)
@@ -51,30 +50,11 @@ module _ (records : Records) {S : Type 0} (takes : S → List ℕ → S → Type
       pub reason : fails mid input failure
 
     -- the failure may come while records are taken, and while those of these inputs are, if they are known
-    pub record FailsTakingInputsBy (was : Option (List (List ℕ))) (old : S) (failure : Failure) : Type 0 where
+    pub record FailsTakingInputs (was : Option (List (List ℕ))) (old : S) (failure : Failure) : Type 0 where
       pub some : (s : S) × (bytes : List ℕ) × fails s bytes failure
-      pub known : IfSome was (λ inputs. FailsAmongBy inputs old failure)
+      pub known : IfSome was (λ inputs. FailsAmong inputs old failure)
 
     -- no memory, a record of at least `limit` bytes, or a failure while records are taken
-    abbrev pub FailsInputsBy : ℕ → Option (List (List ℕ)) → S → Failure → Type 0
-    FailsInputsBy limit was old failure =
-        (failure ≡ Memory) ⊎ (((failure ≡ LineTooLong) × IfSome was (HaveLongRecord records limit)) ⊎ FailsTakingInputsBy was old failure)
-
--- the same of lines
-abbrev pub AreRead : Bool → (inputs read : List (List ℕ)) → Type 0
-AreRead complete inputs read = AreReadBy Lines complete inputs read
-
-abbrev pub HaveLongLine : ℕ → List (List ℕ) → Type 0
-HaveLongLine limit inputs = HaveLongRecord Lines limit inputs
-
-abbrev pub TakesInputs : {S : Type 0} → (S → List ℕ → S → Type 0) → Option (List (List ℕ)) → Bool → (old new : S) → Type 0
-TakesInputs takes was complete old new = TakesInputsBy Lines takes was complete old new
-
-abbrev pub FailsAmong : {S : Type 0} → (S → List ℕ → S → Type 0) → (S → List ℕ → Failure → Type 0) → List (List ℕ) → S → Failure → Type 0
-FailsAmong takes fails inputs old failure = FailsAmongBy Lines takes fails inputs old failure
-
-abbrev pub FailsTakingInputs : {S : Type 0} → (S → List ℕ → S → Type 0) → (S → List ℕ → Failure → Type 0) → Option (List (List ℕ)) → S → Failure → Type 0
-FailsTakingInputs takes fails was old failure = FailsTakingInputsBy Lines takes fails was old failure
-
-abbrev pub FailsInputs : {S : Type 0} → (S → List ℕ → S → Type 0) → (S → List ℕ → Failure → Type 0) → ℕ → Option (List (List ℕ)) → S → Failure → Type 0
-FailsInputs takes fails limit was old failure = FailsInputsBy Lines takes fails limit was old failure
+    abbrev pub FailsInputs : ℕ → Option (List (List ℕ)) → S → Failure → Type 0
+    FailsInputs limit was old failure =
+        (failure ≡ Memory) ⊎ (((failure ≡ LineTooLong) × IfSome was (HaveLongRecord records limit)) ⊎ FailsTakingInputs was old failure)

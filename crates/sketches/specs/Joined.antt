@@ -1,30 +1,30 @@
--- The lines whose items are in a file of keys.
-use Rattle.std.specs.Prelude.{◌≡◌, ℕ, Bool, List, [], Contains, Option, if◌then◌else◌}
+-- The records whose items are in a file of keys.
+use Rattle.std.specs.Prelude.{◌≡◌, ℕ, Bool, List, [], ◌++◌, Contains, Option, if◌then◌else◌}
 use Rattle.std.specs.Io.KnownBytes.{Appends}
 use Rattle.std.specs.List.{flat_map}
 use Rattle.sketch_bloom.specs.State.{FilterState}
 use Rattle.sketches.specs.Inputs.{AreRead}
-use Rattle.sketches.specs.RawLines.{raw_lines}
+use Rattle.sketches.specs.RecordParts.{raws_by, splits_by}
 use Rattle.sketches.specs.Unseen.{is_seen, item_of, with_items, written_of}
-use Rattle.sketches.specs.declared.selection.Part.{Part}
+use Rattle.sketches.specs.declared.record_parts.RecordPart.{RecordPart}
 
--- the keys in a file of keys: the items of its lines
-abbrev pub keys_of : Part → List ℕ → List (List ℕ)
-keys_of part bytes = flat_map (item_of part) (raw_lines bytes)
+-- the keys in a file of keys: the items of its records
+abbrev pub keys_of : RecordPart → List ℕ → List (List ℕ)
+keys_of part bytes = flat_map (item_of part) (raws_by part bytes)
 
--- the lines that are written, with their ends: if `wanted`, those of which the filter contains the item, else the others
-abbrev pub joined_lines : Bool → Part → FilterState → List (List ℕ) → List ℕ
+-- the records that are written, with their ends: if `wanted`, those of which the filter contains the item, else the others
+abbrev pub joined_lines : Bool → RecordPart → FilterState → List (List ℕ) → List ℕ
 joined_lines wanted part filter raws = flat_map (λ raw. written_of wanted (is_seen filter (item_of part raw)) raw) raws
 
--- a line whose item is a key is written if `wanted`, else it is not written
-abbrev pub FindsKeys : Bool → Part → FilterState → List (List ℕ) → Type 0
+-- a record whose item is a key is written if `wanted`, else it is not written
+abbrev pub FindsKeys : Bool → RecordPart → FilterState → List (List ℕ) → Type 0
 FindsKeys wanted part filter keys = (raw key : List ℕ) → Contains keys key → Contains (item_of part raw) key
     → written_of wanted (is_seen filter (item_of part raw)) raw ≡ (if wanted then raw else [])
 
--- The writer received those lines of what was read of each input whose items the filter of all keys contains, or, unless `wanted`,
--- the others.
-pub record WritesJoined (wanted : Bool) (part : Part) (filter : FilterState) (keys : List (List ℕ)) (inputs : List (List ℕ)) (complete : Bool) (held holds : Option (List ℕ)) : Type 0 where
+-- The writer received a header, and then those records of what was read of each input whose items the filter of all keys contains, or,
+-- unless `wanted`, the others.
+pub record WritesJoined (wanted : Bool) (part : RecordPart) (header : List ℕ) (filter : FilterState) (keys : List (List ℕ)) (inputs : List (List ℕ)) (complete : Bool) (held holds : Option (List ℕ)) : Type 0 where
   pub read : List (List ℕ)
-  pub are : AreRead complete inputs read
-  pub written : Appends held holds (joined_lines wanted part (with_items filter keys) (flat_map raw_lines read))
+  pub are : AreRead (splits_by part) complete inputs read
+  pub written : Appends held holds (header ++ joined_lines wanted part (with_items filter keys) (flat_map (raws_by part) read))
   pub finds : FindsKeys wanted part (with_items filter keys) keys

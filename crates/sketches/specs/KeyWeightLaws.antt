@@ -1,20 +1,19 @@
 -- The laws of items with weights that are added one after another, and of estimates that are written.
-use Rattle.std.proofs.Common.{◌≡◌, ℕ, List, [], ◌∷◌, ◌++◌, map, Option, ℤ, append-nil, refl, sym, ◌∙◌, ap, subst, arith, length-append}
+use Rattle.std.proofs.Common.{◌≡◌, ℕ, Bool, List, [], ◌∷◌, ◌++◌, map, Option, ℤ, append-nil, refl, sym, ◌∙◌, ap, subst, arith, length-append}
 use Rattle.std.proofs.lemmas.List.{map-append}
 use Rattle.std.proofs.lemmas.List.Concat.{flat_map-append}
 use Rattle.std.proofs.lemmas.List.Elements.{All-append, All-nil}
 use Rattle.std.specs.Io.KnownBytes.{Appends}
 use Rattle.std.specs.List.{flat_map}
 use Rattle.std.specs.Prelude.{pos}
-use Rattle.std.specs.Str.Lines.{lines}
 use Rattle.sketch_countmin.specs.History.{CountHistory, each_updated}
 use Rattle.sketch_countmin.specs.History.CountHistory.{Update}
 use Rattle.sketch_countmin.specs.Stands.{StandsFor}
 use Rattle.sketch_countmin.specs.State.{CountState, IsMinCell}
-use Rattle.sketches.specs.AddingLaws.{lines_both}
-use Rattle.sketches.specs.Items.{part_of}
+use Rattle.sketches.specs.AddingLaws.{records_both}
 use Rattle.sketches.specs.KeyWeights.{CountsLines, CountsWeighed, Row, WritesEstimates, counted, parts_in, row_line, unweighed_line, unweighed_lines, weighed_line, weighed_lines}
-use Rattle.sketches.specs.Reading.{AreWholeLines}
+use Rattle.sketches.specs.Reading.{AreWholeRecords}
+use Rattle.sketches.specs.RecordParts.{part_in, records_by, splits_by}
 use Rattle.sketches.specs.Unseen.{hashed}
 use Rattle.sketches.specs.UnseenLaws.{appends_none, appends_both}
 use Rattle.sketches.specs.WeighFailures.{FailsCounting, FailsLines}
@@ -22,8 +21,9 @@ use Rattle.sketches.specs.Weighed.{Weighed, total_of}
 use Rattle.sketches.specs.WeighingLaws.{total_both}
 use Rattle.sketches.specs.declared.failure.Failure.{Failure}
 use Rattle.sketches.specs.declared.failure.Failure.TheVariants.{Memory, LineTooLong, TooManyItems, BadSize, BadWeight, Write}
-use Rattle.sketches.specs.declared.item_weigher.WeighedLine.{WeighedLine}
-use Rattle.sketches.specs.declared.selection.Part.{Part}
+use Rattle.sketches.specs.declared.item_weigher.WeighedRecord.{WeighedRecord}
+use Rattle.sketches.specs.declared.record_parts.RecordPart.{RecordPart}
+use Rattle.sketches.specs.declared.record_parts.RecordPart.TheVariants as part
 
 updated_both : (h : CountHistory) (xs ys : List (List ℕ × ℤ)) → each_updated h (xs ++ ys) ≡ each_updated (each_updated h xs) ys
 updated_both h [] ys = refl
@@ -58,9 +58,13 @@ fails_after a b xs ys us vs BadSize s f = f
 fails_after a b xs ys us vs (BadWeight found) s f = omega (arith, f, length-append us vs)
 fails_after a b xs ys us vs (Write error) s f = f
 
--- ---- the items of lines
+-- ---- the items of records
 
-module _ (p : WeighedLine) where
+pub records_none : (chosen : RecordPart) → records_by chosen [] ≡ []
+records_none (part.Line chosen) = refl
+records_none (part.Csv field) = refl
+
+module _ (p : WeighedRecord) where
   weighed_append : (xs ys : List (List ℕ)) → weighed_lines p (xs ++ ys) ≡ weighed_lines p xs ++ weighed_lines p ys
   weighed_append xs ys = flat_map-append (weighed_line p) xs ys
 
@@ -88,53 +92,67 @@ module _ (p : WeighedLine) where
   pub lines_later : (a b : CountState) (xs ys : List (List ℕ)) (e : Failure) → CountsLines p a xs b → FailsLines p b ys e → FailsLines p a (xs ++ ys) e
   lines_later a b xs ys e adds f = rw (weighed_append xs ys, unweighed_append xs ys) (fails_after a b (weighed_lines p xs) (weighed_lines p ys) (unweighed_lines p xs) (unweighed_lines p ys) e adds.0 f)
 
--- ---- the lines of bytes
+-- ---- the records of bytes
 
-module _ (p : WeighedLine) (xs ys : List ℕ) (whole : AreWholeLines xs) where
-  pub counts_both : (a b c : CountState) (q r : WeighedLine) → CountsLines p a (lines xs) b × (q ≡ p) → CountsLines q b (lines ys) c × (r ≡ q) → CountsLines p a (lines (xs ++ ys)) c × (r ≡ p)
+-- what a sink does with records
+abbrev Weighs : (p : WeighedRecord) (a b : CountState) → List ℕ → WeighedRecord → Type 0
+Weighs p a b bytes q = CountsLines p a (records_by p.item bytes) b × (q ≡ p)
+
+pub counts_none : (p : WeighedRecord) (a : CountState) → Weighs p a a [] p
+counts_none p a = rw (records_none p.item) (no_lines p a, refl)
+
+module _ (p : WeighedRecord) (xs ys : List ℕ) (whole : AreWholeRecords (splits_by p.item) xs) where
+  both_records : records_by p.item (xs ++ ys) ≡ records_by p.item xs ++ records_by p.item ys
+  both_records = records_both (splits_by p.item) xs ys whole
+
+  pub counts_both : (a b c : CountState) (q r : WeighedRecord) → Weighs p a b xs q → Weighs q b c ys r → Weighs p a c (xs ++ ys) r
   counts_both a b c q r (first, same) (second, same') = (
-    subst (λ l. CountsLines p a l c) (sym (lines_both xs ys whole)) (all_lines p a b c (lines xs) (lines ys) first (subst (λ (s : WeighedLine). CountsLines s b (lines ys) c) same second)),
+    subst (λ l. CountsLines p a l c) (sym both_records) (all_lines p a b c (records_by p.item xs) (records_by p.item ys) first (subst (λ (s : WeighedRecord). CountsLines s b (records_by s.item ys) c) same second)),
     same' ∙ same,
   )
 
-  pub counts_sooner : (a : CountState) (e : Failure) → FailsLines p a (lines xs) e → FailsLines p a (lines (xs ++ ys)) e
-  counts_sooner a e f = subst (λ l. FailsLines p a l e) (sym (lines_both xs ys whole)) (lines_sooner p a (lines xs) (lines ys) e f)
+  pub counts_sooner : (a : CountState) (e : Failure) → FailsLines p a (records_by p.item xs) e → FailsLines p a (records_by p.item (xs ++ ys)) e
+  counts_sooner a e f = subst (λ l. FailsLines p a l e) (sym both_records) (lines_sooner p a (records_by p.item xs) (records_by p.item ys) e f)
 
-  pub counts_later : (a b : CountState) (q : WeighedLine) (e : Failure) → CountsLines p a (lines xs) b × (q ≡ p) → FailsLines q b (lines ys) e → FailsLines p a (lines (xs ++ ys)) e
+  pub counts_later : (a b : CountState) (q : WeighedRecord) (e : Failure) → Weighs p a b xs q → FailsLines q b (records_by q.item ys) e → FailsLines p a (records_by p.item (xs ++ ys)) e
   counts_later a b q e (first, same) f =
-      subst (λ l. FailsLines p a l e) (sym (lines_both xs ys whole)) (lines_later p a b (lines xs) (lines ys) e first (subst (λ (s : WeighedLine). FailsLines s b (lines ys) e) same f))
+      subst (λ l. FailsLines p a l e) (sym both_records) (lines_later p a b (records_by p.item xs) (records_by p.item ys) e first (subst (λ (s : WeighedRecord). FailsLines s b (records_by s.item ys) e) same f))
 
--- the parts of whole lines and of the bytes after them
-pub parts_append : (part : Part) (read more : List ℕ) → AreWholeLines read → parts_in part (read ++ more) ≡ parts_in part read ++ parts_in part more
-parts_append part read more whole = ap (flat_map (part_of part)) (lines_both read more whole) ∙ flat_map-append (part_of part) (lines read) (lines more)
+-- the parts of whole records and of the bytes after them
+pub parts_append : (part : RecordPart) (read more : List ℕ) → AreWholeRecords (splits_by part) read → parts_in part (read ++ more) ≡ parts_in part read ++ parts_in part more
+parts_append part read more whole = ap (flat_map (part_in part)) (records_both (splits_by part) read more whole) ∙ flat_map-append (part_in part) (records_by part read) (records_by part more)
 
 -- ---- estimates that are written
 
-pub estimates_none : (s : CountState) (held : Option (List ℕ)) → WritesEstimates s [] held held
-estimates_none s held = record { rows = []; keys_are = refl; estimates = All-nil (λ (row : Row). IsMinCell s (hashed row.1) (pos row.0)); wrote = appends_none held }
+pub estimates_none : (escaped : Bool) (s : CountState) (held : Option (List ℕ)) → WritesEstimates escaped s [] held held
+estimates_none escaped s held = record { rows = []; keys_are = refl; estimates = All-nil (λ (row : Row). IsMinCell s (hashed row.1) (pos row.0)); wrote = appends_none held }
 
-pub estimates_both : (s : CountState) (xs ys : List (List ℕ)) (a b c : Option (List ℕ)) → WritesEstimates s xs a b → WritesEstimates s ys b c → WritesEstimates s (xs ++ ys) a c
-estimates_both s xs ys a b c first second = record {
+pub estimates_both : (escaped : Bool) (s : CountState) (xs ys : List (List ℕ)) (a b c : Option (List ℕ)) → WritesEstimates escaped s xs a b → WritesEstimates escaped s ys b c → WritesEstimates escaped s (xs ++ ys) a c
+estimates_both escaped s xs ys a b c first second = record {
   rows = first.rows ++ second.rows;
   keys_are =
       map-append (λ (row : Row). row.1) first.rows second.rows
       ∙ (ap (λ l. l ++ map (λ (row : Row). row.1) second.rows) first.keys_are ∙ ap (λ l. xs ++ l) second.keys_are);
   estimates = All-append (λ (row : Row). IsMinCell s (hashed row.1) (pos row.0)) first.rows second.rows first.estimates second.estimates;
-  wrote = subst (Appends a c) (sym (flat_map-append row_line first.rows second.rows)) (appends_both a b c _ _ first.wrote second.wrote);
+  wrote = subst (Appends a c) (sym (flat_map-append (row_line escaped) first.rows second.rows)) (appends_both a b c _ _ first.wrote second.wrote);
 }
 
--- what a sink that writes estimates does with lines
-abbrev TakesKeys : (s s' : CountState) (part part' : Part) (held holds : Option (List ℕ)) → List ℕ → Type 0
-TakesKeys s s' part part' held holds bytes = WritesEstimates s (parts_in part bytes) held holds × (s' ≡ s) × (part' ≡ part)
+-- what a sink that writes estimates does with records
+abbrev TakesKeys : (escaped escaped' : Bool) (s s' : CountState) (part part' : RecordPart) (held holds : Option (List ℕ)) → List ℕ → Type 0
+TakesKeys escaped escaped' s s' part part' held holds bytes =
+    WritesEstimates escaped s (parts_in part bytes) held holds × (s' ≡ s) × (part' ≡ part) × (escaped' ≡ escaped)
 
-pub keys_none : (s : CountState) (part : Part) (held : Option (List ℕ)) → TakesKeys s s part part held held []
-keys_none s part held = (estimates_none s held, refl, refl)
+pub keys_none : (escaped : Bool) (s : CountState) (part : RecordPart) (held : Option (List ℕ)) → TakesKeys escaped escaped s s part part held held []
+keys_none escaped s part held = rw (records_none part) (estimates_none escaped s held, refl, refl, refl)
 
-pub keys_both : (xs ys : List ℕ) → AreWholeLines xs → (a b c : CountState) (p q r : Part) (held mid holds : Option (List ℕ)) → TakesKeys a b p q held mid xs → TakesKeys b c q r mid holds ys → TakesKeys a c p r held holds (xs ++ ys)
-keys_both xs ys whole a b c p q r held mid holds (first, same, same_part) (second, same', same_part') = (
-  subst (λ l. WritesEstimates a l held holds) (sym (parts_append p xs ys whole))
-      (estimates_both a (parts_in p xs) (parts_in p ys) held mid holds first
-      (subst (λ (t : Part). WritesEstimates a (parts_in t ys) mid holds) same_part (subst (λ (t : CountState). WritesEstimates t (parts_in q ys) mid holds) same second))),
+pub keys_both : (xs ys : List ℕ) (d e f : Bool) (a b c : CountState) (p q r : RecordPart) → AreWholeRecords (splits_by p) xs → (held mid holds : Option (List ℕ)) → TakesKeys d e a b p q held mid xs → TakesKeys e f b c q r mid holds ys → TakesKeys d f a c p r held holds (xs ++ ys)
+keys_both xs ys d e f a b c p q r whole held mid holds (first, same, same_part, same_escaped) (second, same', same_part', same_escaped') = (
+  subst (λ l. WritesEstimates d a l held holds) (sym (parts_append p xs ys whole))
+      (estimates_both d a (parts_in p xs) (parts_in p ys) held mid holds first
+      (subst (λ (t : RecordPart). WritesEstimates d a (parts_in t ys) mid holds) same_part
+      (subst (λ (t : CountState). WritesEstimates d t (parts_in q ys) mid holds) same
+      (subst (λ (t : Bool). WritesEstimates t b (parts_in q ys) mid holds) same_escaped second)))),
   same' ∙ same,
   same_part' ∙ same_part,
+  same_escaped' ∙ same_escaped,
 )

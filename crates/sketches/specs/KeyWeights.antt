@@ -2,8 +2,8 @@
 use Rattle.std.specs.Prelude.{◌≡◌, ℕ, ℤ, ◌+◌, ◌<◌, ◌≤◌, ◌==◌, Bool, List, [], ◌++◌, map, All, Option, None, Some, codes, sum_by, pos, if◌then◌else◌}
 use Rattle.std.specs.Fmt.{decimal}
 use Rattle.std.specs.Io.KnownBytes.{Appends}
-use Rattle.std.specs.List.{flat_map}
-use Rattle.std.specs.Str.Lines.{lines}
+use Rattle.std.specs.List.{flat_map, slice_get}
+use Rattle.std.specs.Option.{option_and_then}
 use Rattle.sketch_base.specs.Hashes.{seed_hash}
 use Rattle.sketch_countmin.specs.Buckets.{bucket_of}
 use Rattle.sketch_countmin.specs.History.{each_updated}
@@ -12,50 +12,51 @@ use Rattle.sketch_countmin.specs.Sizes.{IsETimesWithin, IsWithinPowerOfE}
 use Rattle.sketch_countmin.specs.Stands.{Extends, StandsFor}
 use Rattle.sketch_countmin.specs.State.{CountState, IsMinCell, empty_state}
 use Rattle.sketches.specs.Inputs.{AreRead}
-use Rattle.sketches.specs.Items.{part_of}
-use Rattle.sketches.specs.Reading.{AreFirstLines}
+use Rattle.sketches.specs.Reading.{AreFirstRecords}
+use Rattle.sketches.specs.RecordParts.{part_in, records_by, splits_by}
+use Rattle.sketches.specs.TextEscapes.{text_escaped}
 use Rattle.sketches.specs.Unseen.{hashed}
 use Rattle.sketches.specs.Weighed.{Weighed, total_of, weight_of, without_weight}
-use Rattle.sketches.specs.Weights.{weight_in}
-use Rattle.sketches.specs.declared.item_weigher.WeighedLine.{WeighedLine}
-use Rattle.sketches.specs.declared.selection.Part.{Part}
+use Rattle.sketches.specs.Weights.{number_in}
+use Rattle.sketches.specs.declared.item_weigher.WeighedRecord.{WeighedRecord}
+use Rattle.sketches.specs.declared.record_parts.RecordPart.{RecordPart}
 use Rattle.sketches.specs.declared.weigh.WeighOptions.{WeighOptions}
 
--- the weight of a line: 1 if no part has it
-abbrev pub weight_on : Option Part → List ℕ → Option ℕ
-weight_on None line = Some 1
-weight_on (Some part) line = weight_in part line
+-- the weight of a record: 1, or the number below 2^64 that a part spells, if the record has this part and it spells one
+abbrev pub weight_on : Option RecordPart → List ℕ → Option ℕ
+weight_on None row = Some 1
+weight_on (Some part) row = option_and_then number_in (slice_get (part_in part row) 0)
 
 -- the items with a weight, if there is one
 abbrev pub weigh : List (List ℕ) → Option ℕ → Weighed
 weigh items None = []
 weigh items (Some weight) = map (λ item. (item, weight)) items
 
--- the item of a line of bytes with its weight, if the line has both
-abbrev pub weighed_line : WeighedLine → List ℕ → Weighed
-weighed_line chosen line = weigh (part_of chosen.item line) (weight_on chosen.weight line)
+-- the item of a record with its weight, if the record has both
+abbrev pub weighed_line : WeighedRecord → List ℕ → Weighed
+weighed_line chosen row = weigh (part_in chosen.item row) (weight_on chosen.weight row)
 
--- the item of a line of bytes that has no weight
-abbrev pub unweighed_line : WeighedLine → List ℕ → List (List ℕ)
-unweighed_line chosen line = without_weight (part_of chosen.item line) (weight_on chosen.weight line)
+-- the item of a record that has no weight
+abbrev pub unweighed_line : WeighedRecord → List ℕ → List (List ℕ)
+unweighed_line chosen row = without_weight (part_in chosen.item row) (weight_on chosen.weight row)
 
--- the items of lines with their weights, and those without
-abbrev pub weighed_lines : WeighedLine → List (List ℕ) → Weighed
+-- the items of records with their weights, and those without
+abbrev pub weighed_lines : WeighedRecord → List (List ℕ) → Weighed
 weighed_lines chosen all = flat_map (weighed_line chosen) all
 
-abbrev pub unweighed_lines : WeighedLine → List (List ℕ) → List (List ℕ)
+abbrev pub unweighed_lines : WeighedRecord → List (List ℕ) → List (List ℕ)
 unweighed_lines chosen all = flat_map (unweighed_line chosen) all
 
--- the items of inputs with their weights, and those without: those of each line of each input
-abbrev pub weighed_in : WeighedLine → List (List ℕ) → Weighed
-weighed_in chosen inputs = weighed_lines chosen (flat_map lines inputs)
+-- the items of inputs with their weights, and those without: those of each record of each input
+abbrev pub weighed_in : WeighedRecord → List (List ℕ) → Weighed
+weighed_in chosen inputs = weighed_lines chosen (flat_map (records_by chosen.item) inputs)
 
-abbrev pub unweighed_in : WeighedLine → List (List ℕ) → List (List ℕ)
-unweighed_in chosen inputs = unweighed_lines chosen (flat_map lines inputs)
+abbrev pub unweighed_in : WeighedRecord → List (List ℕ) → List (List ℕ)
+unweighed_in chosen inputs = unweighed_lines chosen (flat_map (records_by chosen.item) inputs)
 
--- the parts of the lines of bytes
-abbrev pub parts_in : Part → List ℕ → List (List ℕ)
-parts_in part bytes = flat_map (part_of part) (lines bytes)
+-- the parts of the records of an input
+abbrev pub parts_in : RecordPart → List ℕ → List (List ℕ)
+parts_in part bytes = flat_map (part_in part) (records_by part bytes)
 
 -- the weight of all items in the bucket of a key, in a row
 abbrev pub bucket_weight : (buckets seed : ℕ) → Weighed → List ℕ → ℕ → ℕ
@@ -74,8 +75,8 @@ pub record CountsWeighed (old : CountState) (items : Weighed) (new : CountState)
   pub total : new.total ≡ old.total + total_of items
   pub stands : Extends old new (λ h. each_updated h (map counted items))
 
--- the items of lines were added with their weights, and each line with an item has a weight
-abbrev pub CountsLines : WeighedLine → CountState → List (List ℕ) → CountState → Type 0
+-- the items of records were added with their weights, and each record with an item has a weight
+abbrev pub CountsLines : WeighedRecord → CountState → List (List ℕ) → CountState → Type 0
 CountsLines chosen old all new = CountsWeighed old (weighed_lines chosen all) new × (unweighed_lines chosen all ≡ [])
 
 -- the seed of the sketch, for a seed that is wanted: the seeds of the published formats have a hash that is not 0
@@ -103,20 +104,20 @@ pub record IsEmptyTable (parts questions seed : ℕ) (s : CountState) : Type 0 w
 abbrev pub Row : Type 0
 Row = ℕ × List ℕ
 
--- the line of a key: its number, a tab and the key
-abbrev pub row_line : Row → List ℕ
-row_line row = decimal row.0 ++ codes "\t" ++ row.1 ++ codes "\n"
+-- the line of a key: its number, a tab and the key, which may be escaped
+abbrev pub row_line : (escaped : Bool) → Row → List ℕ
+row_line escaped row = decimal row.0 ++ codes "\t" ++ (if escaped then text_escaped row.1 else row.1) ++ codes "\n"
 
 -- the first line, if it is wanted: the total weight
 abbrev pub total_line : Bool → ℕ → List ℕ
 total_line wanted total = if wanted then codes "# total " ++ decimal total ++ codes "\n" else []
 
 -- The lines of these keys were written, in order, each with the estimate of a sketch.
-pub record WritesEstimates (s : CountState) (keys : List (List ℕ)) (held holds : Option (List ℕ)) : Type 0 where
+pub record WritesEstimates (escaped : Bool) (s : CountState) (keys : List (List ℕ)) (held holds : Option (List ℕ)) : Type 0 where
   pub rows : List Row
   pub keys_are : map (λ row. row.1) rows ≡ keys
   pub estimates : All (λ row. IsMinCell s (hashed row.1) (pos row.0)) rows
-  pub wrote : Appends held holds (flat_map row_line rows)
+  pub wrote : Appends held holds (flat_map (row_line escaped) rows)
 
 -- The number is at least the weight of the key, and at most the total of all weights. It is the least, over the rows, of the weight
 -- of all items in the key's bucket. So it is exact if some row has no other item in that bucket.
@@ -127,12 +128,12 @@ pub record IsWeightOf (hashes buckets seed : ℕ) (items : Weighed) (row : Row) 
   pub reached : (r : ℕ) × (r < hashes) × (row.0 ≡ bucket_weight buckets seed items row.1 r)
 
 -- The writer received the total weight of what was read of the inputs, and a line for each key of what was read of the file of keys,
--- in its order. Each line of the inputs with an item has a weight. No read of the file failed if `failure` is none.
+-- in its order. Each record of the inputs with an item has a weight. No read of the file failed if `failure` is none.
 pub record WritesWeights {E : Type 0} (options : WeighOptions) (inputs : List (List ℕ)) (complete : Bool) (keys : List ℕ) (failure : Option E) (held holds : Option (List ℕ)) : Type 0 where
   pub read : List (List ℕ)
-  pub are : AreRead complete inputs read
+  pub are : AreRead (splits_by options.chosen.item) complete inputs read
   pub read_keys : List ℕ
-  pub front : AreFirstLines keys read_keys
+  pub front : AreFirstRecords (splits_by options.keys_part) keys read_keys
   pub whole : failure ≡ None → read_keys ≡ keys
   pub hashes : ℕ
   pub buckets : ℕ
@@ -143,4 +144,4 @@ pub record WritesWeights {E : Type 0} (options : WeighOptions) (inputs : List (L
   pub weights : All (IsWeightOf hashes buckets (usable_seed options.seed) (weighed_in options.chosen read)) rows
   pub wrote :
       Appends held holds
-      (total_line options.header (total_of (weighed_in options.chosen read)) ++ flat_map row_line rows)
+      (total_line options.header (total_of (weighed_in options.chosen read)) ++ flat_map (row_line options.escaped) rows)

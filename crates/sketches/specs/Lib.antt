@@ -19,6 +19,7 @@ pub mod KeyWeights
 pub mod Keys
 pub mod RawLines
 pub mod Reading
+pub mod RecordParts
 pub mod Reports
 pub mod SaveFailures
 pub mod Shown

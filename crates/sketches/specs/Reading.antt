@@ -24,9 +24,6 @@ AreWholeRecords (Csv delimiter) bytes = 0 < length bytes → EndsRecord delimite
 abbrev pub AreFirstRecords : Records → List ℕ → List ℕ → Type 0
 AreFirstRecords records bytes read = (rest : List ℕ) × (bytes ≡ read ++ rest) × (0 < length rest → AreWholeRecords records read)
 
-abbrev pub AreFirstLines : List ℕ → List ℕ → Type 0
-AreFirstLines bytes read = AreFirstRecords Lines bytes read
-
 -- none of these bytes is a line feed
 abbrev pub IsInOneLine : List ℕ → Type 0
 IsInOneLine bytes = All (λ byte. separates LineFeed byte ≡ false) bytes
@@ -52,9 +49,6 @@ HasLongRecord records limit bytes =
     (before line after : List ℕ) × (bytes ≡ before ++ (line ++ after)) × AreWholeRecords records before × (limit ≤ length line)
     × IsInOne records Start line
 
-abbrev pub HasLongLine : ℕ → List ℕ → Type 0
-HasLongLine limit bytes = HasLongRecord Lines limit bytes
-
 -- a read put bytes after the first `held` ones of the buffer, was interrupted, or failed. If it put none, the input is at its end
 abbrev pub Fills : {E : Type 0} → Option (List ℕ) → Option (List ℕ) → ℕ → List ℕ → List ℕ → Result (Option ℕ) E → Type 0
 Fills was is held old new result =
@@ -66,8 +60,8 @@ Fills was is held old new result =
 -- `takes old bytes new`: the bytes of records were taken between two states
 module _ (records : Records) {S : Type 0} (takes : S → List ℕ → S → Type 0) where
   -- the records of an input were taken. If a read failed, they are the records that were read whole before
-  abbrev pub TakesInputBy : {E : Type 0} → Option (List ℕ) → Option E → (old new : S) → Type 0
-  TakesInputBy input failure old new =
+  abbrev pub TakesInput : {E : Type 0} → Option (List ℕ) → Option E → (old new : S) → Type 0
+  TakesInput input failure old new =
       IfSome input (λ bytes. MatchOption failure (takes old bytes new)
       (λ _. (read : List ℕ) × AreFirstRecords records bytes read × takes old read new))
 
@@ -97,13 +91,6 @@ module _ (records : Records) {S : Type 0} (fails : S → List ℕ → Failure �
     pub known : IfSome input (λ bytes. fails old bytes failure)
 
   -- no memory, a record of at least `limit` bytes, or a failure while records are taken
-  abbrev pub FailsInputBy : ℕ → Option (List ℕ) → S → Failure → Type 0
-  FailsInputBy limit input old failure =
+  abbrev pub FailsInput : ℕ → Option (List ℕ) → S → Failure → Type 0
+  FailsInput limit input old failure =
       (failure ≡ Memory) ⊎ (((failure ≡ LineTooLong) × IfSome input (HasLongRecord records limit)) ⊎ FailsTaking input old failure)
-
--- the same of lines
-abbrev pub TakesInput : {S E : Type 0} → (S → List ℕ → S → Type 0) → Option (List ℕ) → Option E → (old new : S) → Type 0
-TakesInput takes input failure old new = TakesInputBy Lines takes input failure old new
-
-abbrev pub FailsInput : {S : Type 0} → (S → List ℕ → Failure → Type 0) → ℕ → Option (List ℕ) → S → Failure → Type 0
-FailsInput fails limit input old failure = FailsInputBy Lines fails limit input old failure

@@ -13,7 +13,7 @@ use Rattle.sketch_frequencies.specs.State.{capacity}
 use Rattle.sketch_frequencies.specs.SuggestedSizes.{usual_budget}
 use Rattle.sketch_frequencies.specs.declared.error_type.ErrorType.TheVariants.{NoFalseNegatives}
 use Rattle.sketches.specs.Added.{Sketch}
-use Rattle.sketches.specs.Inputs.{AreReadBy}
+use Rattle.sketches.specs.Inputs.{AreRead}
 use Rattle.sketches.specs.Json.{json_escaped}
 use Rattle.sketches.specs.TextEscapes.{text_escaped}
 use Rattle.sketches.specs.Thresholds.{IsAbove}
@@ -108,7 +108,7 @@ pub record ShowsTop (s : Sketch) (layout : Layout) (threshold : Threshold) (coun
 -- wanted, the error is 0. The summary has the number of these records that are not UTF-8.
 abbrev pub WritesReport : Options → Option (List (List ℕ)) → Summary → Option (List ℕ) → Option (List ℕ) → Type 0
 WritesReport options inputs summary held holds = IfSome inputs (λ all.
-    (read : List (List ℕ)) × (error : ℕ) × (rows : List Row) × AreReadBy (splits_of options.weighing) summary.complete all read
+    (read : List (List ℕ)) × (error : ℕ) × (rows : List Row) × AreRead (splits_of options.weighing) summary.complete all read
     × (summary.not_utf8 ≡ min (not_utf8_in (flat_map (records_of options.weighing) read)) (2 ^ 64 - 1))
     × (flat_map (unweighed_of options.weighing) read ≡ [])
     × Appends held holds (report_text options.layout error (total_of (flat_map (weighed_of options.weighing) read)) rows)

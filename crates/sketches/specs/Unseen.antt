@@ -1,19 +1,17 @@
--- The lines whose items were not seen before.
+-- The records whose items were not seen before.
 use Rattle.std.specs.Prelude.{◌≡◌, ℕ, Bool, false, not, List, [], ◌∷◌, ◌++◌, map, Option, Contains, if◌then◌else◌}
 use Rattle.std.specs.Hash as fed
 use Rattle.std.specs.Io.KnownBytes.{Appends}
 use Rattle.std.specs.List.{flat_map, list_any}
-use Rattle.std.specs.Str.Lines.{lines}
 use Rattle.sketch_base.specs.Hashes.{fed_bytes}
 use Rattle.sketch_bloom.specs.State.{FilterState, all_inserted, contains_item}
 use Rattle.sketches.specs.Inputs.{AreRead}
-use Rattle.sketches.specs.Items.{part_of}
-use Rattle.sketches.specs.RawLines.{raw_lines}
-use Rattle.sketches.specs.declared.selection.Part.{Part}
+use Rattle.sketches.specs.RecordParts.{part_in, raws_by, records_by, splits_by}
+use Rattle.sketches.specs.declared.record_parts.RecordPart.{RecordPart}
 
--- the item of a line with its end: a part of the line without it, if the line has this part
-abbrev pub item_of : Part → List ℕ → List (List ℕ)
-item_of part raw = flat_map (part_of part) (lines raw)
+-- the item of a record with its end: a part of the record without it, if the record has this part
+abbrev pub item_of : RecordPart → List ℕ → List (List ℕ)
+item_of part raw = flat_map (part_in part) (records_by part raw)
 
 -- what the filter hashes of an item: its bytes, and a last byte that no UTF-8 has
 abbrev pub hashed : List ℕ → List ℕ
@@ -27,47 +25,47 @@ is_seen filter items = list_any (λ item. contains_item filter (hashed item)) it
 abbrev pub with_items : FilterState → List (List ℕ) → FilterState
 with_items filter items = all_inserted filter (map hashed items)
 
--- the filter after the items of lines
-abbrev pub with_lines : Part → FilterState → List (List ℕ) → FilterState
+-- the filter after the items of records
+abbrev pub with_lines : RecordPart → FilterState → List (List ℕ) → FilterState
 with_lines part filter raws = with_items filter (flat_map (item_of part) raws)
 
--- whether a line is written: if the filter contains its item and `wanted` is true, or it does not and `wanted` is false
+-- whether a record is written: if the filter contains its item and `wanted` is true, or it does not and `wanted` is false
 abbrev pub is_written : Bool → Bool → Bool
 is_written wanted seen = if wanted then seen else not seen
 
--- what is written of a line
+-- what is written of a record
 abbrev pub written_of : Bool → Bool → List ℕ → List ℕ
 written_of wanted seen raw = if is_written wanted seen then raw else []
 
--- what is written of lines, given for each whether the filter contains its item
+-- what is written of records, given for each whether the filter contains its item
 abbrev pub written_by : Bool → List Bool → List (List ℕ) → List ℕ
 written_by wanted (seen ∷ seens) (raw ∷ raws) = written_of wanted seen raw ++ written_by wanted seens raws
 written_by wanted _ _ = []
 
--- the first lines of bytes and the bytes after them. Each of these lines has an item
-pub record AreNextLines (part : Part) (bytes rest : List ℕ) (raws items : List (List ℕ)) : Type 0 where
-  pub parts : raw_lines bytes ≡ raws ++ raw_lines rest
+-- the first records of bytes and the bytes after them. Each of these records has an item
+pub record AreNextLines (part : RecordPart) (bytes rest : List ℕ) (raws items : List (List ℕ)) : Type 0 where
+  pub parts : raws_by part bytes ≡ raws ++ raws_by part rest
   pub items_are : map (item_of part) raws ≡ map (λ item. item ∷ []) items
 
--- the lines that are written, with their ends: for each line, the filter has taken the items of all lines before it
-abbrev pub unseen_lines : Bool → Part → FilterState → List (List ℕ) → List ℕ
+-- the records that are written, with their ends: for each record, the filter has taken the items of all records before it
+abbrev pub unseen_lines : Bool → RecordPart → FilterState → List (List ℕ) → List ℕ
 unseen_lines repeated part filter [] = []
 unseen_lines repeated part filter (raw ∷ later) =
     written_of repeated (is_seen filter (item_of part raw)) raw
     ++ unseen_lines repeated part (with_items filter (item_of part raw)) later
 
--- a line whose item is not seen is the first with its item
-abbrev pub AreFirst : Part → FilterState → List (List ℕ) → Type 0
+-- a record whose item is not seen is the first with its item
+abbrev pub AreFirst : RecordPart → FilterState → List (List ℕ) → Type 0
 AreFirst part filter raws =
     (before after : List (List ℕ)) (raw item : List ℕ) → raws ≡ before ++ raw ∷ after →
     is_seen (with_lines part filter before) (item_of part raw) ≡ false →
     Contains (item_of part raw) item → Contains (flat_map (item_of part) before) item → ⊥
 
--- The writer received the lines of what was read of each input whose items were not seen before, or, with `repeated`, the others.
--- The filter has taken the items of all lines that were read.
-pub record WritesUnseen (repeated : Bool) (part : Part) (filter filter' : FilterState) (inputs : List (List ℕ)) (complete : Bool) (held holds : Option (List ℕ)) : Type 0 where
+-- The writer received a header, and then the records of what was read of each input whose items were not seen before, or, with
+-- `repeated`, the others. The filter has taken the items of all records that were read.
+pub record WritesUnseen (repeated : Bool) (part : RecordPart) (header : List ℕ) (filter filter' : FilterState) (inputs : List (List ℕ)) (complete : Bool) (held holds : Option (List ℕ)) : Type 0 where
   pub read : List (List ℕ)
-  pub are : AreRead complete inputs read
-  pub written : Appends held holds (unseen_lines repeated part filter (flat_map raw_lines read))
-  pub first : AreFirst part filter (flat_map raw_lines read)
-  pub kept : filter' ≡ with_lines part filter (flat_map raw_lines read)
+  pub are : AreRead (splits_by part) complete inputs read
+  pub written : Appends held holds (header ++ unseen_lines repeated part filter (flat_map (raws_by part) read))
+  pub first : AreFirst part filter (flat_map (raws_by part) read)
+  pub kept : filter' ≡ with_lines part filter (flat_map (raws_by part) read)

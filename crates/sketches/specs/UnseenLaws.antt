@@ -1,4 +1,4 @@
--- The laws of lines with their ends, and of the lines that are written.
+-- The laws of records with their ends, and of the records that are written.
 use Rattle.std.proofs.Common.{◌≡◌, ℕ, ◌+◌, ◌-◌, ◌<◌, Bool, true, false, cond, eqb, List, [], ◌∷◌, ◌++◌, length, get_or, map, take, drop, Option, None, Some, append_assoc, append-nil, refl, sym, ◌∙◌, ap, subst, arith, length-append}
 use Rattle.std.proofs.lemmas.List.{drop_more, drop_all, take-append-drop, map-append}
 use Rattle.std.proofs.lemmas.List.Concat.{flat_map-append}
@@ -6,11 +6,16 @@ use Rattle.std.proofs.lemmas.List.Splits.{length-slice_split}
 use Rattle.std.specs.Io.KnownBytes.{Appends}
 use Rattle.std.specs.List.{flat_map, onto_first, slice_split}
 use Rattle.std.specs.Prelude.{if◌then◌else◌}
+use Rattle.sketch_base.proofs.CsvBoth.{raw_csv_both}
 use Rattle.sketch_bloom.specs.State.{FilterState, all_inserted, inserted}
 use Rattle.sketches.specs.RawLines.{raw_lines, raw_lines_of_parts}
-use Rattle.sketches.specs.Reading.{AreWholeLines}
+use Rattle.sketches.specs.Reading.{AreWholeLines, AreWholeRecords}
+use Rattle.sketches.specs.RecordParts.{raw_records_in, raws_by, splits_by}
 use Rattle.sketches.specs.Unseen.{hashed, is_seen, is_written, item_of, unseen_lines, with_items, with_lines}
-use Rattle.sketches.specs.declared.selection.Part.{Part}
+use Rattle.sketches.specs.declared.record_parts.RecordPart.{RecordPart}
+use Rattle.sketches.specs.declared.record_parts.RecordPart.TheVariants as part
+use Rattle.sketches.specs.declared.records.Records.{Records}
+use Rattle.sketches.specs.declared.records.Records.TheVariants as records
 
 abbrev is_feed : ℕ → Bool
 is_feed byte = eqb byte 10
@@ -61,6 +66,16 @@ raw_both (x ∷ xs) ys whole =
     ∙ (raw_after_feed front ys
     ∙ ap (λ l. l ++ raw_lines ys) (sym (ap raw_lines e ∙ (raw_after_feed front [] ∙ append-nil (map with_feed (slice_split is_feed front)))))))
 
+-- the records of whole records and of the bytes after them
+pub raw_records_both : (split : Records) (xs ys : List ℕ) → AreWholeRecords split xs → raw_records_in split (xs ++ ys) ≡ raw_records_in split xs ++ raw_records_in split ys
+raw_records_both records.Lines xs ys whole = raw_both xs ys whole
+raw_records_both (records.Csv delimiter) [] ys whole = refl
+raw_records_both (records.Csv delimiter) (x ∷ xs) ys whole = raw_csv_both delimiter (x ∷ xs) ys (whole (omega arith))
+
+pub raws_none : (chosen : RecordPart) → raws_by chosen [] ≡ []
+raws_none (part.Line chosen) = refl
+raws_none (part.Csv field) = refl
+
 -- ---- the filter, and what is written
 
 inserted_both : (filter : FilterState) (xs ys : List (List ℕ)) → all_inserted filter (xs ++ ys) ≡ all_inserted (all_inserted filter xs) ys
@@ -70,10 +85,10 @@ inserted_both filter (x ∷ xs) ys = inserted_both (inserted filter x) xs ys
 pub items_both : (filter : FilterState) (xs ys : List (List ℕ)) → with_items filter (xs ++ ys) ≡ with_items (with_items filter xs) ys
 items_both filter xs ys = ap (all_inserted filter) (map-append hashed xs ys) ∙ inserted_both filter (map hashed xs) (map hashed ys)
 
-pub with_both : (part : Part) (filter : FilterState) (xs ys : List (List ℕ)) → with_lines part filter (xs ++ ys) ≡ with_lines part (with_lines part filter xs) ys
+pub with_both : (part : RecordPart) (filter : FilterState) (xs ys : List (List ℕ)) → with_lines part filter (xs ++ ys) ≡ with_lines part (with_lines part filter xs) ys
 with_both part filter xs ys = ap (with_items filter) (flat_map-append (item_of part) xs ys) ∙ items_both filter (flat_map (item_of part) xs) (flat_map (item_of part) ys)
 
-pub unseen_both : (repeated : Bool) (part : Part) (filter : FilterState) (xs ys : List (List ℕ)) → unseen_lines repeated part filter (xs ++ ys) ≡ unseen_lines repeated part filter xs ++ unseen_lines repeated part (with_lines part filter xs) ys
+pub unseen_both : (repeated : Bool) (part : RecordPart) (filter : FilterState) (xs ys : List (List ℕ)) → unseen_lines repeated part filter (xs ++ ys) ≡ unseen_lines repeated part filter xs ++ unseen_lines repeated part (with_lines part filter xs) ys
 unseen_both repeated part filter [] ys = refl
 unseen_both repeated part filter (raw ∷ xs) ys =
     let mid : FilterState = with_items filter (item_of part raw) in
@@ -91,42 +106,44 @@ appends_both (Some a) None c xs ys first second = absurd first
 appends_both (Some a) (Some b) None xs ys first second = second
 appends_both (Some a) (Some b) (Some c) xs ys first second = second ∙ (ap (λ l. l ++ ys) first ∙ append_assoc a xs ys)
 
--- ---- the laws of a sink that writes unseen lines
+-- ---- the laws of a sink that writes unseen records
 
-pub takes_nothing : (filter : FilterState) (part : Part) (repeated : Bool) (held : Option (List ℕ))
-    → (filter ≡ with_lines part filter []) × Appends held held (unseen_lines repeated part filter []) × (part ≡ part) × (repeated ≡ repeated)
-takes_nothing filter part repeated held = (refl, appends_none held, refl, refl)
-
--- what the sink does with lines
-abbrev TakesUnseen : (repeated : Bool) (part : Part) (filter filter' : FilterState) (held holds : Option (List ℕ)) → List ℕ → (part' : Part) (repeated' : Bool) → Type 0
+-- what the sink does with records
+abbrev TakesUnseen : (repeated : Bool) (part : RecordPart) (filter filter' : FilterState) (held holds : Option (List ℕ)) → List ℕ → (part' : RecordPart) (repeated' : Bool) → Type 0
 TakesUnseen repeated part filter filter' held holds bytes part' repeated' =
-    (filter' ≡ with_lines part filter (raw_lines bytes)) × Appends held holds (unseen_lines repeated part filter (raw_lines bytes)) × (part' ≡ part) × (repeated' ≡ repeated)
+    (filter' ≡ with_lines part filter (raws_by part bytes)) × Appends held holds (unseen_lines repeated part filter (raws_by part bytes)) × (part' ≡ part) × (repeated' ≡ repeated)
 
-pub takes_lines : (xs ys : List ℕ) → AreWholeLines xs → (r : Bool) (p : Part) (r' : Bool) (p' : Part) (r'' : Bool) (p'' : Part) (a b c : FilterState) (held mid holds : Option (List ℕ))
+pub takes_nothing : (filter : FilterState) (part : RecordPart) (repeated : Bool) (held : Option (List ℕ))
+    → TakesUnseen repeated part filter filter held held [] part repeated
+takes_nothing filter part repeated held = rw (raws_none part) (refl, appends_none held, refl, refl)
+
+pub takes_lines : (xs ys : List ℕ) (r : Bool) (p : RecordPart) → AreWholeRecords (splits_by p) xs → (r' : Bool) (p' : RecordPart) (r'' : Bool) (p'' : RecordPart) (a b c : FilterState) (held mid holds : Option (List ℕ))
     → TakesUnseen r p a b held mid xs p' r' → TakesUnseen r' p' b c mid holds ys p'' r'' → TakesUnseen r p a c held holds (xs ++ ys) p'' r''
-takes_lines xs ys whole r p r' p' r'' p'' a b c held mid holds (filter, text, same_part, same_repeated) (filter', text', same_part', same_repeated') =
-    let both : raw_lines (xs ++ ys) ≡ raw_lines xs ++ raw_lines ys = raw_both xs ys whole in
-    let later : c ≡ with_lines p (with_lines p a (raw_lines xs)) (raw_lines ys) = filter' ∙ (ap (λ (q : Part). with_lines q b (raw_lines ys)) same_part ∙ ap (λ (s : FilterState). with_lines p s (raw_lines ys)) filter) in
-    let more : unseen_lines r' p' b (raw_lines ys) ≡ unseen_lines r p (with_lines p a (raw_lines xs)) (raw_lines ys) =
-    ap (λ (q : Bool). unseen_lines q p' b (raw_lines ys)) same_repeated ∙ (ap (λ (q : Part). unseen_lines r q b (raw_lines ys)) same_part ∙ ap (λ (s : FilterState). unseen_lines r p s (raw_lines ys)) filter) in (
-      later ∙ sym (ap (with_lines p a) both ∙ with_both p a (raw_lines xs) (raw_lines ys)),
-      subst (Appends held holds) (ap (λ l. unseen_lines r p a (raw_lines xs) ++ l) more ∙ sym (ap (unseen_lines r p a) both ∙ unseen_both r p a (raw_lines xs) (raw_lines ys)))
+takes_lines xs ys r p whole r' p' r'' p'' a b c held mid holds (filter, text, same_part, same_repeated) (filter', text', same_part', same_repeated') =
+    let here : List (List ℕ) = raws_by p xs in
+    let there : List (List ℕ) = raws_by p ys in
+    let both : raws_by p (xs ++ ys) ≡ here ++ there = raw_records_both (splits_by p) xs ys whole in
+    let later : c ≡ with_lines p (with_lines p a here) there = filter' ∙ (ap (λ (q : RecordPart). with_lines q b (raws_by q ys)) same_part ∙ ap (λ (s : FilterState). with_lines p s there) filter) in
+    let more : unseen_lines r' p' b (raws_by p' ys) ≡ unseen_lines r p (with_lines p a here) there =
+    ap (λ (q : Bool). unseen_lines q p' b (raws_by p' ys)) same_repeated ∙ (ap (λ (q : RecordPart). unseen_lines r q b (raws_by q ys)) same_part ∙ ap (λ (s : FilterState). unseen_lines r p s there) filter) in (
+      later ∙ sym (ap (with_lines p a) both ∙ with_both p a here there),
+      subst (Appends held holds) (ap (λ l. unseen_lines r p a here ++ l) more ∙ sym (ap (unseen_lines r p a) both ∙ unseen_both r p a here there))
           (appends_both held mid holds _ _ text text'),
       same_part' ∙ same_part,
       same_repeated' ∙ same_repeated,
     )
 
--- ---- the same of lines that are taken apart
+-- ---- the same of records that are taken apart
 
-pub takes_no_lines : (filter : FilterState) (part : Part) (repeated : Bool) (own : Part) (held : List ℕ)
+pub takes_no_lines : (filter : FilterState) (part : RecordPart) (repeated : Bool) (own : RecordPart) (held : List ℕ)
     → (filter ≡ with_lines part filter []) × (held ≡ held ++ unseen_lines repeated part filter []) × (own ≡ own) × (repeated ≡ repeated)
 takes_no_lines filter part repeated own held = (refl, sym (append-nil held), refl, refl)
 
-abbrev TakesParted : (part : Part) (repeated : Bool) (own : Part) (filter filter' : FilterState) (held holds : List ℕ) → List (List ℕ) → (own' : Part) (repeated' : Bool) → Type 0
+abbrev TakesParted : (part : RecordPart) (repeated : Bool) (own : RecordPart) (filter filter' : FilterState) (held holds : List ℕ) → List (List ℕ) → (own' : RecordPart) (repeated' : Bool) → Type 0
 TakesParted part repeated own filter filter' held holds raws own' repeated' =
     (filter' ≡ with_lines part filter raws) × (holds ≡ held ++ unseen_lines repeated part filter raws) × (own' ≡ own) × (repeated' ≡ repeated)
 
-pub takes_more_lines : (xs ys : List (List ℕ)) (part : Part) (r : Bool) (p : Part) (r' : Bool) (p' : Part) (r'' : Bool) (p'' : Part) (a b c : FilterState) (held mid holds : List ℕ)
+pub takes_more_lines : (xs ys : List (List ℕ)) (part : RecordPart) (r : Bool) (p : RecordPart) (r' : Bool) (p' : RecordPart) (r'' : Bool) (p'' : RecordPart) (a b c : FilterState) (held mid holds : List ℕ)
     → TakesParted part r p a b held mid xs p' r' → TakesParted part r' p' b c mid holds ys p'' r'' → TakesParted part r p a c held holds (xs ++ ys) p'' r''
 takes_more_lines xs ys part r p r' p' r'' p'' a b c held mid holds (filter, text, same_part, same_repeated) (filter', text', same_part', same_repeated') =
     let more : unseen_lines r' part b ys ≡ unseen_lines r part (with_lines part a xs) ys =

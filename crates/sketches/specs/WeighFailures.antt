@@ -2,13 +2,14 @@
 use Rattle.std.specs.Prelude.{◌≡◌, ◌⊎◌, ℕ, ◌+◌, ◌*◌, ◌^◌, ◌<◌, ◌≤◌, List, length, Option, IfSome}
 use Rattle.sketch_countmin.specs.Sizes.{IsETimesWithin}
 use Rattle.sketch_countmin.specs.State.{CountState}
-use Rattle.sketches.specs.Inputs.{HaveLongLine}
-use Rattle.sketches.specs.Reading.{HasLongLine}
+use Rattle.sketches.specs.Inputs.{HaveLongRecord}
+use Rattle.sketches.specs.Reading.{HasLongRecord}
+use Rattle.sketches.specs.RecordParts.{splits_by}
 use Rattle.sketches.specs.KeyWeights.{IsTableFor, unweighed_in, unweighed_lines, weighed_in, weighed_lines}
 use Rattle.sketches.specs.Weighed.{Weighed, total_of}
 use Rattle.sketches.specs.declared.failure.Failure.{Failure}
 use Rattle.sketches.specs.declared.failure.Failure.TheVariants.{Memory, LineTooLong, TooManyItems, BadSize, BadWeight, Write}
-use Rattle.sketches.specs.declared.item_weigher.WeighedLine.{WeighedLine}
+use Rattle.sketches.specs.declared.item_weigher.WeighedRecord.{WeighedRecord}
 use Rattle.sketches.specs.declared.weigh.WeighOptions.{WeighOptions}
 
 -- while items are added with their weights, the memory is exhausted, the total would exceed `u64::MAX`, or an item has no weight
@@ -18,8 +19,8 @@ FailsCounting old items unweighed TooManyItems = 2 ^ 64 ≤ old.total + total_of
 FailsCounting old items unweighed (BadWeight found) = 0 < length unweighed
 FailsCounting old items unweighed _ = ⊥
 
--- why the items of lines are not added
-abbrev pub FailsLines : WeighedLine → CountState → List (List ℕ) → Failure → Type 0
+-- why the items of records are not added
+abbrev pub FailsLines : WeighedRecord → CountState → List (List ℕ) → Failure → Type 0
 FailsLines chosen old all failure = FailsCounting old (weighed_lines chosen all) (unweighed_lines chosen all) failure
 
 -- Memory is exhausted while a table is made, or a table of this size is not allowed: for no parts, for fewer than 2 questions, with
@@ -31,13 +32,14 @@ FailsTable parts questions BadSize =
     ⊎ ((hashes buckets : ℕ) × IsTableFor parts questions hashes buckets × (2 ^ 30 ≤ hashes * buckets))))
 FailsTable parts questions _ = ⊥
 
--- A run that prints the weights of keys ends. Memory may be exhausted at any time, and a write may fail. Otherwise a line of an
--- input or of the file of keys has more bytes than the limit, the total of the inputs is at least 2^64, a line of an input with an
+-- A run that prints the weights of keys ends. Memory may be exhausted at any time, and a write may fail. Otherwise a record of an
+-- input or of the file of keys has more bytes than the limit, the total of the inputs is at least 2^64, a record of an input with an
 -- item has no weight, or a table of this size is not allowed.
 abbrev pub FailsWeigh : WeighOptions → Option (List (List ℕ)) → Option (List ℕ) → Failure → Type 0
 FailsWeigh options was keys Memory = Unit {0}
 FailsWeigh options was keys LineTooLong =
-    IfSome was (HaveLongLine (options.max_line + 1)) ⊎ IfSome keys (HasLongLine (options.max_line + 1))
+    IfSome was (HaveLongRecord (splits_by options.chosen.item) (options.max_line + 1))
+    ⊎ IfSome keys (HasLongRecord (splits_by options.keys_part) (options.max_line + 1))
 FailsWeigh options was keys TooManyItems = IfSome was (λ inputs. 2 ^ 64 ≤ total_of (weighed_in options.chosen inputs))
 FailsWeigh options was keys (BadWeight found) = IfSome was (λ inputs. 0 < length (unweighed_in options.chosen inputs))
 FailsWeigh options was keys BadSize = FailsTable options.parts options.questions BadSize

@@ -1,25 +1,25 @@
-//! Passes lines and their items to a sink, many at once, and writes some of them.
+//! Passes records and their items to a sink, many at once, and writes some of them.
 ghost use Rattle.std.specs.Prelude.{◌≡◌, ◌≤◌, ◌<◌, ◌++◌, IfErr, OnOk, length, take};
 ghost use Rattle.sketch_base.specs.Strings.{strings_at};
-ghost use Rattle.sketches.specs.RawLines.{raw_lines};
+ghost use Rattle.sketches.specs.RecordParts.{raws_by};
 ghost use Rattle.sketches.specs.Unseen.{AreNextLines, written_by};
 
 use crate::batch_sink::BatchSink;
 use crate::failure::Failure;
-use crate::raw_lines::next_line_with_end;
-use crate::raw_parts::raw_part_of;
-use crate::selection::Part;
+use crate::record_parts::{RecordPart, next_record_with_end, whole_part_of};
 use sketch_base::from_utf8;
+use std::alloc::Global;
 
-/// The maximum number of lines that a sink takes at once.
+/// The maximum number of records that a sink takes at once.
 pub const BATCH: usize = 16;
 
-/// Writes the first lines to `raws`, with their ends, and their items to `items`. Returns their number and the bytes after them.
+/// Writes the first records to `raws`, with their ends, and their items to `items`. Returns their number and the bytes after them.
 ///
-/// It stops at a line without an item, at an item that is not UTF-8, and after as many lines as `raws` has elements.
+/// It stops at a record without an item or whose item does not stand in one piece, at an item that is not UTF-8, and after as many
+/// records as `raws` has elements.
 #[inline(always)]
 fn next_lines<'a>(
-    part: Part,
+    part: RecordPart,
     bytes: &'a [u8],
     raws: &mut [&'a [u8]],
     items: &mut [&'a str],
@@ -34,10 +34,10 @@ fn next_lines<'a>(
     let mut rest = bytes;
     let mut count = 0;
     'each: while count < raws.len() {
-        let Some((raw, line, after)) = next_line_with_end(rest) else {
+        let Some((raw, row, after)) = next_record_with_end(part, rest) else {
             return (count, rest);
         };
-        let Some(item) = raw_part_of(part, line) else {
+        let Some(item) = whole_part_of(part, row) else {
             return (count, rest);
         };
         let Ok(text) = from_utf8(item) else {
@@ -51,14 +51,19 @@ fn next_lines<'a>(
     (count, rest)
 }
 
-/// Passes lines to a sink, in order. Lines that have items in UTF-8 are passed many at once.
+/// Passes records to a sink, in order. Records that have items in UTF-8 are passed many at once.
 ///
 /// # Errors
 ///
 /// Returns `Memory` if an allocation fails.
 #[inline(always)]
-pub fn take_batches<S: BatchSink>(sink: &mut S, part: Part, bytes: &[u8]) -> Result<(), Failure>
-    ensures taken { OnOk result (S.takes part sink.old (raw_lines bytes.now) sink.new) }
+pub fn take_batches<S: BatchSink>(
+    alloc: Global,
+    sink: &mut S,
+    part: RecordPart,
+    bytes: &[u8],
+) -> Result<(), Failure>
+    ensures taken { OnOk result (S.takes part sink.old (raws_by part bytes.now) sink.new) }
     ensures failed { IfErr result (λ failure. failure ≡ Failure.Memory) }
 {
     let mut rest = bytes;
@@ -71,15 +76,15 @@ pub fn take_batches<S: BatchSink>(sink: &mut S, part: Part, bytes: &[u8]) -> Res
             rest = after;
             continue;
         }
-        let Some((raw, line, after)) = next_line_with_end(rest) else {
+        let Some((raw, row, after)) = next_record_with_end(part, rest) else {
             return Ok(());
         };
-        sink.take_line(part, raw, line)?;
+        sink.take_record(alloc, part, raw, row)?;
         rest = after;
     }
 }
 
-/// Appends the lines whose answer is `wanted`. Returns the number of other lines.
+/// Appends the records whose answer is `wanted`. Returns the number of other records.
 ///
 /// # Errors
 ///

@@ -116,6 +116,13 @@ pub struct AfterHeader {
     input: Input,
 }
 
+impl AfterHeader {
+    /// Returns the header, if nothing was read after it.
+    pub fn header(&self) -> &[u8] {
+        self.front.get(..self.at).unwrap_or(b"".as_slice())
+    }
+}
+
 impl Read for AfterHeader {
     fn read(&mut self, buf: &mut [u8]) -> io::Result<usize> {
         let rest = self.front.get(self.at..).unwrap_or(b"".as_slice());

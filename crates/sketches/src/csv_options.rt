@@ -1,5 +1,7 @@
-//! Options of the records and fields of CSV.
+//! Options of records and their fields.
+use crate::item_weigher::WeighedRecord;
 use crate::options::field_between;
+use crate::record_parts::RecordPart;
 use crate::selection::{Part, Selection};
 use crate::weighing::{WeighedPart, Weighing};
 use crate::weights::number_of;
@@ -7,7 +9,7 @@ use clap::{Arg, ArgAction, ArgMatches, Command};
 use std::alloc::{AllocError, Global};
 
 /// The message of a delimiter that is not allowed.
-pub const BAD_DELIMITER: &str = "the delimiter must be one character of ASCII";
+const BAD_DELIMITER: &str = "the delimiter must be one character of ASCII";
 
 /// The message of a delimiter of CSV that is not allowed.
 const BAD_CSV_DELIMITER: &str =
@@ -15,13 +17,13 @@ const BAD_CSV_DELIMITER: &str =
 
 /// The message of a field that is not allowed.
 const BAD_FIELD: &str =
-    "--field and --weight must be numbers from 1 to 4294967295, or with --csv names";
+    "--field, --weight and --keys-field must be numbers from 1 to 4294967295, or with --csv names";
 
 /// The message of a delimiter without a field.
-const LONE_DELIMITER: &str = "--delimiter needs --field or --weight";
+const LONE_DELIMITER: &str = "--delimiter needs a field";
 
 /// The message of CSV without a field.
-const NO_FIELD: &str = "--csv needs --field";
+const NO_FIELD: &str = "--csv needs --field, and with --keys also --keys-field";
 
 /// The message of a name without a header.
 const NO_NAMES: &str = "--no-csv-header needs numbers of fields";
@@ -43,7 +45,7 @@ pub struct CsvOptions<'a> {
     pub weight: Option<Column<'a>>,
 }
 
-/// Adds the options that choose a field and a weight of a line or of a record of CSV.
+/// Adds the options that choose a field of a line or of a record of CSV.
 pub fn with_fields<'a>(alloc: Global, command: Command<'a>) -> Result<Command<'a>, AllocError> {
     Ok(
         command
@@ -75,41 +77,45 @@ pub fn with_fields<'a>(alloc: Global, command: Command<'a>) -> Result<Command<'a
                     .action(ArgAction::SetTrue)
                     .requires_arg("csv")?
                     .help("Takes the first record of CSV like the others"),
-            )?
-            .arg(
-                Arg::new(alloc, "weight")
-                    .short('w')
-                    .long("weight")
-                    .value_name("N")
-                    .help("Weighs the item of each line by the whole number in field N"),
             )?,
     )
 }
 
-/// Returns how the options want CSV to be read, or `None` if they want lines.
+/// Adds the option that chooses the weight of a line or of a record of CSV.
+pub fn with_weight<'a>(alloc: Global, command: Command<'a>) -> Result<Command<'a>, AllocError> {
+    Ok(command.arg(
+        Arg::new(alloc, "weight")
+            .short('w')
+            .long("weight")
+            .value_name("N")
+            .help(
+                "Weighs the item of each line by the whole number in field N; with --csv N may be a name",
+            ),
+    )?)
+}
+
+/// Returns how the options want CSV to be read, or `None` if they want lines. `item` and `weight` are the options of columns.
 ///
 /// # Errors
 ///
 /// Returns a message if the options are wrong.
-pub fn csv_options<'a>(matches: &ArgMatches<'a>) -> Result<Option<CsvOptions<'a>>, &'static str> {
+pub fn csv_options<'a>(
+    matches: &ArgMatches<'a>,
+    item: &str,
+    weight: Option<&str>,
+) -> Result<Option<CsvOptions<'a>>, &'static str> {
     if !matches.get_flag("csv") {
         return Ok(None);
     }
     let Some(delimiter) = csv_delimiter_of(matches.get_str("delimiter")) else {
         return Err(BAD_CSV_DELIMITER);
     };
-    let Some(item) = matches.get_str("field") else {
+    let Some(item) = column_at(matches, item)? else {
         return Err(NO_FIELD);
     };
-    let Some(item) = column_of(item) else {
-        return Err(BAD_FIELD);
-    };
-    let weight = match matches.get_str("weight") {
+    let weight = match weight {
+        Some(weight) => column_at(matches, weight)?,
         None => None,
-        Some(text) => match column_of(text) {
-            Some(column) => Some(column),
-            None => return Err(BAD_FIELD),
-        },
     };
     let header = !matches.get_flag("no-csv-header");
     if !header && (is_name(Some(item)) || is_name(weight)) {
@@ -121,6 +127,17 @@ pub fn csv_options<'a>(matches: &ArgMatches<'a>) -> Result<Option<CsvOptions<'a>
         item,
         weight,
     }))
+}
+
+/// Returns the column that an option chooses, if any.
+fn column_at<'a>(matches: &ArgMatches<'a>, name: &str) -> Result<Option<Column<'a>>, &'static str> {
+    let Some(text) = matches.get_str(name) else {
+        return Ok(None);
+    };
+    match column_of(text) {
+        Some(column) => Ok(Some(column)),
+        None => Err(BAD_FIELD),
+    }
 }
 
 /// Returns whether a column is named.
@@ -177,11 +194,11 @@ fn index_of(text: &str) -> Option<u32> {
 ///
 /// Returns a message if the options are wrong.
 pub fn weighing_of(matches: &ArgMatches<'_>) -> Result<Weighing, &'static str> {
+    if has_lone_delimiter(matches) {
+        return Err(LONE_DELIMITER);
+    }
     let item = line_part(matches, "field")?;
     if matches.get_str("weight").is_none() {
-        if matches.get_str("field").is_none() && matches.get_str("delimiter").is_some() {
-            return Err(LONE_DELIMITER);
-        }
         return Ok(Weighing::Once(if matches.get_flag("words") {
             Selection::Words
         } else {
@@ -192,8 +209,40 @@ pub fn weighing_of(matches: &ArgMatches<'_>) -> Result<Weighing, &'static str> {
     Ok(Weighing::Field(WeighedPart { item, weight }))
 }
 
+/// Returns the part of a line that is its item and the part with its weight, as the options choose.
+///
+/// # Errors
+///
+/// Returns a message if the options are wrong.
+pub fn weighed_line(matches: &ArgMatches<'_>) -> Result<WeighedRecord, &'static str> {
+    if has_lone_delimiter(matches) {
+        return Err(LONE_DELIMITER);
+    }
+    let item = line_part(matches, "field")?;
+    let weight = match matches.get_str("weight") {
+        Some(_) => Some(RecordPart::Line(line_part(matches, "weight")?)),
+        None => None,
+    };
+    Ok(WeighedRecord {
+        item: RecordPart::Line(item),
+        weight,
+    })
+}
+
+/// Returns whether a delimiter is given without a field.
+fn has_lone_delimiter(matches: &ArgMatches<'_>) -> bool {
+    matches.get_str("delimiter").is_some()
+        && matches.get_str("field").is_none()
+        && matches.get_str("weight").is_none()
+        && matches.get_str("keys-field").is_none()
+}
+
 /// Returns the part of a line that an option chooses: the whole line without it.
-fn line_part(matches: &ArgMatches<'_>, name: &str) -> Result<Part, &'static str> {
+///
+/// # Errors
+///
+/// Returns a message if the option is wrong.
+pub fn line_part(matches: &ArgMatches<'_>, name: &str) -> Result<Part, &'static str> {
     let Some(text) = matches.get_str(name) else {
         return Ok(Part::Line);
     };

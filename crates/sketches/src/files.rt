@@ -5,6 +5,7 @@ use crate::csv_header::{AfterHeader, Headed};
 use crate::csv_options::{Column, CsvOptions};
 use crate::inputs::Inputs;
 use crate::weighing::CsvPart;
+use std::alloc::AllocError;
 use std::fs::File;
 use std::io;
 use std::io::{Read, Stdin};
@@ -107,6 +108,19 @@ impl<'r, 's, 'n> Files<'r, 's, 'n> {
             limit,
         });
         Some(part)
+    }
+
+    /// Returns the header of the first file that can be read, with its end, if headers are read and no record was. Returns no bytes
+    /// if not. A header without a line feed at its end gets one.
+    pub fn header(&self) -> Result<Vec<u8>, AllocError> {
+        let mut header = Vec::new(self.rt.alloc());
+        if let Some(first) = &self.first {
+            header.extend_from_slice(first.header())?;
+            if header.last().is_some_and(|byte| *byte != b'\n') {
+                header.push(b'\n')?;
+            }
+        }
+        Ok(header)
     }
 
     /// Opens the first file that can be read, and reads its header. Returns `None` if there is none.

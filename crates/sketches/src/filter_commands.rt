@@ -5,21 +5,19 @@ use crate::filter_options::{BAD_FILTER, DEFAULT_ITEMS, has_size, items_for, size
 use crate::filter_size::{percent_of, questions_of};
 use crate::image_commands::end as end_of_images;
 use crate::join::{JoinFailure, JoinOptions, join};
-use crate::keyed_options::{has_lone_delimiter, keys_part_of, reads_input_twice};
+use crate::keyed_options::{open_keys, reads_input_twice};
 use crate::keys::{key_of, seed_of};
 use crate::line_count::count_lines;
-use crate::options::part_of;
+use crate::record_options::weighed_record;
+use crate::record_parts::RecordPart;
 use crate::state_file::{load_state, save_state};
 use crate::uniq::{UniqOptions, uniq, uniq_after};
-use crate::{BAD_DELIMITER, ERROR, STANDARD_INPUT, end, fail, max_line_of, message_of, number_of};
+use crate::{ERROR, STANDARD_INPUT, end, fail, max_line_of, message_of, number_of};
 use clap::ArgMatches;
 use sketch_bloom::BloomFilter;
 
 /// Runs `sketches uniq`. Returns the status.
 pub fn run_uniq(rt: &HostRuntime, matches: &ArgMatches<'_>) -> u8 {
-    let Some(part) = part_of(matches) else {
-        return fail(rt, BAD_DELIMITER);
-    };
     let key = match key_of(rt, matches.get_str("key")) {
         Ok(key) => key,
         Err(fault) => return fail(rt, message_of(fault)),
@@ -27,6 +25,14 @@ pub fn run_uniq(rt: &HostRuntime, matches: &ArgMatches<'_>) -> u8 {
     let names = matches
         .get_strs("files")
         .unwrap_or(STANDARD_INPUT.as_slice());
+    let mut files = Files::new(rt, names);
+    let part = match weighed_record(rt, matches, &mut files) {
+        Ok(chosen) => chosen.item,
+        Err(status) => return status,
+    };
+    let Ok(header) = files.header() else {
+        return fail(rt, "no memory");
+    };
     let state = matches.get_str("state");
     let kept = match kept_filter(rt, state, number_of(matches, "max-bytes")) {
         Ok(kept) => kept,
@@ -37,9 +43,15 @@ pub fn run_uniq(rt: &HostRuntime, matches: &ArgMatches<'_>) -> u8 {
         repeated: matches.get_flag("repeated"),
         max_line: max_line_of(matches),
     };
-    let mut files = Files::new(rt, names);
     let result = match kept {
-        Some(filter) => uniq_after(rt.alloc(), options, filter, &mut files, &mut rt.stdout()),
+        Some(filter) => uniq_after(
+            rt.alloc(),
+            options,
+            filter,
+            &header,
+            &mut files,
+            &mut rt.stdout(),
+        ),
         None => {
             let size = size_of(matches, items_for(size_of_files(rt, names)));
             uniq(
@@ -47,6 +59,7 @@ pub fn run_uniq(rt: &HostRuntime, matches: &ArgMatches<'_>) -> u8 {
                 options,
                 size,
                 seed_of(key),
+                &header,
                 &mut files,
                 &mut rt.stdout(),
             )
@@ -56,7 +69,13 @@ pub fn run_uniq(rt: &HostRuntime, matches: &ArgMatches<'_>) -> u8 {
         Ok(summary) => {
             if !matches.get_flag("no-note") {
                 let what = "new items is taken for a repeated one";
-                note(rt, summary.left_out, &summary.filter, what);
+                note(
+                    rt,
+                    unit_of(matches),
+                    summary.left_out,
+                    &summary.filter,
+                    what,
+                );
             }
             if !is_kept(rt, state, &summary.filter) {
                 return ERROR;
@@ -102,17 +121,23 @@ pub fn run_join(rt: &HostRuntime, matches: &ArgMatches<'_>) -> u8 {
     if reads_input_twice(keys_name, names) {
         return fail(rt, "standard input cannot be both FILE and --keys");
     }
-    if has_lone_delimiter(matches) {
-        return fail(rt, "--delimiter needs --field or --keys-field");
-    }
-    let (Some(part), Some(keys_part)) = (part_of(matches), keys_part_of(matches)) else {
-        return fail(rt, BAD_DELIMITER);
-    };
     let key = match key_of(rt, matches.get_str("key")) {
         Ok(key) => key,
         Err(fault) => return fail(rt, message_of(fault)),
     };
-    let items = match items_of(rt, matches, keys_name) {
+    let (keys_part, mut keys) = match open_keys(rt, matches, keys_name) {
+        Ok(keys) => keys,
+        Err(status) => return status,
+    };
+    let mut files = Files::new(rt, names);
+    let part = match weighed_record(rt, matches, &mut files) {
+        Ok(chosen) => chosen.item,
+        Err(status) => return status,
+    };
+    let Ok(header) = files.header() else {
+        return fail(rt, "no memory");
+    };
+    let items = match items_of(rt, matches, keys_name, keys_part) {
         Ok(items) => items,
         Err(failure) => return end_of_join(rt, failure, keys_name, keys_name),
     };
@@ -124,16 +149,24 @@ pub fn run_join(rt: &HostRuntime, matches: &ArgMatches<'_>) -> u8 {
         seed: seed_of(key),
         max_line: max_line_of(matches),
     };
-    let mut keys = match open(rt, keys_name) {
-        Ok(keys) => keys,
-        Err(error) => return end_of_join(rt, JoinFailure::Unread(error), keys_name, keys_name),
-    };
-    let mut files = Files::new(rt, names);
-    match join(rt.alloc(), options, &mut keys, &mut files, &mut rt.stdout()) {
+    match join(
+        rt.alloc(),
+        options,
+        &mut keys,
+        &header,
+        &mut files,
+        &mut rt.stdout(),
+    ) {
         Ok(summary) => {
             if !matches.get_flag("no-note") {
                 let what = "other items is taken for a key";
-                note(rt, summary.left_out, &summary.filter, what);
+                note(
+                    rt,
+                    unit_of(matches),
+                    summary.left_out,
+                    &summary.filter,
+                    what,
+                );
             }
             u8::from(!summary.complete || files.has_failed())
         }
@@ -141,22 +174,36 @@ pub fn run_join(rt: &HostRuntime, matches: &ArgMatches<'_>) -> u8 {
     }
 }
 
-/// Prints how many lines were left out, how full the filter is, and its rate of false positives, under ideal hashes.
-fn note(rt: &HostRuntime, left_out: u64, filter: &BloomFilter, what: &str) {
+/// Returns the word for what is left out.
+fn unit_of(matches: &ArgMatches<'_>) -> &'static str {
+    if matches.get_flag("csv") {
+        "records"
+    } else {
+        "lines"
+    }
+}
+
+/// Prints how many lines or records were left out, how full the filter is, and its rate of false positives, under ideal hashes.
+fn note(rt: &HostRuntime, unit: &str, left_out: u64, filter: &BloomFilter, what: &str) {
     let _ = eprintln!(rt;
-        "sketches: {left_out} lines left out; the filter is {}% full: about 1 in {} {what}",
+        "sketches: {left_out} {unit} left out; the filter is {}% full: about 1 in {} {what}",
         percent_of(filter),
         questions_of(filter)
     );
 }
 
-/// Returns the number of items that the filter is made for, unless the options name its size: the number of lines of the keys if
+/// Returns the number of items that the filter is made for, unless the options name its size: the number of records of the keys if
 /// their file is regular, at least 1, or else the default number.
 ///
 /// # Errors
 ///
 /// Returns `Unread` if the file cannot be read, and `Keys` with `LineTooLong` and `Memory` as [`join`] does.
-fn items_of(rt: &HostRuntime, matches: &ArgMatches<'_>, name: &str) -> Result<u64, JoinFailure> {
+fn items_of(
+    rt: &HostRuntime,
+    matches: &ArgMatches<'_>,
+    name: &str,
+    part: RecordPart,
+) -> Result<u64, JoinFailure> {
     if has_size(matches) || size_of_file(rt, name).is_none() {
         return Ok(DEFAULT_ITEMS);
     }
@@ -164,7 +211,7 @@ fn items_of(rt: &HostRuntime, matches: &ArgMatches<'_>, name: &str) -> Result<u6
         Ok(keys) => keys,
         Err(error) => return Err(JoinFailure::Unread(error)),
     };
-    let lines = count_lines(rt.alloc(), &mut keys, max_line_of(matches))?;
+    let lines = count_lines(rt.alloc(), part, &mut keys, max_line_of(matches))?;
     Ok(lines.max(1))
 }
 

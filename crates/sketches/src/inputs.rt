@@ -1,7 +1,7 @@
 //! Reads the records of inputs that are opened one after another.
 ghost use Rattle.std.specs.Prelude.{◌≡◌, ℕ, true, List, Option, None, IfErr, IfOk, OnOk};
-ghost use Rattle.sketches.specs.Inputs.{FailsInputsBy, OpensNext, TakesInputsBy};
-ghost use Rattle.sketches.specs.Reading.{FailsInputBy, TakesInputBy};
+ghost use Rattle.sketches.specs.Inputs.{FailsInputs, OpensNext, TakesInputs};
+ghost use Rattle.sketches.specs.Reading.{FailsInput, TakesInput};
 
 use crate::failure::Failure;
 use crate::line_sink::LineSink;
@@ -42,8 +42,8 @@ pub fn read_inputs<I: Inputs, O, S: LineSink<O>>(
     limit: usize,
 ) -> Result<bool, Failure>
     ensures taken { IfOk result (λ complete.
-        TakesInputsBy (S.splits sink.old) S.takes (I.inputs inputs.old) complete (sink.old, output.old) (sink.new, output.new)) }
-    ensures failed { IfErr result (FailsInputsBy (S.splits sink.old) S.takes S.fails limit (I.inputs inputs.old) (sink.old, output.old)) }
+        TakesInputs (S.splits sink.old) S.takes (I.inputs inputs.old) complete (sink.old, output.old) (sink.new, output.new)) }
+    ensures failed { IfErr result (FailsInputs (S.splits sink.old) S.takes S.fails limit (I.inputs inputs.old) (sink.old, output.old)) }
 {
     let mut complete = true;
     'each: for _ in 0..u64::MAX {
@@ -66,9 +66,9 @@ fn read_input<R: Read, O, S: LineSink<O>>(
     limit: usize,
 ) -> Result<Option<io::Error>, Failure>
     ensures taken { IfOk result (λ failure.
-        TakesInputBy (S.splits sink.old) S.takes (R.remaining reader.old) failure (sink.old, output.old) (sink.new, output.new)) }
+        TakesInput (S.splits sink.old) S.takes (R.remaining reader.old) failure (sink.old, output.old) (sink.new, output.new)) }
     ensures same { OnOk result (S.splits sink.new ≡ S.splits sink.old) }
-    ensures failed { IfErr result (FailsInputBy (S.splits sink.old) S.fails limit (R.remaining reader.old) (sink.old, output.old)) }
+    ensures failed { IfErr result (FailsInput (S.splits sink.old) S.fails limit (R.remaining reader.old) (sink.old, output.old)) }
 {
     sink.begin();
     read_lines(alloc, sink, output, reader, buffer, limit)

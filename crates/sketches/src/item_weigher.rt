@@ -1,52 +1,53 @@
-//! Adds the items of lines with their weights to a Count-Min sketch.
-ghost use Rattle.std.specs.Prelude.{◌≡◌, refl, [], ◌∷◌, IfErr, OnOk};
-ghost use Rattle.std.specs.Str.Lines.{lines};
-ghost use Rattle.sketches.specs.KeyWeights.{CountsLines, CountsWeighed, unweighed_line, weighed_line};
+//! Adds the items of records with their weights to a Count-Min sketch.
+ghost use Rattle.std.specs.Prelude.{◌≡◌, Some, [], ◌∷◌, IfErr, IfOk, OnOk};
+ghost use Rattle.sketches.specs.KeyWeights.{CountsLines, CountsWeighed, unweighed_line, weight_on, weighed_line};
+ghost use Rattle.sketches.specs.RecordParts.{records_by};
+ghost use Rattle.sketches.specs.Failures.{IsBadWeight};
 ghost use Rattle.sketches.specs.WeighFailures.{FailsCounting, FailsLines};
 
 use crate::failure::Failure;
 use crate::line_sink::LineSink;
 use crate::raw_item::RawItem;
-use crate::raw_lines::next_raw_line;
-use crate::raw_parts::raw_part_of;
+use crate::record_parts::{RecordPart, next_record, record_part_of};
 use crate::records::Records;
-use crate::selection::Part;
-use crate::weighed_lines::bad_weight;
-use crate::weights::weight_of;
+use crate::weighed_lines::bad_field;
+use crate::weights::number_of;
 use sketch_base::from_utf8;
 use sketch_countmin::CountMinSketch;
-use std::alloc::Global;
+use std::alloc::{AllocError, Global};
 
-/// The part of a line that is its item, and the part with its weight. The weight is 1 if no part has it.
+/// The part of a record that is its item, and the part with its weight. The weight is 1 if no part has it.
 #[derive(Clone, Copy)]
-pub struct WeighedLine {
-    pub item: Part,
-    pub weight: Option<Part>,
+pub struct WeighedRecord {
+    pub item: RecordPart,
+    pub weight: Option<RecordPart>,
 }
 
-/// Adds the items of the lines that it takes, with their weights.
+/// Adds the items of the records that it takes, with their weights.
 #[derive(Drop)]
 pub struct ItemWeigher {
     pub sketch: CountMinSketch<u64>,
-    pub chosen: WeighedLine,
-    /// The number of lines of this input that were taken.
+    pub chosen: WeighedRecord,
+    /// The number of records of this input that were taken.
     pub count: u64,
 }
 
 impl LineSink<()> for ItemWeigher {
-    ghost use Rattle.sketches.specs.declared.records.Records.TheVariants.{Lines};
-    ghost use Rattle.sketches.specs.KeyWeightLaws.{no_lines, counts_both, counts_sooner, counts_later};
+    ghost use Rattle.std.proofs.Common.{ap};
+    ghost use Rattle.sketches.specs.RecordParts.{splits_by};
+    ghost use Rattle.sketches.specs.declared.item_weigher.WeighedRecord.{WeighedRecord};
+    ghost use Rattle.sketches.specs.KeyWeightLaws.{counts_none, counts_both, counts_sooner, counts_later};
 
-    ghost splits = { λ _. Lines };
+    ghost splits = { λ s. splits_by s.chosen.item };
 
-    ghost takes = { λ old bytes new. CountsLines old.0.chosen old.0.sketch (lines bytes) new.0.sketch
+    ghost takes = { λ old bytes new. CountsLines old.0.chosen old.0.sketch (records_by old.0.chosen.item bytes) new.0.sketch
         × (new.0.chosen ≡ old.0.chosen) };
 
-    ghost fails = { λ old bytes failure. FailsLines old.0.chosen old.0.sketch (lines bytes) failure };
+    ghost fails = { λ old bytes failure. FailsLines old.0.chosen old.0.sketch (records_by old.0.chosen.item bytes) failure };
 
-    ghost takes_same = { λ r s xs taken. refl };
+    ghost takes_same = { λ r s xs taken. ap (λ (p : WeighedRecord). splits_by p.item) taken.1 };
 
-    ghost takes_none = { λ s. (no_lines s.0.chosen s.0.sketch, refl) };
+    ghost takes_none = { λ s. counts_none s.0.chosen s.0.sketch };
 
     ghost takes_both = { λ r s t xs ys whole. counts_both r.0.chosen xs ys whole
         r.0.sketch s.0.sketch t.0.sketch s.0.chosen t.0.chosen };
@@ -56,7 +57,7 @@ impl LineSink<()> for ItemWeigher {
     ghost fails_later = { λ r s xs ys e whole. counts_later r.0.chosen xs ys whole r.0.sketch s.0.sketch s.0.chosen e };
 
     fn records(&self) -> Records {
-        Records::Lines
+        self.chosen.item.records()
     }
 
     fn begin(&mut self) {
@@ -68,55 +69,79 @@ impl LineSink<()> for ItemWeigher {
     }
 }
 
-/// Adds the item of each line of bytes with the weight of the line. Increments `count` for each line.
+/// Adds the item of each record of bytes with the weight of the record. Increments `count` for each record.
 ///
 /// # Errors
 ///
-/// Returns `BadWeight` at the first line with an item and without a weight, which has the number `count`. Returns `TooManyItems`
+/// Returns `BadWeight` at the first record with an item and without a weight, which has the number `count`. Returns `TooManyItems`
 /// if the total would exceed `u64::MAX`, and `Memory` if an allocation fails.
 fn add_lines(
     alloc: Global,
     sketch: &mut CountMinSketch<u64>,
-    chosen: WeighedLine,
+    chosen: WeighedRecord,
     bytes: &[u8],
     count: &mut u64,
 ) -> Result<(), Failure>
-    ensures added { OnOk result (CountsLines chosen sketch.old (lines bytes.now) sketch.new) }
-    ensures failed { IfErr result (FailsLines chosen sketch.old (lines bytes.now)) }
+    ensures added { OnOk result (CountsLines chosen sketch.old (records_by chosen.item bytes.now) sketch.new) }
+    ensures failed { IfErr result (FailsLines chosen sketch.old (records_by chosen.item bytes.now)) }
 {
     let mut rest = bytes;
     'each: loop {
-        let Some((line, after)) = next_raw_line(rest) else {
+        let Some((row, after)) = next_record(chosen.item, rest) else {
             return Ok(());
         };
         *count = count.saturating_add(1);
-        add_line(alloc, sketch, chosen, line, *count)?;
+        add_line(alloc, sketch, chosen, row, *count)?;
         rest = after;
     }
 }
 
-/// Adds the item of a line with the weight of the line.
+/// Adds the item of a record with the weight of the record.
 #[inline(always)]
 fn add_line(
     alloc: Global,
     sketch: &mut CountMinSketch<u64>,
-    chosen: WeighedLine,
-    line: &[u8],
+    chosen: WeighedRecord,
+    row: &[u8],
     number: u64,
 ) -> Result<(), Failure>
-    ensures added { OnOk result (CountsWeighed sketch.old (weighed_line chosen line.now) sketch.new × (unweighed_line chosen line.now ≡ [])) }
-    ensures failed { IfErr result (FailsCounting sketch.old (weighed_line chosen line.now) (unweighed_line chosen line.now)) }
+    ensures added { OnOk result (CountsWeighed sketch.old (weighed_line chosen row.now) sketch.new × (unweighed_line chosen row.now ≡ [])) }
+    ensures failed { IfErr result (FailsCounting sketch.old (weighed_line chosen row.now) (unweighed_line chosen row.now)) }
 {
-    let Some(item) = raw_part_of(chosen.item, line) else {
+    let mut text = Vec::new(alloc);
+    let Some(item) = record_part_of(chosen.item, row, &mut text)? else {
         return Ok(());
     };
     let Some(part) = chosen.weight else {
         return add_item(sketch, item, 1);
     };
-    let Some(weight) = weight_of(part, line) else {
-        return Err(bad_weight(alloc, part, line, number));
+    let Some(weight) = weight_of(alloc, part, row)? else {
+        return Err(bad_weight(alloc, part, row, number));
     };
     add_item(sketch, item, weight)
+}
+
+/// Returns the weight in a part of a record, or `None` if the record does not have it or it is not a number below 2^64.
+#[inline(always)]
+fn weight_of(alloc: Global, part: RecordPart, row: &[u8]) -> Result<Option<u64>, AllocError>
+    ensures { IfOk result (λ weight. weight ≡ weight_on (Some part) row.now) }
+{
+    let mut text = Vec::new(alloc);
+    match record_part_of(part, row, &mut text)? {
+        Some(digits) => Ok(number_of(digits)),
+        None => Ok(None),
+    }
+}
+
+/// Returns the error of a record that has no weight in a part.
+fn bad_weight(alloc: Global, part: RecordPart, row: &[u8], number: u64) -> Failure
+    ensures { IsBadWeight result }
+{
+    let mut text = Vec::new(alloc);
+    match record_part_of(part, row, &mut text) {
+        Ok(found) => bad_field(alloc, found.unwrap_or(b"".as_slice()), number),
+        Err(_) => Failure::Memory,
+    }
 }
 
 /// Adds an item with a weight.

@@ -1,4 +1,4 @@
-//! The lines of inputs whose items are in a file of keys.
+//! The records of inputs whose items are in a file of keys.
 ghost use Rattle.std.specs.Prelude.{◌≡◌, IfErr, IfOk, IfSome, IsErrOf};
 ghost use Rattle.sketch_bloom.specs.State.{FilterState};
 ghost use Rattle.sketches.specs.FilterSizes.{HasNoSize, IsFilterOf};
@@ -8,30 +8,31 @@ ghost use Rattle.sketches.specs.Unseen.{with_items};
 
 use crate::failure::Failure;
 use crate::filter_size::{FilterSize, filter_of};
+use crate::header::write_header;
 use crate::inputs::{Inputs, read_inputs};
 use crate::joined::JoinedLines;
 use crate::key_lines::KeyLines;
 use crate::reading::{BLOCK, read_lines};
-use crate::selection::Part;
+use crate::record_parts::RecordPart;
 use sketch_bloom::BloomFilter;
 use std::alloc::Global;
 use std::io;
 use std::io::{Read, Write};
 
-/// Which lines are written, and the filter of the keys.
+/// Which records are written, and the filter of the keys.
 #[derive(Clone, Copy)]
 pub struct JoinOptions {
-    /// The part of a line that is its item.
-    pub part: Part,
-    /// The part of a line of the file of keys that is a key.
-    pub keys_part: Part,
-    /// Whether the lines are written whose items may be keys. If not, the others are written.
+    /// The part of a record that is its item.
+    pub part: RecordPart,
+    /// The part of a record of the file of keys that is a key.
+    pub keys_part: RecordPart,
+    /// Whether the records are written whose items may be keys. If not, the others are written.
     pub wanted: bool,
     /// The size of the filter.
     pub size: FilterSize,
     /// The seed of the filter's hash.
     pub seed: u64,
-    /// The maximum number of bytes of a line before its line feed.
+    /// The maximum number of bytes of a record before its line feed.
     pub max_line: u32,
 }
 
@@ -40,7 +41,7 @@ pub struct JoinOptions {
 pub struct JoinSummary {
     /// Whether no read of an input failed.
     pub complete: bool,
-    /// The number of lines that were not written, at most `u64::MAX`.
+    /// The number of records that were not written, at most `u64::MAX`.
     pub left_out: u64,
     /// The filter of all keys.
     pub filter: BloomFilter,
@@ -53,30 +54,32 @@ pub enum JoinFailure {
     Unread(io::Error),
     /// The filter could not be made, or a key could not be inserted.
     Keys(Failure),
-    /// A line could not be written.
+    /// A record could not be written.
     Lines(Failure),
 }
 
-/// Writes the lines of the inputs whose items may be keys, or, unless `wanted`, the others, which are certainly not keys.
+/// Writes a header, and then the records of the inputs whose items may be keys, or, unless `wanted`, the others, which are certainly
+/// not keys.
 ///
-/// An item may be a key if the filter that has taken all keys contains it. A line without an item is no key. The lines are written
+/// An item may be a key if the filter that has taken all keys contains it. A record without an item is no key. The records are written
 /// as they are read, with their ends.
 ///
 /// # Errors
 ///
 /// Returns `Unread` if a read of the keys fails. Returns `Keys` with `BadSize` if a filter of this size is not allowed, with
-/// `LineTooLong` if a line of the keys exceeds the limit, and with `Memory` if an allocation fails. Then no input is read and nothing
-/// is written, and after `BadSize` no key is read. Returns `Lines` with `LineTooLong` if a line exceeds the limit, with `Memory` if an allocation fails, and with
-/// `Write` if the writer fails. Lines before may have been written.
+/// `LineTooLong` if a record of the keys exceeds the limit, and with `Memory` if an allocation fails. Then no input is read and nothing
+/// is written, and after `BadSize` no key is read. Returns `Lines` with `LineTooLong` if a record exceeds the limit, with `Memory` if
+/// an allocation fails, and with `Write` if the writer fails. Records before may have been written.
 pub fn join<K: Read, I: Inputs, W: Write>(
     alloc: Global,
     options: JoinOptions,
     keys: &mut K,
+    header: &[u8],
     inputs: &mut I,
     writer: &mut W,
 ) -> Result<JoinSummary, JoinFailure>
     ensures written { IfOk result (λ summary. (filter : FilterState) × IsFilterOf options.size options.seed filter
-        × IfSome (K.remaining keys.old) (λ bytes. IfSome (I.inputs inputs.old) (λ all. WritesJoined options.wanted options.part filter
+        × IfSome (K.remaining keys.old) (λ bytes. IfSome (I.inputs inputs.old) (λ all. WritesJoined options.wanted options.part header.now filter
         (keys_of options.keys_part bytes) all summary.complete (W.contents writer.old) (W.contents writer.new)))) }
 
     // When each error comes, and what it leaves unchanged.
@@ -102,6 +105,9 @@ pub fn join<K: Read, I: Inputs, W: Write>(
         left_out: 0,
         written: Vec::new(alloc),
     };
+    if let Err(failure) = write_header(header, writer) {
+        return Err(JoinFailure::Lines(failure));
+    }
     match read_inputs(alloc, &mut lines, writer, inputs, &mut buffer, limit) {
         Ok(complete) => Ok(JoinSummary {
             complete,
@@ -116,18 +122,18 @@ pub fn join<K: Read, I: Inputs, W: Write>(
 ///
 /// # Errors
 ///
-/// Returns `Unread` if a read of the keys fails. Returns `Keys` with `LineTooLong` if a line has at least `limit` bytes, and with
+/// Returns `Unread` if a read of the keys fails. Returns `Keys` with `LineTooLong` if a record has at least `limit` bytes, and with
 /// `Memory` if an allocation fails.
 fn insert_keys<K: Read>(
     alloc: Global,
     filter: BloomFilter,
-    part: Part,
+    part: RecordPart,
     keys: &mut K,
     buffer: &mut Vec<u8>,
     limit: usize,
 ) -> Result<BloomFilter, JoinFailure>
     ensures inserted { IfOk result (λ inserted. IfSome (K.remaining keys.old) (λ bytes. inserted ≡ with_items filter (keys_of part bytes))) }
-    ensures failed { IfErr result (FailsInsertion limit (K.remaining keys.old)) }
+    ensures failed { IfErr result (FailsInsertion part limit (K.remaining keys.old)) }
 {
     let mut lines = KeyLines { filter, part };
     match read_lines(alloc, &mut lines, &mut (), keys, buffer, limit) {

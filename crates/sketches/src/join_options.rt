@@ -1,4 +1,5 @@
 //! The command line of `sketches join`.
+use crate::csv_options::with_fields;
 use crate::filter_options::{no_note, with_size};
 use crate::keyed_options::with_keys;
 use crate::options::{with_files, with_max_line};
@@ -9,19 +10,19 @@ use std::alloc::{AllocError, Global};
 /// Returns the description of `sketches join`.
 pub fn join_command<'a>(alloc: Global) -> Result<Command<'a>, AllocError> {
     let command = Command::new(alloc, "join").about(
-        "Prints the lines whose items may be in a file of keys, in the order of the input",
+        "Prints the lines or records whose items may be in a file of keys, in the order of the input",
     );
-    let command = with_keys(alloc, command)?.arg(
+    let command = with_fields(alloc, with_keys(alloc, command)?)?.arg(
         Arg::new(alloc, "invert-match")
             .short('v')
             .long("invert-match")
             .action(ArgAction::SetTrue)
-            .help("Prints the other lines, whose items are certainly not keys"),
+            .help("Prints the others, whose items are certainly not keys"),
     )?;
     let command = with_size(
         alloc,
         command,
-        "Makes the filter for N keys; by default the number of lines of a regular file of keys, else 10000000",
+        "Makes the filter for N keys; by default the number of lines or records of a regular file of keys, else 10000000",
     )?;
     let command = with_max_line(alloc, command)?
         .arg(key(alloc))?

@@ -1,54 +1,54 @@
-//! Writes the lines whose items a filter contains.
+//! Writes the records whose items a filter contains.
 ghost use Rattle.std.specs.Io.KnownBytes.{Appends};
 ghost use Rattle.std.specs.Prelude.{◌≡◌, ◌≤◌, ◌++◌, IfErr, OnOk, length, map};
 ghost use Rattle.sketch_base.specs.Strings.{strings_at};
 ghost use Rattle.sketch_bloom.specs.State.{contains_item};
 ghost use Rattle.sketches.specs.Joined.{joined_lines};
-ghost use Rattle.sketches.specs.RawLines.{raw_lines};
+ghost use Rattle.sketches.specs.RecordParts.{raws_by};
 ghost use Rattle.sketches.specs.Unseen.{hashed, written_by};
 
 use crate::batch_sink::BatchSink;
 use crate::batches::{BATCH, take_batches, write_batch};
 use crate::failure::Failure;
-use crate::line_items::contains_line;
+use crate::line_items::contains_record;
 use crate::line_sink::LineSink;
+use crate::record_parts::RecordPart;
 use crate::records::Records;
-use crate::selection::Part;
 use sketch_base::Strs;
 use sketch_bloom::BloomFilter;
 use std::alloc::Global;
 use std::io::Write;
 
-/// Writes the lines whose items the filter contains, or, unless `wanted`, the others.
+/// Writes the records whose items the filter contains, or, unless `wanted`, the others.
 #[derive(Drop)]
 pub struct JoinedLines {
     pub filter: BloomFilter,
-    pub part: Part,
+    pub part: RecordPart,
     pub wanted: bool,
-    /// The number of lines that were not written, at most `u64::MAX`.
+    /// The number of records that were not written, at most `u64::MAX`.
     pub left_out: u64,
-    /// The lines that are written next.
+    /// The records that are written next.
     pub written: Vec<u8>,
 }
 
 impl<W: Write> LineSink<W> for JoinedLines {
-    ghost use Rattle.std.specs.Prelude.{refl};
-    ghost use Rattle.sketches.specs.declared.records.Records.TheVariants.{Lines};
+    ghost use Rattle.std.proofs.Common.{ap};
+    ghost use Rattle.sketches.specs.RecordParts.{splits_by};
     ghost use Rattle.sketches.specs.JoinedLaws.{lines_none, lines_both};
     ghost use Rattle.sketches.specs.Failures.{FailsWriting};
 
-    ghost splits = { λ _. Lines };
+    ghost splits = { λ s. splits_by s.part };
 
-    ghost takes = { λ old bytes new. Appends (W.contents old.1) (W.contents new.1) (joined_lines old.0.wanted old.0.part old.0.filter (raw_lines bytes))
+    ghost takes = { λ old bytes new. Appends (W.contents old.1) (W.contents new.1) (joined_lines old.0.wanted old.0.part old.0.filter (raws_by old.0.part bytes))
         × (new.0.filter ≡ old.0.filter) × (new.0.part ≡ old.0.part) × (new.0.wanted ≡ old.0.wanted) };
 
     ghost fails = { λ old bytes failure. FailsWriting failure };
 
-    ghost takes_same = { λ r s xs taken. refl };
+    ghost takes_same = { λ r s xs taken. ap splits_by taken.2 };
 
     ghost takes_none = { λ s. lines_none s.0.wanted s.0.part s.0.filter (W.contents s.1) };
 
-    ghost takes_both = { λ r s t xs ys whole. lines_both xs ys whole r.0.wanted r.0.part s.0.wanted s.0.part t.0.wanted t.0.part
+    ghost takes_both = { λ r s t xs ys whole. lines_both xs ys r.0.wanted r.0.part whole s.0.wanted s.0.part t.0.wanted t.0.part
         r.0.filter s.0.filter t.0.filter (W.contents r.1) (W.contents s.1) (W.contents t.1) };
 
     ghost fails_sooner = { λ r xs ys e whole fails. fails };
@@ -56,13 +56,13 @@ impl<W: Write> LineSink<W> for JoinedLines {
     ghost fails_later = { λ r s xs ys e whole takes fails. fails };
 
     fn records(&self) -> Records {
-        Records::Lines
+        self.part.records()
     }
 
-    fn take(&mut self, _alloc: Global, output: &mut W, bytes: &[u8]) -> Result<(), Failure> {
+    fn take(&mut self, alloc: Global, output: &mut W, bytes: &[u8]) -> Result<(), Failure> {
         self.written.clear();
         let part = self.part;
-        take_batches(self, part, bytes)?;
+        take_batches(alloc, self, part, bytes)?;
         match output.write_all(&self.written) {
             Ok(()) => Ok(()),
             Err(e) => Err(Failure::Write(e)),
@@ -82,15 +82,26 @@ impl BatchSink for JoinedLines {
         r.filter s.filter t.filter r.written.items s.written.items t.written.items };
 
     #[inline(always)]
-    fn take_batch(&mut self, _part: Part, raws: &[&[u8]], items: &[&str]) -> Result<(), Failure> {
+    fn take_batch(
+        &mut self,
+        _part: RecordPart,
+        raws: &[&[u8]],
+        items: &[&str],
+    ) -> Result<(), Failure> {
         let others = join_batch(&self.filter, self.wanted, raws, items, &mut self.written)?;
         self.left_out = self.left_out.saturating_add(others);
         Ok(())
     }
 
     #[inline(always)]
-    fn take_line(&mut self, part: Part, raw: &[u8], line: &[u8]) -> Result<(), Failure> {
-        if contains_line(&self.filter, part, line) == self.wanted {
+    fn take_record(
+        &mut self,
+        alloc: Global,
+        part: RecordPart,
+        raw: &[u8],
+        row: &[u8],
+    ) -> Result<(), Failure> {
+        if contains_record(alloc, &self.filter, part, row)? == self.wanted {
             self.written.extend_from_slice(raw)?;
         } else {
             self.left_out = self.left_out.saturating_add(1);
@@ -99,7 +110,7 @@ impl BatchSink for JoinedLines {
     }
 }
 
-/// Appends the lines of those items that the filter contains, or, unless `wanted`, the others. Returns the number of other lines.
+/// Appends the records of those items that the filter contains, or, unless `wanted`, the others. Returns the number of other records.
 ///
 /// # Errors
 ///

@@ -1,55 +1,55 @@
-//! Inserts the keys of lines into a filter.
+//! Inserts the keys of records into a filter.
 ghost use Rattle.std.specs.Prelude.{◌≡◌};
-ghost use Rattle.sketches.specs.RawLines.{raw_lines};
+ghost use Rattle.sketches.specs.RecordParts.{raws_by};
 ghost use Rattle.sketches.specs.Unseen.{with_lines};
 
 use crate::batch_sink::BatchSink;
 use crate::batches::take_batches;
 use crate::failure::Failure;
-use crate::line_items::insert_line;
+use crate::line_items::insert_record;
 use crate::line_sink::LineSink;
+use crate::record_parts::RecordPart;
 use crate::records::Records;
-use crate::selection::Part;
 use sketch_base::Strs;
 use sketch_bloom::BloomFilter;
 use std::alloc::Global;
 
-/// Inserts the items of lines into a filter.
+/// Inserts the items of records into a filter.
 #[derive(Drop)]
 pub struct KeyLines {
     pub filter: BloomFilter,
-    pub part: Part,
+    pub part: RecordPart,
 }
 
 impl LineSink<()> for KeyLines {
-    ghost use Rattle.std.specs.Prelude.{refl};
-    ghost use Rattle.sketches.specs.declared.records.Records.TheVariants.{Lines};
-    ghost use Rattle.sketches.specs.JoinedLaws.{keys_none, key_lines_both};
+    ghost use Rattle.std.proofs.Common.{ap};
+    ghost use Rattle.sketches.specs.RecordParts.{splits_by};
+    ghost use Rattle.sketches.specs.JoinedLaws.{key_lines_none, key_lines_both};
     ghost use Rattle.sketches.specs.declared.failure.Failure.TheVariants.{Memory};
 
-    ghost splits = { λ _. Lines };
+    ghost splits = { λ s. splits_by s.part };
 
-    ghost takes = { λ old bytes new. (new.0.filter ≡ with_lines old.0.part old.0.filter (raw_lines bytes)) × (new.0.part ≡ old.0.part) };
+    ghost takes = { λ old bytes new. (new.0.filter ≡ with_lines old.0.part old.0.filter (raws_by old.0.part bytes)) × (new.0.part ≡ old.0.part) };
 
     ghost fails = { λ old bytes failure. failure ≡ Memory };
 
-    ghost takes_same = { λ r s xs taken. refl };
+    ghost takes_same = { λ r s xs taken. ap splits_by taken.1 };
 
-    ghost takes_none = { λ s. keys_none s.0.part s.0.part s.0.filter };
+    ghost takes_none = { λ s. key_lines_none s.0.part s.0.filter };
 
-    ghost takes_both = { λ r s t xs ys whole. key_lines_both xs ys whole r.0.part s.0.part t.0.part r.0.filter s.0.filter t.0.filter };
+    ghost takes_both = { λ r s t xs ys whole. key_lines_both xs ys r.0.part s.0.part t.0.part whole r.0.filter s.0.filter t.0.filter };
 
     ghost fails_sooner = { λ r xs ys e whole fails. fails };
 
     ghost fails_later = { λ r s xs ys e whole takes fails. fails };
 
     fn records(&self) -> Records {
-        Records::Lines
+        self.part.records()
     }
 
-    fn take(&mut self, _alloc: Global, _output: &mut (), bytes: &[u8]) -> Result<(), Failure> {
+    fn take(&mut self, alloc: Global, _output: &mut (), bytes: &[u8]) -> Result<(), Failure> {
         let part = self.part;
-        take_batches(self, part, bytes)
+        take_batches(alloc, self, part, bytes)
     }
 }
 
@@ -63,14 +63,25 @@ impl BatchSink for KeyLines {
     ghost takes_both = { λ part r s t xs ys. keys_both xs ys part r.part s.part t.part r.filter s.filter t.filter };
 
     #[inline(always)]
-    fn take_batch(&mut self, _part: Part, _raws: &[&[u8]], items: &[&str]) -> Result<(), Failure> {
+    fn take_batch(
+        &mut self,
+        _part: RecordPart,
+        _raws: &[&[u8]],
+        items: &[&str],
+    ) -> Result<(), Failure> {
         self.filter.insert_all(Strs(items));
         Ok(())
     }
 
     #[inline(always)]
-    fn take_line(&mut self, part: Part, _raw: &[u8], line: &[u8]) -> Result<(), Failure> {
-        insert_line(&mut self.filter, part, line);
+    fn take_record(
+        &mut self,
+        alloc: Global,
+        part: RecordPart,
+        _raw: &[u8],
+        row: &[u8],
+    ) -> Result<(), Failure> {
+        insert_record(alloc, &mut self.filter, part, row)?;
         Ok(())
     }
 }

@@ -1,28 +1,29 @@
 //! Writes the weights of keys.
 ghost use Rattle.std.specs.Prelude.{◌≡◌, ◌++◌, Some, OnOk, pos};
 ghost use Rattle.sketch_countmin.specs.State.{IsMinCell};
-ghost use Rattle.sketches.specs.Items.{part_of};
+ghost use Rattle.sketches.specs.RecordParts.{part_in};
 ghost use Rattle.sketches.specs.Unseen.{hashed};
 ghost use Rattle.sketches.specs.KeyWeights.{WritesEstimates, parts_in, row_line};
 
 use crate::failure::Failure;
 use crate::line_sink::LineSink;
 use crate::raw_item::RawItem;
-use crate::raw_lines::next_raw_line;
-use crate::raw_parts::raw_part_of;
+use crate::record_parts::{RecordPart, next_record, record_part_of};
 use crate::records::Records;
-use crate::selection::Part;
+use crate::text_escapes::append_text;
 use sketch_base::from_utf8;
 use sketch_countmin::CountMinSketch;
 use std::alloc::{AllocError, Global};
 use std::fmt::Write as _;
 use std::io::Write;
 
-/// Writes a line for each key of the lines that it takes: its estimate, a tab and the key.
+/// Writes a line for each key of the records that it takes: its estimate, a tab and the key.
 #[derive(Drop)]
 pub struct KeyWeights {
     pub sketch: CountMinSketch<u64>,
-    pub part: Part,
+    pub part: RecordPart,
+    /// Whether keys are escaped.
+    pub escaped: bool,
     /// The lines that are written next.
     pub written: Vec<u8>,
     /// The number that is written next.
@@ -30,38 +31,40 @@ pub struct KeyWeights {
 }
 
 impl<W: Write> LineSink<W> for KeyWeights {
-    ghost use Rattle.std.specs.Prelude.{refl};
-    ghost use Rattle.sketches.specs.declared.records.Records.TheVariants.{Lines};
+    ghost use Rattle.std.proofs.Common.{ap};
+    ghost use Rattle.sketches.specs.RecordParts.{splits_by};
     ghost use Rattle.sketches.specs.KeyWeightLaws.{keys_none, keys_both};
     ghost use Rattle.sketches.specs.Failures.{FailsWriting};
 
-    ghost splits = { λ _. Lines };
+    ghost splits = { λ s. splits_by s.part };
 
-    ghost takes = { λ old bytes new. WritesEstimates old.0.sketch (parts_in old.0.part bytes) (W.contents old.1) (W.contents new.1)
-        × (new.0.sketch ≡ old.0.sketch) × (new.0.part ≡ old.0.part) };
+    ghost takes = { λ old bytes new. WritesEstimates old.0.escaped old.0.sketch (parts_in old.0.part bytes) (W.contents old.1) (W.contents new.1)
+        × (new.0.sketch ≡ old.0.sketch) × (new.0.part ≡ old.0.part) × (new.0.escaped ≡ old.0.escaped) };
 
     ghost fails = { λ old bytes failure. FailsWriting failure };
 
-    ghost takes_same = { λ r s xs taken. refl };
+    ghost takes_same = { λ r s xs taken. ap splits_by taken.2 };
 
-    ghost takes_none = { λ s. keys_none s.0.sketch s.0.part (W.contents s.1) };
+    ghost takes_none = { λ s. keys_none s.0.escaped s.0.sketch s.0.part (W.contents s.1) };
 
-    ghost takes_both = { λ r s t xs ys whole. keys_both xs ys whole r.0.sketch s.0.sketch t.0.sketch r.0.part s.0.part t.0.part
-        (W.contents r.1) (W.contents s.1) (W.contents t.1) };
+    ghost takes_both = { λ r s t xs ys whole. keys_both xs ys r.0.escaped s.0.escaped t.0.escaped r.0.sketch s.0.sketch t.0.sketch
+        r.0.part s.0.part t.0.part whole (W.contents r.1) (W.contents s.1) (W.contents t.1) };
 
     ghost fails_sooner = { λ r xs ys e whole fails. fails };
 
     ghost fails_later = { λ r s xs ys e whole takes fails. fails };
 
     fn records(&self) -> Records {
-        Records::Lines
+        self.part.records()
     }
 
-    fn take(&mut self, _alloc: Global, output: &mut W, bytes: &[u8]) -> Result<(), Failure> {
+    fn take(&mut self, alloc: Global, output: &mut W, bytes: &[u8]) -> Result<(), Failure> {
         self.written.clear();
         append_lines(
+            alloc,
             &self.sketch,
             self.part,
+            self.escaped,
             bytes,
             &mut self.written,
             &mut self.number,
@@ -73,41 +76,46 @@ impl<W: Write> LineSink<W> for KeyWeights {
     }
 }
 
-/// Appends the line of each key of the lines of bytes.
+/// Appends the line of each key of the records of bytes.
 fn append_lines(
+    alloc: Global,
     sketch: &CountMinSketch<u64>,
-    part: Part,
+    part: RecordPart,
+    escaped: bool,
     bytes: &[u8],
     written: &mut Vec<u8>,
     number: &mut String,
 ) -> Result<(), AllocError>
-    ensures { OnOk result (WritesEstimates sketch.now (parts_in part bytes.now) (Some written.old.items) (Some written.new.items)) }
+    ensures { OnOk result (WritesEstimates escaped sketch.now (parts_in part bytes.now) (Some written.old.items) (Some written.new.items)) }
 {
     let mut rest = bytes;
     'each: loop {
-        let Some((line, after)) = next_raw_line(rest) else {
+        let Some((row, after)) = next_record(part, rest) else {
             return Ok(());
         };
-        append_key(sketch, part, line, written, number)?;
+        append_key(alloc, sketch, part, escaped, row, written, number)?;
         rest = after;
     }
 }
 
-/// Appends the line of the key of a line, if it has one.
+/// Appends the line of the key of a record, if it has one.
 #[inline(always)]
 fn append_key(
+    alloc: Global,
     sketch: &CountMinSketch<u64>,
-    part: Part,
-    line: &[u8],
+    part: RecordPart,
+    escaped: bool,
+    row: &[u8],
     written: &mut Vec<u8>,
     number: &mut String,
 ) -> Result<(), AllocError>
-    ensures { OnOk result (WritesEstimates sketch.now (part_of part line.now) (Some written.old.items) (Some written.new.items)) }
+    ensures { OnOk result (WritesEstimates escaped sketch.now (part_in part row.now) (Some written.old.items) (Some written.new.items)) }
 {
-    let Some(key) = raw_part_of(part, line) else {
+    let mut text = Vec::new(alloc);
+    let Some(key) = record_part_of(part, row, &mut text)? else {
         return Ok(());
     };
-    append_line(estimate_of(sketch, key), key, written, number)?;
+    append_line(estimate_of(sketch, key), key, escaped, written, number)?;
     Ok(())
 }
 
@@ -122,19 +130,24 @@ fn estimate_of(sketch: &CountMinSketch<u64>, item: &[u8]) -> u64
     }
 }
 
-/// Appends the line of a key: its number, a tab and the key.
+/// Appends the line of a key: its number, a tab and the key, which is escaped if `escaped`.
 fn append_line(
     weight: u64,
     key: &[u8],
+    escaped: bool,
     written: &mut Vec<u8>,
     number: &mut String,
 ) -> Result<(), AllocError>
-    ensures { OnOk result (written.new.items ≡ written.old.items ++ row_line (weight, key.now)) }
+    ensures { OnOk result (written.new.items ≡ written.old.items ++ row_line escaped (weight, key.now)) }
 {
     number.clear();
     write!(number, "{weight}\t")?;
     written.extend_from_slice(number.as_bytes())?;
-    written.extend_from_slice(key)?;
+    if escaped {
+        append_text(key, written)?;
+    } else {
+        written.extend_from_slice(key)?;
+    }
     written.push(b'\n')?;
     Ok(())
 }

@@ -1,10 +1,14 @@
 //! Options of the commands that read a file of keys.
-use crate::options::part_at;
-use crate::selection::Part;
-use clap::{Arg, ArgMatches, Command, value_parser};
+use crate::csv_options::{csv_options, line_part};
+use crate::files::{Files, Opened};
+use crate::inputs::Inputs;
+use crate::record_options::record_at;
+use crate::record_parts::RecordPart;
+use crate::{ERROR, fail, max_line_of};
+use clap::{Arg, ArgMatches, Command};
 use std::alloc::{AllocError, Global};
 
-/// Adds the file of keys, and the options that choose the part of a line and of a line of keys.
+/// Adds the file of keys, and the option that chooses the part of a record of keys.
 pub fn with_keys<'a>(alloc: Global, command: Command<'a>) -> Result<Command<'a>, AllocError> {
     Ok(
         command
@@ -19,33 +23,37 @@ pub fn with_keys<'a>(alloc: Global, command: Command<'a>) -> Result<Command<'a>,
                 Arg::new(alloc, "keys-field")
                     .long("keys-field")
                     .value_name("N")
-                    .value_parser(value_parser!(u32).range(1..))
-                    .help("Takes field N of each line of keys, between runs of white space"),
-            )?
-            .arg(
-                Arg::new(alloc, "field")
-                    .short('f')
-                    .long("field")
-                    .value_name("N")
-                    .value_parser(value_parser!(u32).range(1..))
-                    .help("Takes field N of each line, between runs of white space"),
-            )?
-            .arg(
-                Arg::new(alloc, "delimiter")
-                    .short('d')
-                    .long("delimiter")
-                    .value_name("C")
-                    .help("Takes these fields between single characters C of ASCII"),
+                    .help(
+                        "Takes field N of each line of keys, as -f does; with --csv N may be a name in their header",
+                    ),
             )?,
     )
 }
 
-/// Returns the part of a line of keys that the options choose, or `None` if the delimiter is not one character of ASCII.
-pub fn keys_part_of(matches: &ArgMatches<'_>) -> Option<Part> {
-    part_at(
-        matches.get_one::<u32>("keys-field"),
-        matches.get_str("delimiter"),
-    )
+/// Opens the file of keys, after its header if there is one. Returns it and the part of its records that is a key. Returns the status
+/// after a message if the options are wrong or the file cannot be read.
+pub fn open_keys<'n>(
+    rt: &HostRuntime,
+    matches: &ArgMatches<'n>,
+    name: &'n str,
+) -> Result<(RecordPart, Opened), u8> {
+    let names = [name];
+    let mut files = Files::new(rt, names.as_slice());
+    let part = match csv_options(matches, "keys-field", None) {
+        Ok(Some(csv)) => match files.columns(csv, max_line_of(matches) as usize) {
+            Some(part) => record_at(part.delimiter, part.item),
+            None => return Err(ERROR),
+        },
+        Ok(None) => match line_part(matches, "keys-field") {
+            Ok(part) => RecordPart::Line(part),
+            Err(message) => return Err(fail(rt, message)),
+        },
+        Err(message) => return Err(fail(rt, message)),
+    };
+    match files.next() {
+        Some(keys) => Ok((part, keys)),
+        None => Err(ERROR),
+    }
 }
 
 /// Returns whether standard input is both the file of keys and one of the files.
@@ -59,11 +67,4 @@ pub fn reads_input_twice(keys: &str, names: &[&str]) -> bool {
         }
     }
     false
-}
-
-/// Returns whether a delimiter is given without a field of a line or of a key.
-pub fn has_lone_delimiter(matches: &ArgMatches<'_>) -> bool {
-    matches.get_str("delimiter").is_some()
-        && matches.get_one::<u32>("field").is_none()
-        && matches.get_one::<u32>("keys-field").is_none()
 }

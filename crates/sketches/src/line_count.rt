@@ -1,52 +1,55 @@
-//! Counts the lines of an input.
+//! Counts the records of an input.
 ghost use Rattle.std.specs.Prelude.{◌≡◌, ◌+◌, ◌≤◌, ◌^◌, IfErr, IfOk, IfSome, length};
 ghost use Rattle.sketches.specs.JoinFailures.{FailsCount};
-ghost use Rattle.sketches.specs.RawLines.{raw_lines};
+ghost use Rattle.sketches.specs.RecordParts.{raws_by};
 
 use crate::failure::Failure;
 use crate::join::JoinFailure;
 use crate::line_sink::LineSink;
-use crate::raw_lines::next_line_with_end;
 use crate::reading::{BLOCK, read_lines};
+use crate::record_parts::{RecordPart, next_record_with_end};
 use crate::records::Records;
 use std::alloc::Global;
 use std::io::Read;
 
-/// The number of lines that were taken.
+/// The number of records that were taken.
 #[derive(Drop)]
 pub struct LineCount {
+    part: RecordPart,
     lines: u64,
 }
 
 impl LineSink<()> for LineCount {
-    ghost use Rattle.std.specs.Prelude.{refl};
-    ghost use Rattle.sketches.specs.declared.records.Records.TheVariants.{Lines};
-    ghost use Rattle.std.specs.Prelude.{◌⊎◌};
+    ghost use Rattle.std.proofs.Common.{ap};
+    ghost use Rattle.sketches.specs.RecordParts.{splits_by};
     ghost use Rattle.sketches.specs.CountedLines.{counts_none, counts_both, exceeds_sooner, exceeds_later};
     ghost use Rattle.sketches.specs.declared.failure.Failure.TheVariants.{TooManyItems};
 
-    ghost splits = { λ _. Lines };
+    ghost splits = { λ s. splits_by s.part };
 
-    ghost takes = { λ old bytes new. new.0.lines ≡ old.0.lines + length (raw_lines bytes) };
+    ghost takes = { λ old bytes new. (new.0.lines ≡ old.0.lines + length (raws_by old.0.part bytes)) × (new.0.part ≡ old.0.part) };
 
-    ghost fails = { λ old bytes failure. (failure ≡ TooManyItems) × (2 ^ 64 ≤ old.0.lines + length (raw_lines bytes)) };
+    ghost fails = { λ old bytes failure. (failure ≡ TooManyItems) × (2 ^ 64 ≤ old.0.lines + length (raws_by old.0.part bytes)) };
 
-    ghost takes_same = { λ r s xs taken. refl };
+    ghost takes_same = { λ r s xs taken. ap splits_by taken.1 };
 
-    ghost takes_none = { λ s. counts_none s.0.lines };
+    ghost takes_none = { λ s. counts_none s.0.part s.0.lines };
 
-    ghost takes_both = { λ r s t xs ys whole. counts_both xs ys whole r.0.lines s.0.lines t.0.lines };
+    ghost takes_both = { λ r s t xs ys whole. counts_both xs ys r.0.part s.0.part t.0.part whole r.0.lines s.0.lines t.0.lines };
 
-    ghost fails_sooner = { λ r xs ys e whole. exceeds_sooner xs ys whole r.0.lines e };
+    ghost fails_sooner = { λ r xs ys e whole. exceeds_sooner xs ys r.0.part whole r.0.lines e };
 
-    ghost fails_later = { λ r s xs ys e whole. exceeds_later xs ys whole r.0.lines s.0.lines e };
+    ghost fails_later = { λ r s xs ys e whole. exceeds_later xs ys r.0.part s.0.part whole r.0.lines s.0.lines e };
 
     fn records(&self) -> Records {
-        Records::Lines
+        self.part.records()
     }
 
     fn take(&mut self, _alloc: Global, _output: &mut (), bytes: &[u8]) -> Result<(), Failure> {
-        match self.lines.checked_add(number_of_lines(bytes) as u64) {
+        match self
+            .lines
+            .checked_add(number_of_lines(self.part, bytes) as u64)
+        {
             Some(lines) => {
                 self.lines = lines;
                 Ok(())
@@ -56,26 +59,27 @@ impl LineSink<()> for LineCount {
     }
 }
 
-/// Returns the number of lines of an input.
+/// Returns the number of records of an input that may have a part.
 ///
 /// # Errors
 ///
-/// Returns `Unread` if a read fails. Returns `Keys` with `LineTooLong` if a line has more than `max_line` bytes, with `Memory` if an
-/// allocation fails, and with `TooManyItems` if there are 2^64 lines or more.
+/// Returns `Unread` if a read fails. Returns `Keys` with `LineTooLong` if a record has more than `max_line` bytes, with `Memory` if
+/// an allocation fails, and with `TooManyItems` if there are 2^64 records or more.
 pub fn count_lines<R: Read>(
     alloc: Global,
+    part: RecordPart,
     reader: &mut R,
     max_line: u32,
 ) -> Result<u64, JoinFailure>
-    ensures counted { IfOk result (λ lines. IfSome (R.remaining reader.old) (λ bytes. lines ≡ length (raw_lines bytes))) }
-    ensures failed { IfErr result (FailsCount (max_line + 1) (R.remaining reader.old)) }
+    ensures counted { IfOk result (λ lines. IfSome (R.remaining reader.old) (λ bytes. lines ≡ length (raws_by part bytes))) }
+    ensures failed { IfErr result (FailsCount part (max_line + 1) (R.remaining reader.old)) }
 {
     let limit = max_line as usize + 1;
     let mut buffer = match vec![in alloc; 0; limit.min(BLOCK)] {
         Ok(buffer) => buffer,
         Err(_) => return Err(JoinFailure::Keys(Failure::Memory)),
     };
-    let mut count = LineCount { lines: 0 };
+    let mut count = LineCount { part, lines: 0 };
     match read_lines(alloc, &mut count, &mut (), reader, &mut buffer, limit) {
         Ok(None) => Ok(count.lines),
         Ok(Some(error)) => Err(JoinFailure::Unread(error)),
@@ -83,14 +87,14 @@ pub fn count_lines<R: Read>(
     }
 }
 
-/// Returns the number of lines of bytes.
-fn number_of_lines(bytes: &[u8]) -> usize
-    ensures { result ≡ length (raw_lines bytes.now) }
+/// Returns the number of records of bytes.
+fn number_of_lines(part: RecordPart, bytes: &[u8]) -> usize
+    ensures { result ≡ length (raws_by part bytes.now) }
 {
     let mut rest = bytes;
     let mut lines = 0;
     'each: loop {
-        let Some((_, _, after)) = next_line_with_end(rest) else {
+        let Some((_, _, after)) = next_record_with_end(part, rest) else {
             return lines;
         };
         lines += 1;

@@ -1,35 +1,47 @@
-//! The items of lines in a filter.
-ghost use Rattle.std.specs.Prelude.{◌≡◌};
+//! The items of records in a filter.
+ghost use Rattle.std.specs.Prelude.{◌≡◌, IfOk, OnOk};
 ghost use Rattle.sketch_bloom.specs.State.{contains_item, inserted};
-ghost use Rattle.sketches.specs.Items.{part_of};
+ghost use Rattle.sketches.specs.RecordParts.{part_in};
 ghost use Rattle.sketches.specs.Unseen.{hashed, is_seen, with_items};
 
 use crate::raw_item::RawItem;
-use crate::raw_parts::raw_part_of;
-use crate::selection::Part;
+use crate::record_parts::{RecordPart, record_part_of};
 use sketch_base::from_utf8;
 use sketch_bloom::BloomFilter;
+use std::alloc::{AllocError, Global};
 
-/// Inserts the item of a line, if it has one, into a filter. Returns whether the filter contained it before.
+/// Inserts the item of a record, if it has one, into a filter. Returns whether the filter contained it before.
 #[inline(always)]
-pub fn insert_line(filter: &mut BloomFilter, part: Part, line: &[u8]) -> bool
-    ensures seen { result ≡ is_seen filter.old (part_of part line.now) }
-    ensures filter { filter.new ≡ with_items filter.old (part_of part line.now) }
+pub fn insert_record(
+    alloc: Global,
+    filter: &mut BloomFilter,
+    part: RecordPart,
+    row: &[u8],
+) -> Result<bool, AllocError>
+    ensures seen { IfOk result (λ seen. seen ≡ is_seen filter.old (part_in part row.now)) }
+    ensures filter { OnOk result (filter.new ≡ with_items filter.old (part_in part row.now)) }
 {
-    match raw_part_of(part, line) {
-        Some(item) => insert_item(filter, item),
-        None => false,
+    let mut text = Vec::new(alloc);
+    match record_part_of(part, row, &mut text)? {
+        Some(item) => Ok(insert_item(filter, item)),
+        None => Ok(false),
     }
 }
 
-/// Returns whether a filter contains the item of a line. Returns `false` if the line has none.
+/// Returns whether a filter contains the item of a record. Returns `false` if the record has none.
 #[inline(always)]
-pub fn contains_line(filter: &BloomFilter, part: Part, line: &[u8]) -> bool
-    ensures { result ≡ is_seen filter.now (part_of part line.now) }
+pub fn contains_record(
+    alloc: Global,
+    filter: &BloomFilter,
+    part: RecordPart,
+    row: &[u8],
+) -> Result<bool, AllocError>
+    ensures { IfOk result (λ seen. seen ≡ is_seen filter.now (part_in part row.now)) }
 {
-    match raw_part_of(part, line) {
-        Some(item) => contains_item(filter, item),
-        None => false,
+    let mut text = Vec::new(alloc);
+    match record_part_of(part, row, &mut text)? {
+        Some(item) => Ok(contains_item(filter, item)),
+        None => Ok(false),
     }
 }
 

@@ -29,6 +29,7 @@ mod filter_commands;
 mod filter_image;
 mod filter_options;
 mod filter_size;
+mod header;
 mod image_commands;
 mod image_file;
 mod image_files;
@@ -55,6 +56,8 @@ mod raw_item;
 mod raw_lines;
 mod raw_parts;
 mod reading;
+mod record_options;
+mod record_parts;
 mod records;
 mod report;
 mod save;
@@ -77,7 +80,7 @@ mod weighing;
 mod weights;
 
 use clap::ArgMatches;
-use csv_options::{BAD_DELIMITER, csv_options, weighing_of};
+use csv_options::{csv_options, weighing_of};
 use failure::Failure;
 use files::Files;
 use filter_commands::{run_join, run_uniq};
@@ -137,7 +140,7 @@ fn run(rt: &HostRuntime) -> u8 {
 
 /// Runs `sketches top`. Returns the status.
 fn run_top(rt: &HostRuntime, matches: &ArgMatches<'_>) -> u8 {
-    let csv = match csv_options(matches) {
+    let csv = match csv_options(matches, "field", Some("weight")) {
         Ok(csv) => csv,
         Err(message) => return fail(rt, message),
     };

@@ -1,11 +1,10 @@
 //! The command line.
-use crate::csv_options::with_fields;
+use crate::csv_options::{with_fields, with_weight};
 use crate::field::Field;
 use crate::filter_options::{no_note, with_size, with_state};
 use crate::image_options::{merge_command, show_command};
 use crate::join_options::join_command;
 use crate::percent::percent_of;
-use crate::selection::Part;
 use crate::shared_options::{above, escape, exact, json, key, no_header, rows, save};
 use crate::table_size::size_for;
 use crate::weigh_options::weigh_command;
@@ -39,7 +38,7 @@ fn top_command<'a>(alloc: Global) -> Result<Command<'a>, AllocError> {
         .about("Prints the most frequent lines, fields or words, with bounds of their numbers")
         .arg(rows(alloc))?
         .arg(above(alloc))?;
-    let command = with_fields(alloc, command)?
+    let command = with_weight(alloc, with_fields(alloc, command)?)?
         .arg(
             Arg::new(alloc, "words")
                 .long("words")
@@ -83,13 +82,13 @@ fn top_command<'a>(alloc: Global) -> Result<Command<'a>, AllocError> {
 /// Returns the description of `sketches uniq`.
 fn uniq_command<'a>(alloc: Global) -> Result<Command<'a>, AllocError> {
     let command = Command::new(alloc, "uniq").about(
-        "Prints each line whose item was not seen before, in the order of the input",
+        "Prints each line or record whose item was not seen before, in the order of the input",
     );
-    let command = with_part(alloc, command)?.arg(
+    let command = with_fields(alloc, command)?.arg(
         Arg::new(alloc, "repeated")
             .long("repeated")
             .action(ArgAction::SetTrue)
-            .help("Prints the lines whose items were seen before, in place of the others"),
+            .help("Prints those whose items were seen before, in place of the others"),
     )?;
     let command = with_size(
         alloc,
@@ -102,41 +101,6 @@ fn uniq_command<'a>(alloc: Global) -> Result<Command<'a>, AllocError> {
     with_files(alloc, command)
 }
 
-/// Adds the options that choose a part of a line.
-fn with_part<'a>(alloc: Global, command: Command<'a>) -> Result<Command<'a>, AllocError> {
-    Ok(
-        command
-            .arg(
-                Arg::new(alloc, "field")
-                    .short('f')
-                    .long("field")
-                    .value_name("N")
-                    .value_parser(value_parser!(u32).range(1..))
-                    .help("Takes field N of each line, between runs of white space"),
-            )?
-            .arg(
-                Arg::new(alloc, "delimiter")
-                    .short('d')
-                    .long("delimiter")
-                    .value_name("C")
-                    .requires_arg("field")?
-                    .help("Takes the field between single characters C of ASCII"),
-            )?,
-    )
-}
-
-/// Adds the option that chooses the weight of a line.
-pub fn with_weight<'a>(alloc: Global, command: Command<'a>) -> Result<Command<'a>, AllocError> {
-    Ok(command.arg(
-        Arg::new(alloc, "weight")
-            .short('w')
-            .long("weight")
-            .value_name("N")
-            .value_parser(value_parser!(u32).range(1..))
-            .help("Weighs the item of each line by the whole number in field N"),
-    )?)
-}
-
 /// Adds the option of the maximum number of bytes of a line.
 pub fn with_max_line<'a>(alloc: Global, command: Command<'a>) -> Result<Command<'a>, AllocError> {
     Ok(command.arg(
@@ -145,7 +109,7 @@ pub fn with_max_line<'a>(alloc: Global, command: Command<'a>) -> Result<Command<
             .value_name("BYTES")
             .value_parser(value_parser!(u32))
             .default_value("67108864")
-            .help("Ends with an error at a line of more BYTES"),
+            .help("Ends with an error at a line or record of more BYTES"),
     )?)
 }
 
@@ -165,26 +129,6 @@ pub fn size_of(matches: &ArgMatches<'_>) -> Option<usize> {
         return Some(matches.get_one::<u32>("size").unwrap_or(0) as usize);
     };
     size_for(percent_of(text)?).ok()
-}
-
-/// Returns the part of a line that the options choose, or `None` if the delimiter is not one character of ASCII.
-pub fn part_of(matches: &ArgMatches<'_>) -> Option<Part> {
-    part_at(
-        matches.get_one::<u32>("field"),
-        matches.get_str("delimiter"),
-    )
-}
-
-/// Returns the part of a line that a number and a delimiter choose, or `None` if the delimiter is not one character of ASCII.
-pub fn part_at(number: Option<u32>, delimiter: Option<&str>) -> Option<Part> {
-    let Some(number) = number else {
-        return Some(Part::Line);
-    };
-    let index = number.saturating_sub(1);
-    let Some(delimiter) = delimiter else {
-        return Some(Part::Word(index));
-    };
-    field_between(delimiter, index).map(|field| Part::Field(field))
 }
 
 /// Returns the field of an index between delimiters, or `None` if the delimiter is not one character of ASCII.

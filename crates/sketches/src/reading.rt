@@ -1,7 +1,7 @@
 //! Reads the records of one input.
 ghost use Rattle.std.specs.Prelude.{◌≡◌, ◌⊎◌, ◌↔◌, ◌+◌, ◌<◌, ◌≤◌, length, take, drop, IfErr, IfOk, IsErrOf, OnOk};
 ghost use Rattle.sketch_base.specs.declared.place.Place.TheVariants.{Start};
-ghost use Rattle.sketches.specs.Reading.{FailsInputBy, FailsWithin, Fills, IsInOne, TakesInputBy, TakesRecords, place_of};
+ghost use Rattle.sketches.specs.Reading.{FailsInput, FailsWithin, Fills, IsInOne, TakesInput, TakesRecords, place_of};
 
 use crate::failure::Failure;
 use crate::line_sink::LineSink;
@@ -32,9 +32,9 @@ pub fn read_lines<R: Read, O, S: LineSink<O>>(
     limit: usize,
 ) -> Result<Option<io::Error>, Failure>
     ensures taken { IfOk result (λ failure.
-        TakesInputBy (S.splits sink.old) S.takes (R.remaining reader.old) failure (sink.old, output.old) (sink.new, output.new)) }
+        TakesInput (S.splits sink.old) S.takes (R.remaining reader.old) failure (sink.old, output.old) (sink.new, output.new)) }
     ensures same { OnOk result (S.splits sink.new ≡ S.splits sink.old) }
-    ensures failed { IfErr result (FailsInputBy (S.splits sink.old) S.fails limit (R.remaining reader.old) (sink.old, output.old)) }
+    ensures failed { IfErr result (FailsInput (S.splits sink.old) S.fails limit (R.remaining reader.old) (sink.old, output.old)) }
 {
     let records = sink.records();
     let mut place = Place::Start;

@@ -1,4 +1,4 @@
-//! The lines of inputs whose items were not seen before.
+//! The records of inputs whose items were not seen before.
 ghost use Rattle.std.specs.Prelude.{◌≡◌, ◌+◌, IfErr, IfOk, IfSome, IsErrOf};
 ghost use Rattle.sketch_bloom.specs.State.{FilterState};
 ghost use Rattle.sketches.specs.Failures.{FailsWrittenLines, FailsUniq};
@@ -7,22 +7,23 @@ ghost use Rattle.sketches.specs.Unseen.{WritesUnseen};
 
 use crate::failure::Failure;
 use crate::filter_size::{FilterSize, filter_of};
+use crate::header::write_header;
 use crate::inputs::{Inputs, read_inputs};
 use crate::reading::BLOCK;
-use crate::selection::Part;
+use crate::record_parts::RecordPart;
 use crate::unseen::UnseenLines;
 use sketch_bloom::BloomFilter;
 use std::alloc::Global;
 use std::io::Write;
 
-/// Which lines are written.
+/// Which records are written.
 #[derive(Clone, Copy)]
 pub struct UniqOptions {
-    /// The part of a line that is its item.
-    pub part: Part,
-    /// Whether lines whose items were seen before are written, in place of the others.
+    /// The part of a record that is its item.
+    pub part: RecordPart,
+    /// Whether records whose items were seen before are written, in place of the others.
     pub repeated: bool,
-    /// The maximum number of bytes of a line before its line feed.
+    /// The maximum number of bytes of a record before its line feed.
     pub max_line: u32,
 }
 
@@ -31,33 +32,34 @@ pub struct UniqOptions {
 pub struct Summary {
     /// Whether no read failed.
     pub complete: bool,
-    /// The number of lines that were not written, at most `u64::MAX`.
+    /// The number of records that were not written, at most `u64::MAX`.
     pub left_out: u64,
-    /// The filter after the last line.
+    /// The filter after the last record.
     pub filter: BloomFilter,
 }
 
-/// Writes the lines of the inputs whose items were not seen before, or, if `repeated`, the others. The filter is a new one of this
-/// size and seed.
+/// Writes a header, and then the records of the inputs whose items were not seen before, or, if `repeated`, the others. The filter is
+/// a new one of this size and seed.
 ///
-/// An item was seen before if the filter that has taken the items of all lines before contains it. A line without an item was not
-/// seen before. The lines are written as they are read, with their ends.
+/// An item was seen before if the filter that has taken the items of all records before contains it. A record without an item was not
+/// seen before. The records are written as they are read, with their ends.
 ///
 /// # Errors
 ///
-/// Returns `BadSize` if a filter of this size is not allowed, and then reads and writes nothing. Returns `LineTooLong` if a line
-/// exceeds the limit, `Memory` if an allocation fails, and `Write` if the writer fails. Lines before may have been written.
+/// Returns `BadSize` if a filter of this size is not allowed, and then reads and writes nothing. Returns `LineTooLong` if a record
+/// exceeds the limit, `Memory` if an allocation fails, and `Write` if the writer fails. Records before may have been written.
 pub fn uniq<I: Inputs, W: Write>(
     alloc: Global,
     options: UniqOptions,
     size: FilterSize,
     seed: u64,
+    header: &[u8],
     inputs: &mut I,
     writer: &mut W,
 ) -> Result<Summary, Failure>
     ensures written { IfOk result (λ summary. (filter : FilterState) × IsFilterOf size seed filter
-        × IfSome (I.inputs inputs.old) (λ all. WritesUnseen options.repeated options.part filter summary.filter all summary.complete
-        (W.contents writer.old) (W.contents writer.new))) }
+        × IfSome (I.inputs inputs.old) (λ all. WritesUnseen options.repeated options.part header.now filter summary.filter all
+        summary.complete (W.contents writer.old) (W.contents writer.new))) }
 
     // When each error comes, and what it leaves unchanged.
     ensures failed { IfErr result (FailsUniq options size (I.inputs inputs.old)) }
@@ -65,7 +67,7 @@ pub fn uniq<I: Inputs, W: Write>(
     ensures unread { IsErrOf result Failure.BadSize → (inputs.new ≡ inputs.old) × (writer.new ≡ writer.old) }
 {
     let filter = filter_of(alloc, size, seed)?;
-    match uniq_after(alloc, options, filter, inputs, writer) {
+    match uniq_after(alloc, options, filter, header, inputs, writer) {
         Ok(summary) => Ok(summary),
         Err(failure) => Err(failure),
     }
@@ -80,12 +82,13 @@ pub fn uniq_after<I: Inputs, W: Write>(
     alloc: Global,
     options: UniqOptions,
     filter: BloomFilter,
+    header: &[u8],
     inputs: &mut I,
     writer: &mut W,
 ) -> Result<Summary, Failure>
-    ensures written { IfOk result (λ summary. IfSome (I.inputs inputs.old) (λ all. WritesUnseen options.repeated options.part filter
+    ensures written { IfOk result (λ summary. IfSome (I.inputs inputs.old) (λ all. WritesUnseen options.repeated options.part header.now filter
         summary.filter all summary.complete (W.contents writer.old) (W.contents writer.new))) }
-    ensures failed { IfErr result (FailsWrittenLines (options.max_line + 1) (I.inputs inputs.old)) }
+    ensures failed { IfErr result (FailsWrittenLines options.part (options.max_line + 1) (I.inputs inputs.old)) }
 {
     let mut lines = UnseenLines {
         filter,
@@ -96,6 +99,7 @@ pub fn uniq_after<I: Inputs, W: Write>(
     };
     let limit = options.max_line as usize + 1;
     let mut buffer = vec![in alloc; 0; limit.min(BLOCK)]?;
+    write_header(header, writer)?;
     let complete = read_inputs(alloc, &mut lines, writer, inputs, &mut buffer, limit)?;
     Ok(Summary {
         complete,

@@ -1,54 +1,54 @@
-//! Writes the lines whose items were not seen before.
+//! Writes the records whose items were not seen before.
 ghost use Rattle.std.specs.Io.KnownBytes.{Appends};
 ghost use Rattle.std.specs.Prelude.{◌≡◌, ◌≤◌, ◌++◌, IfErr, OnOk, length, map};
 ghost use Rattle.sketch_base.specs.Strings.{strings_at};
 ghost use Rattle.sketch_bloom.specs.State.{all_inserted, answers_in_turn};
-ghost use Rattle.sketches.specs.RawLines.{raw_lines};
+ghost use Rattle.sketches.specs.RecordParts.{raws_by};
 ghost use Rattle.sketches.specs.Unseen.{hashed, unseen_lines, with_lines, written_by};
 
 use crate::batch_sink::BatchSink;
 use crate::batches::{BATCH, take_batches, write_batch};
 use crate::failure::Failure;
-use crate::line_items::insert_line;
+use crate::line_items::insert_record;
 use crate::line_sink::LineSink;
+use crate::record_parts::RecordPart;
 use crate::records::Records;
-use crate::selection::Part;
 use sketch_base::Strs;
 use sketch_bloom::BloomFilter;
 use std::alloc::Global;
 use std::io::Write;
 
-/// Writes the lines whose items were not seen before, or, if `repeated`, the others.
+/// Writes the records whose items were not seen before, or, if `repeated`, the others.
 #[derive(Drop)]
 pub struct UnseenLines {
     pub filter: BloomFilter,
-    pub part: Part,
+    pub part: RecordPart,
     pub repeated: bool,
-    /// The number of lines that were not written, at most `u64::MAX`.
+    /// The number of records that were not written, at most `u64::MAX`.
     pub left_out: u64,
-    /// The lines that are written next.
+    /// The records that are written next.
     pub written: Vec<u8>,
 }
 
 impl<W: Write> LineSink<W> for UnseenLines {
-    ghost use Rattle.std.specs.Prelude.{refl};
-    ghost use Rattle.sketches.specs.declared.records.Records.TheVariants.{Lines};
+    ghost use Rattle.std.proofs.Common.{ap};
+    ghost use Rattle.sketches.specs.RecordParts.{splits_by};
     ghost use Rattle.sketches.specs.UnseenLaws.{takes_nothing, takes_lines};
     ghost use Rattle.sketches.specs.Failures.{FailsWriting};
 
-    ghost splits = { λ _. Lines };
+    ghost splits = { λ s. splits_by s.part };
 
-    ghost takes = { λ old bytes new. (new.0.filter ≡ with_lines old.0.part old.0.filter (raw_lines bytes))
-        × Appends (W.contents old.1) (W.contents new.1) (unseen_lines old.0.repeated old.0.part old.0.filter (raw_lines bytes))
+    ghost takes = { λ old bytes new. (new.0.filter ≡ with_lines old.0.part old.0.filter (raws_by old.0.part bytes))
+        × Appends (W.contents old.1) (W.contents new.1) (unseen_lines old.0.repeated old.0.part old.0.filter (raws_by old.0.part bytes))
         × (new.0.part ≡ old.0.part) × (new.0.repeated ≡ old.0.repeated) };
 
     ghost fails = { λ old bytes failure. FailsWriting failure };
 
-    ghost takes_same = { λ r s xs taken. refl };
+    ghost takes_same = { λ r s xs taken. ap splits_by taken.2 };
 
     ghost takes_none = { λ s. takes_nothing s.0.filter s.0.part s.0.repeated (W.contents s.1) };
 
-    ghost takes_both = { λ r s t xs ys whole. takes_lines xs ys whole r.0.repeated r.0.part s.0.repeated s.0.part t.0.repeated t.0.part
+    ghost takes_both = { λ r s t xs ys whole. takes_lines xs ys r.0.repeated r.0.part whole s.0.repeated s.0.part t.0.repeated t.0.part
         r.0.filter s.0.filter t.0.filter (W.contents r.1) (W.contents s.1) (W.contents t.1) };
 
     ghost fails_sooner = { λ r xs ys e whole fails. fails };
@@ -56,13 +56,13 @@ impl<W: Write> LineSink<W> for UnseenLines {
     ghost fails_later = { λ r s xs ys e whole takes fails. fails };
 
     fn records(&self) -> Records {
-        Records::Lines
+        self.part.records()
     }
 
-    fn take(&mut self, _alloc: Global, output: &mut W, bytes: &[u8]) -> Result<(), Failure> {
+    fn take(&mut self, alloc: Global, output: &mut W, bytes: &[u8]) -> Result<(), Failure> {
         self.written.clear();
         let part = self.part;
-        take_batches(self, part, bytes)?;
+        take_batches(alloc, self, part, bytes)?;
         match output.write_all(&self.written) {
             Ok(()) => Ok(()),
             Err(e) => Err(Failure::Write(e)),
@@ -83,7 +83,12 @@ impl BatchSink for UnseenLines {
         r.filter s.filter t.filter r.written.items s.written.items t.written.items };
 
     #[inline(always)]
-    fn take_batch(&mut self, _part: Part, raws: &[&[u8]], items: &[&str]) -> Result<(), Failure> {
+    fn take_batch(
+        &mut self,
+        _part: RecordPart,
+        raws: &[&[u8]],
+        items: &[&str],
+    ) -> Result<(), Failure> {
         let others = choose_batch(
             &mut self.filter,
             self.repeated,
@@ -96,8 +101,14 @@ impl BatchSink for UnseenLines {
     }
 
     #[inline(always)]
-    fn take_line(&mut self, part: Part, raw: &[u8], line: &[u8]) -> Result<(), Failure> {
-        if insert_line(&mut self.filter, part, line) == self.repeated {
+    fn take_record(
+        &mut self,
+        alloc: Global,
+        part: RecordPart,
+        raw: &[u8],
+        row: &[u8],
+    ) -> Result<(), Failure> {
+        if insert_record(alloc, &mut self.filter, part, row)? == self.repeated {
             self.written.extend_from_slice(raw)?;
         } else {
             self.left_out = self.left_out.saturating_add(1);
@@ -106,8 +117,8 @@ impl BatchSink for UnseenLines {
     }
 }
 
-/// Inserts items into the filter. Appends the lines of those that it had not taken, or, if `repeated`, the others. Returns the
-/// number of other lines.
+/// Inserts items into the filter. Appends the records of those that it had not taken, or, if `repeated`, the others. Returns the
+/// number of other records.
 ///
 /// # Errors
 ///

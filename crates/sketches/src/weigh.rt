@@ -11,10 +11,10 @@ ghost use Rattle.sketches.specs.KeyWeights.{IsEmptyTable, WritesWeights, total_l
 
 use crate::failure::Failure;
 use crate::inputs::{Inputs, read_inputs};
-use crate::item_weigher::{ItemWeigher, WeighedLine};
+use crate::item_weigher::{ItemWeigher, WeighedRecord};
 use crate::key_weights::KeyWeights;
 use crate::reading::{BLOCK, read_lines};
-use crate::selection::Part;
+use crate::record_parts::RecordPart;
 use sketch_base::{DEFAULT_UPDATE_SEED, ErrorKind, compute_seed_hash};
 use sketch_countmin::{CountMinSketch, suggest_num_buckets, suggest_num_hashes};
 use std::alloc::{AllocError, Global};
@@ -25,17 +25,19 @@ use std::io::{Read, Write};
 /// What is weighed and printed, and the size of the sketch.
 #[derive(Clone, Copy)]
 pub struct WeighOptions {
-    /// The item of a line of an input, and its weight.
-    pub chosen: WeighedLine,
-    /// The part of a line of the file of keys that is its key.
-    pub keys_part: Part,
+    /// The item of a record of an input, and its weight.
+    pub chosen: WeighedRecord,
+    /// The part of a record of the file of keys that is its key.
+    pub keys_part: RecordPart,
+    /// Whether keys are printed escaped.
+    pub escaped: bool,
     /// A number should exceed its weight by at most the total over this number.
     pub parts: u64,
     /// About one of this number of keys may exceed that, under ideal hashes.
     pub questions: u64,
     /// The seed of the sketch's hashes.
     pub seed: u64,
-    /// The maximum number of bytes of a line before its line feed.
+    /// The maximum number of bytes of a record before its line feed.
     pub max_line: u32,
     /// Whether the first line shows the total.
     pub header: bool,
@@ -53,13 +55,13 @@ pub struct Weighed {
 /// Writes a line for each key of a file: a number that is at least its weight in the inputs, a tab and the key.
 ///
 /// The weight of a key is the sum of the weights of the items of the inputs that are equal to it. Keys are written in the order of
-/// their file. A line of the file without the part has no key. The first line has the total of all weights, if it is wanted.
+/// their file. A record of the file without the part has no key. The first line has the total of all weights, if it is wanted.
 ///
 /// # Errors
 ///
 /// Returns `BadSize` if a sketch of this size is not allowed, and then reads and writes nothing. Returns `TooManyItems` if the total
-/// exceeds 2^64 - 1, and `BadWeight` if a line with an item has no weight. The writer is not called then. Returns `LineTooLong` if a
-/// line exceeds the limit, `Memory` if an allocation fails, and `Write` if the writer fails. Lines before may have been written.
+/// exceeds 2^64 - 1, and `BadWeight` if a record with an item has no weight. The writer is not called then. Returns `LineTooLong` if a
+/// record exceeds the limit, `Memory` if an allocation fails, and `Write` if the writer fails. Lines before may have been written.
 pub fn weigh<I: Inputs, R: Read, W: Write>(
     alloc: Global,
     options: WeighOptions,
@@ -90,6 +92,7 @@ pub fn weigh<I: Inputs, R: Read, W: Write>(
     let mut lines = KeyWeights {
         sketch,
         part: options.keys_part,
+        escaped: options.escaped,
         written: Vec::new(alloc),
         number: String::new(alloc),
     };

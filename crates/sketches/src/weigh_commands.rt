@@ -1,13 +1,12 @@
 //! Runs `sketches weigh`.
-use crate::files::{Files, open};
-use crate::item_weigher::WeighedLine;
-use crate::keyed_options::{has_lone_delimiter, keys_part_of, reads_input_twice};
+use crate::files::Files;
+use crate::keyed_options::{open_keys, reads_input_twice};
 use crate::keys::{key_of, seed_of};
-use crate::options::part_of;
 use crate::percent::percent_of;
+use crate::record_options::weighed_record;
 use crate::weigh::{WeighOptions, weigh};
-use crate::weigh_options::{parts_of, weight_part_of};
-use crate::{BAD_DELIMITER, ERROR, STANDARD_INPUT, end, fail, max_line_of, message_of};
+use crate::weigh_options::parts_of;
+use crate::{ERROR, STANDARD_INPUT, end, fail, max_line_of, message_of};
 use clap::ArgMatches;
 use std::io;
 
@@ -26,15 +25,6 @@ pub fn run_weigh(rt: &HostRuntime, matches: &ArgMatches<'_>) -> u8 {
     if reads_input_twice(keys_name, names) {
         return fail(rt, "standard input cannot be both FILE and --keys");
     }
-    if has_lone_delimiter(matches) && matches.get_one::<u32>("weight").is_none() {
-        return fail(rt, "--delimiter needs --field, --weight or --keys-field");
-    }
-    let (Some(item), Some(keys_part)) = (part_of(matches), keys_part_of(matches)) else {
-        return fail(rt, BAD_DELIMITER);
-    };
-    let Some(weight) = weight_part_of(matches) else {
-        return fail(rt, BAD_DELIMITER);
-    };
     let Some(error) = percent_of(matches.get_str("error").unwrap_or("")) else {
         return fail(rt, BAD_SHARE);
     };
@@ -45,20 +35,25 @@ pub fn run_weigh(rt: &HostRuntime, matches: &ArgMatches<'_>) -> u8 {
         Ok(key) => key,
         Err(fault) => return fail(rt, message_of(fault)),
     };
+    let (keys_part, mut keys) = match open_keys(rt, matches, keys_name) {
+        Ok(keys) => keys,
+        Err(status) => return status,
+    };
+    let mut files = Files::new(rt, names);
+    let chosen = match weighed_record(rt, matches, &mut files) {
+        Ok(chosen) => chosen,
+        Err(status) => return status,
+    };
     let options = WeighOptions {
-        chosen: WeighedLine { item, weight },
+        chosen,
         keys_part,
+        escaped: matches.get_flag("csv") || matches.get_flag("escape"),
         parts: parts_of(error),
         questions: matches.get_one::<u64>("outliers").unwrap_or(0),
         seed: seed_of(key),
         max_line: max_line_of(matches),
         header: !matches.get_flag("no-header"),
     };
-    let mut keys = match open(rt, keys_name) {
-        Ok(keys) => keys,
-        Err(error) => return unread(rt, keys_name, error),
-    };
-    let mut files = Files::new(rt, names);
     match weigh(rt.alloc(), options, &mut files, &mut keys, &mut rt.stdout()) {
         Ok(done) => match done.failure {
             Some(error) => unread(rt, keys_name, error),

@@ -1,12 +1,12 @@
 //! The command line of `sketches weigh`.
 ghost use Rattle.std.specs.Prelude.{◌*◌, ◌^◌, ◌<◌, ◌≤◌};
 
+use crate::csv_options::{with_fields, with_weight};
 use crate::keyed_options::with_keys;
-use crate::options::{part_at, with_files, with_max_line, with_weight};
+use crate::options::{with_files, with_max_line};
 use crate::percent::{Percent, WHOLE};
-use crate::selection::Part;
-use crate::shared_options::key;
-use clap::{Arg, ArgAction, ArgMatches, Command, value_parser};
+use crate::shared_options::{escape, key};
+use clap::{Arg, ArgAction, Command, value_parser};
 use std::alloc::{AllocError, Global};
 
 /// Returns the description of `sketches weigh`.
@@ -14,14 +14,18 @@ pub fn weigh_command<'a>(alloc: Global) -> Result<Command<'a>, AllocError> {
     let command = Command::new(alloc, "weigh").about(
         "Prints how often each key of a file occurs, or a little more, in the order of the keys",
     );
-    let command = with_weight(alloc, with_keys(alloc, command)?)?;
+    let command = with_fields(alloc, with_keys(alloc, command)?)?;
+    let command = with_weight(alloc, command)?;
     let command = with_error(alloc, command)?;
-    let command = with_max_line(alloc, command)?.arg(key(alloc))?.arg(
-        Arg::new(alloc, "no-header")
-            .long("no-header")
-            .action(ArgAction::SetTrue)
-            .help("Omits the first line, which has the total"),
-    )?;
+    let command = with_max_line(alloc, command)?
+        .arg(key(alloc))?
+        .arg(
+            Arg::new(alloc, "no-header")
+                .long("no-header")
+                .action(ArgAction::SetTrue)
+                .help("Omits the first line, which has the total"),
+        )?
+        .arg(escape(alloc))?;
     with_files(alloc, command)
 }
 
@@ -47,15 +51,6 @@ fn with_error<'a>(alloc: Global, command: Command<'a>) -> Result<Command<'a>, Al
                     .help("Lets about 1 in N numbers exceed their weight by more than that"),
             )?,
     )
-}
-
-/// Returns the part that has the weight of a line, if any. Returns `None` if the delimiter is not one character of ASCII.
-pub fn weight_part_of(matches: &ArgMatches<'_>) -> Option<Option<Part>> {
-    let Some(number) = matches.get_one::<u32>("weight") else {
-        return Some(None);
-    };
-    let part = part_at(Some(number), matches.get_str("delimiter"))?;
-    Some(Some(part))
 }
 
 /// Returns the least number of parts of a whole of which each is at most this percentage of it.

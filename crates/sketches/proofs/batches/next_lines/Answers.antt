@@ -12,5 +12,5 @@ each-preserved c =
       length-set c.each.raws c.each.count c.in-Some.raw ∙ so.1,
       length-set c.each.items c.each.count c.in-Ok.text ∙ so.2,
       omega (arith, so.3, e.2),
-      taken_more c.args.part c.args.bytes.now c.each.rest.now c.in-Some.after.now c.in-Some.line.now c.in-Some-raw_part_of.item.now c.each.raws c.each.items c.each.count c.in-Some.raw c.in-Ok.text c.each-test.true less so.4 e.0 e.1 c.in-Some-raw_part_of.ensures c.in-Ok.ensures.cases.0,
+      taken_more c.args.part c.args.bytes.now c.each.rest.now c.in-Some.after.now c.in-Some.row.now c.in-Some-whole_part_of.item.now c.each.raws c.each.items c.each.count c.in-Some.raw c.in-Ok.text c.each-test.true less so.4 e.0 e.1 c.in-Some-whole_part_of.ensures c.in-Ok.ensures.cases.0,
     )

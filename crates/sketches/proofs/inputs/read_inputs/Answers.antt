@@ -1,6 +1,6 @@
 use Rattle.std.proofs.Common.{refl, subst, ◌∙◌}
 use Rattle.std.proofs.lemmas.Result.{err_from_is_err_and}
-use Rattle.sketches.specs.Reading.{FailsInputBy, TakesInputBy}
+use Rattle.sketches.specs.Reading.{FailsInput, TakesInput}
 use Rattle.sketches.specs.declared.records.Records.{Records}
 use Rattle.sketches.proofs.ReadInputs.{inputs_none, inputs_more, inputs_failed}
 use Rattle.sketches.proofs.inputs.read_inputs.Goals as goal
@@ -11,8 +11,8 @@ each-init g c = (inputs_none (g.S.LineSink.splits c.args.sink.now) g.S.LineSink.
 pub each-preserved : goal.each-preserved
 each-preserved g c =
     let f : Records = g.S.LineSink.splits c.args.sink.now in
-    let taken : TakesInputBy f g.S.LineSink.takes (g.I.Reader.Read.remaining c.in-Some.reader) c.in_ok-failure.failure (c.each.sink, c.each.output) (c.read_input.new.sink, c.read_input.new.output) =
-    subst (λ (r : Records). TakesInputBy r g.S.LineSink.takes (g.I.Reader.Read.remaining c.in-Some.reader) c.in_ok-failure.failure (c.each.sink, c.each.output) (c.read_input.new.sink, c.read_input.new.output)) c.each.invariant.1 c.in_ok-failure.ensures.taken in (
+    let taken : TakesInput f g.S.LineSink.takes (g.I.Reader.Read.remaining c.in-Some.reader) c.in_ok-failure.failure (c.each.sink, c.each.output) (c.read_input.new.sink, c.read_input.new.output) =
+    subst (λ (r : Records). TakesInput r g.S.LineSink.takes (g.I.Reader.Read.remaining c.in-Some.reader) c.in_ok-failure.failure (c.each.sink, c.each.output) (c.read_input.new.sink, c.read_input.new.output)) c.each.invariant.1 c.in_ok-failure.ensures.taken in (
       inputs_more f g.S.LineSink.takes g.I.Reader.Read.remaining c.each.complete c.is_complete-complete.result
           (g.I.Inputs.inputs c.args.inputs.now) (g.I.Inputs.inputs c.each.inputs) (g.I.Inputs.inputs c.next.new.self) (g.I.Inputs.inputs c.is_complete-complete.new.inputs)
           (c.args.sink.now, c.args.output.now) (c.each.sink, c.each.output) (c.read_input.new.sink, c.read_input.new.output) c.next.result c.in-Some.reader c.in_ok-failure.failure
@@ -24,7 +24,7 @@ pub returns-in_err-failure-clause-failed : goal.returns-in_err-failure-clause-fa
 returns-in_err-failure-clause-failed g c =
     let e = err_from_is_err_and c.from_residual.result c.from_residual.ensures.1 in
     let f : Records = g.S.LineSink.splits c.args.sink.now in
-    let failed = subst (λ (r : Records). FailsInputBy r g.S.LineSink.fails c.args.limit (g.I.Reader.Read.remaining c.in-Some.reader) (c.each.sink, c.each.output) c.in_err-failure.field-0.0) c.each.invariant.1 c.in_err-failure.ensures.failed in
+    let failed = subst (λ (r : Records). FailsInput r g.S.LineSink.fails c.args.limit (g.I.Reader.Read.remaining c.in-Some.reader) (c.each.sink, c.each.output) c.in_err-failure.field-0.0) c.each.invariant.1 c.in_err-failure.ensures.failed in
     rw (e.1, e.2)
     (inputs_failed f g.S.LineSink.takes g.S.LineSink.fails g.I.Reader.Read.remaining c.args.limit c.each.complete
     (g.I.Inputs.inputs c.args.inputs.now) (g.I.Inputs.inputs c.each.inputs) (g.I.Inputs.inputs c.next.new.self)

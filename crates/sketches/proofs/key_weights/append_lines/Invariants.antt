@@ -1,10 +1,10 @@
 use Rattle.std.proofs.Common.{length}
-use Rattle.std.specs.Str.Lines.{lines}
+use Rattle.sketches.specs.RecordParts.{records_by}
 use Rattle.sketches.proofs.ItemWeights.{HasWrittenKeys}
 use Rattle.sketches.proofs.key_weights.append_lines.Given as goal
 
 abbrev pub invariant-each : goal.invariant-each
-invariant-each l = HasWrittenKeys l.part l.sketch (lines l.bytes) (lines l.rest) l.fn.written.items l.written.items
+invariant-each l = HasWrittenKeys l.escaped l.part l.sketch (records_by l.part l.bytes) (records_by l.part l.rest) l.fn.written.items l.written.items
 
 abbrev pub decreases-each : goal.decreases-each
 decreases-each l = length l.rest

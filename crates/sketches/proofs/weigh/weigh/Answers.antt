@@ -14,5 +14,5 @@ pub returns-clause-written : goal.returns-clause-written
 returns-clause-written g c =
     weights_written g.W.Write.contents c.args.options (g.I.Inputs.inputs c.args.inputs.now) (g.R.Read.remaining c.args.keys.now) c.in_ok-complete.complete c.in_ok-failure.failure
     c.in_ok-sketch.sketch (record { sketch = c.in_ok-sketch.sketch; chosen = c.args.options.chosen; count = 0 }, tt) (c.read_inputs.new.sink, c.read_inputs.new.output) c.total_weight.result (g.W.Write.contents c.args.writer.now)
-    (record { sketch = c.read_inputs.new.sink.sketch; part = c.args.options.keys_part; written = c.new.result; number = c.new-2.result }, c.write_total.new.writer) (c.read_lines.new.sink, c.read_lines.new.output)
-    c.in_ok-sketch.ensures.made refl refl c.in_ok-complete.ensures.taken c.total_weight.ensures c.in_ok-write_total.ensures.written refl refl c.in_ok-failure.ensures.taken
+    (record { sketch = c.read_inputs.new.sink.sketch; part = c.args.options.keys_part; escaped = c.args.options.escaped; written = c.new.result; number = c.new-2.result }, c.write_total.new.writer) (c.read_lines.new.sink, c.read_lines.new.output)
+    c.in_ok-sketch.ensures.made refl refl c.in_ok-complete.ensures.taken c.total_weight.ensures c.in_ok-write_total.ensures.written refl refl refl c.in_ok-failure.ensures.taken

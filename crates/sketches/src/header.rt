@@ -1,0 +1,22 @@
+//! The header of records that are written.
+ghost use Rattle.std.specs.Io.KnownBytes.{Appends};
+ghost use Rattle.std.specs.Prelude.{IfErr, OnOk};
+ghost use Rattle.sketches.specs.Failures.{FailsWriting};
+
+use crate::failure::Failure;
+use std::io::Write;
+
+/// Writes a header, which may have no bytes.
+///
+/// # Errors
+///
+/// Returns `Write` if the writer fails.
+pub fn write_header<W: Write>(header: &[u8], writer: &mut W) -> Result<(), Failure>
+    ensures written { OnOk result (Appends (W.contents writer.old) (W.contents writer.new) header.now) }
+    ensures failed { IfErr result FailsWriting }
+{
+    match writer.write_all(header) {
+        Ok(()) => Ok(()),
+        Err(e) => Err(Failure::Write(e)),
+    }
+}

@@ -1,0 +1,108 @@
+//! The parts of records.
+ghost use Rattle.std.specs.Prelude.{◌≡◌, ◌∷◌, [], IfOk, IfSome, MatchOption};
+ghost use Rattle.sketches.specs.RecordParts.{TakesRawRecord, TakesRecord, part_in, splits_by};
+
+use crate::raw_lines::{next_line_with_end, next_raw_line};
+use crate::raw_parts::raw_part_of;
+use crate::records::Records;
+use crate::selection::Part;
+use sketch_base::{append_csv_text, next_csv_record, nth_csv_field, plain_csv_text};
+use std::alloc::AllocError;
+
+/// A part of a record.
+#[derive(Clone, Copy)]
+pub enum RecordPart {
+    /// A part of a line.
+    Line(Part),
+    /// The text of a field of a record of CSV.
+    Csv(CsvField),
+}
+
+/// A field of a record of CSV. Its index is counted from 0.
+#[derive(Clone, Copy)]
+pub struct CsvField {
+    pub delimiter: u8,
+    pub index: u32,
+}
+
+impl RecordPart {
+    /// Returns how inputs are split into records that have this part.
+    pub fn records(self) -> Records
+        ensures { result ≡ splits_by self }
+    {
+        match self {
+            RecordPart::Line(_) => Records::Lines,
+            RecordPart::Csv(field) => Records::Csv(field.delimiter),
+        }
+    }
+}
+
+/// Returns the first record of bytes with its end, the same record without it, and the bytes after it. Returns `None` if there are no
+/// bytes.
+///
+/// The end is the line feed and a carriage return before it. The last record may have no end.
+#[inline(always)]
+pub fn next_record_with_end(part: RecordPart, bytes: &[u8]) -> Option<(&[u8], &[u8], &[u8])>
+    ensures { TakesRawRecord part bytes.now result }
+{
+    match part {
+        RecordPart::Line(_) => next_line_with_end(bytes),
+        RecordPart::Csv(field) => match next_csv_record(bytes, field.delimiter) {
+            Some((raw, row, after)) => Some((raw, row, after)),
+            None => None,
+        },
+    }
+}
+
+/// Returns the first record of bytes without its end, and the bytes after it. Returns `None` if there are no bytes.
+#[inline(always)]
+pub fn next_record(part: RecordPart, bytes: &[u8]) -> Option<(&[u8], &[u8])>
+    ensures { TakesRecord part bytes.now result }
+{
+    match part {
+        RecordPart::Line(_) => next_raw_line(bytes),
+        RecordPart::Csv(field) => match next_csv_record(bytes, field.delimiter) {
+            Some((_, row, after)) => Some((row, after)),
+            None => None,
+        },
+    }
+}
+
+/// Returns a part of a record, or `None` if the record does not have it or its bytes do not stand in one piece.
+#[inline(always)]
+pub fn whole_part_of(part: RecordPart, row: &[u8]) -> Option<&[u8]>
+    ensures { IfSome result (λ item. part_in part row.now ≡ item.now ∷ []) }
+{
+    match part {
+        RecordPart::Line(part) => raw_part_of(part, row),
+        RecordPart::Csv(field) => match nth_csv_field(row, field.delimiter, field.index) {
+            Some(found) => plain_csv_text(found),
+            None => None,
+        },
+    }
+}
+
+/// Returns a part of a record, or `None` if the record does not have it. Appends its bytes to `text`, which is empty, if they do not
+/// stand in one piece.
+#[inline(always)]
+pub fn record_part_of<'a>(
+    part: RecordPart,
+    row: &'a [u8],
+    text: &'a mut Vec<u8>,
+) -> Result<Option<&'a [u8]>, AllocError>
+    requires { text.old.items ≡ [] }
+    ensures { IfOk result (λ found. MatchOption found (part_in part row.now ≡ []) (λ item. part_in part row.now ≡ item.now ∷ [])) }
+{
+    let field = match part {
+        RecordPart::Line(part) => return Ok(raw_part_of(part, row)),
+        RecordPart::Csv(field) => field,
+    };
+    let Some(found) = nth_csv_field(row, field.delimiter, field.index) else {
+        return Ok(None);
+    };
+    if let Some(plain) = plain_csv_text(found) {
+        return Ok(Some(plain));
+    }
+    append_csv_text(found, text)?;
+    Ok(Some(text.as_slice()))
+}
