@@ -17,7 +17,7 @@ pub fn with_keys<'a>(alloc: Global, command: Command<'a>) -> Result<Command<'a>,
                     .long("keys")
                     .value_name("FILE")
                     .required(true)
-                    .help("Reads a key of each line of this file; - is standard input"),
+                    .help("Reads a key of each line or record of this file; - is standard input"),
             )?
             .arg(
                 Arg::new(alloc, "keys-field")
