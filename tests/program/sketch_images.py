@@ -238,7 +238,7 @@ class Tests:
                 place = rng.randrange(rng.choice([8, 32, len(image)]))
                 image[place] = rng.choice([0, 255, image[place] ^ 1 << rng.randrange(8), rng.randrange(256)])
             self.file("bad", bytes(image))
-            status, out, said = self.run("merge", "-n", 100000, "sound", "bad")
+            status, out, said = self.run("merge", "--escape", "-n", 100000, "sound", "bad")
             if status == 2:
                 rejected += 1
                 self.check(f"damage {round}: a message and no report", out == b"" and re.fullmatch(rb"sketches: bad: [^\n]+\n", said), (out, said))
