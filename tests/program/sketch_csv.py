@@ -1,10 +1,12 @@
-"""Runs `sketches` with `--csv` over generated files, and compares what it prints with exact sets and sums by Python's `csv`.
+"""Runs `sketches` with `--csv` over generated files, and compares what it prints with exact sets and sums by Python's `csv`. Checks
+`--progress`, too.
 
     python3 tests/program/sketch_csv.py crates/sketches/out/sketches
 
 prints a line for each check that failed, and then 'N passed, M failed'.
 """
 import collections
+import contextlib
 import csv
 import io
 import json
@@ -14,6 +16,7 @@ import re
 import subprocess
 import sys
 import tempfile
+import time
 
 BLOCK = 1 << 18
 LAST = 2**64 - 1
@@ -391,6 +394,25 @@ class Tests:
             ran = self.run(*words, data=b"a b\n")
             self.check(f"{words} of lines", ran[:2] == (2, b"") and ran[2], ran)
 
+    def progress(self):
+        """Checks what `--progress` shows on a terminal, of a run that waits for the reader of its output, and elsewhere."""
+        lines = b"".join(b"%d\n" % number for number in range(10**6, 10**6 + 400000))
+        half = self.file("half", lines[:len(lines) // 2]), self.file("other", lines[len(lines) // 2:])
+        for is_terminal in [True, False]:
+            reader, writer = os.openpty() if is_terminal else os.pipe()
+            command = [self.program, "uniq", "--no-note", "--key", "plain", "--progress", *half]
+            ran = subprocess.Popen(command, stdout=subprocess.PIPE, stderr=writer, env={"PATH": "/usr/bin:/bin"}, cwd=self.work)
+            time.sleep(1.2)
+            out, _ = ran.communicate()
+            os.close(writer)
+            said = b""
+            with open(reader, "rb", buffering=0) as shown_there, contextlib.suppress(OSError):  # A terminal ends with an error.
+                while more := shown_there.read(1 << 16):
+                    said += more
+            wanted = rb"((\x1b\[Ksketches: [0-3] of 3 MB\r)+\x1b\[K)+" if is_terminal else b""
+            self.check(f"progress, {is_terminal}", re.fullmatch(wanted, said), said)
+            self.check("progress changes nothing", ran.returncode == 0 and 0 <= len(lines) - len(out) < len(lines) // 100)
+
     def large(self):
         """Checks the memory of a large input from a pipe."""
         row = b'%d,"/page/%d, ""x""",200\n'
@@ -425,6 +447,7 @@ def main():
         tests.cut_records()
         tests.record_headers()
         tests.wrong_records()
+        tests.progress()
         tests.large()
     print(f"{tests.passed} passed, {tests.failed} failed")
     sys.exit(1 if tests.failed else 0)

@@ -3,7 +3,9 @@ ghost use Rattle.sketches.specs.Inputs.{OpensNext};
 
 use crate::csv_header::{AfterHeader, Headed};
 use crate::csv_options::{Column, CsvOptions};
+use crate::file_sizes::size_of_file;
 use crate::inputs::Inputs;
+use crate::progress::Progress;
 use crate::weighing::CsvPart;
 use std::alloc::AllocError;
 use std::fs::File;
@@ -28,17 +30,28 @@ impl Read for Input {
 
 /// What is read of a file.
 #[derive(Drop)]
-pub enum Opened {
+pub struct Opened<'r> {
+    source: Source,
+    progress: Option<Progress<'r>>,
+}
+
+/// A file from its start, or after its header.
+#[derive(Drop)]
+enum Source {
     Whole(Input),
     AfterHeader(AfterHeader),
 }
 
-impl Read for Opened {
+impl<'r> Read for Opened<'r> {
     fn read(&mut self, buf: &mut [u8]) -> io::Result<usize> {
-        match self {
-            Opened::Whole(input) => input.read(buf),
-            Opened::AfterHeader(rest) => rest.read(buf),
+        let count = match &mut self.source {
+            Source::Whole(input) => input.read(buf)?,
+            Source::AfterHeader(rest) => rest.read(buf)?,
+        };
+        if let Some(progress) = &mut self.progress {
+            progress.add(count as u64);
         }
+        Ok(count)
     }
 }
 
@@ -62,6 +75,8 @@ pub struct Files<'r, 's, 'n> {
     columns: Option<Columns<'n>>,
     /// The first file, if its header was read.
     first: Option<AfterHeader>,
+    /// How much was read of the files before the next one, if it is shown.
+    progress: Option<Progress<'r>>,
 }
 
 impl<'r, 's, 'n> Files<'r, 's, 'n> {
@@ -75,7 +90,23 @@ impl<'r, 's, 'n> Files<'r, 's, 'n> {
             done: false,
             columns: None,
             first: None,
+            progress: None,
         }
+    }
+
+    /// Shows the progress on standard error from now on, if it is wanted.
+    pub fn show_progress(&mut self, is_wanted: bool) {
+        if is_wanted {
+            self.progress = Progress::start(self.rt, self.names);
+        }
+    }
+
+    /// Returns the file that was opened last, whose progress is shown, if that is wanted.
+    fn opened(&mut self, source: Source) -> Opened<'r> {
+        let progress = self.progress;
+        let bytes = size_of_file(self.rt, self.current()).unwrap_or(0);
+        self.progress = progress.map(|before| before.after(bytes));
+        Opened { source, progress }
     }
 
     /// Returns the fields of CSV that the options choose, and has each file read after its header, if there is one. Names are those of
@@ -205,15 +236,15 @@ impl<'r, 's, 'n> Files<'r, 's, 'n> {
     }
 
     /// Opens a file, after its header if there is one.
-    fn open_next(&mut self, name: &str) -> io::Result<Option<Opened>> {
+    fn open_next(&mut self, name: &str) -> io::Result<Option<Source>> {
         let Some(columns) = self.columns else {
-            return Ok(Some(Opened::Whole(open(self.rt, name)?)));
+            return Ok(Some(Source::Whole(open(self.rt, name)?)));
         };
         let (headed, input) = open_headed(self.rt, name, columns.options.delimiter, columns.limit)?;
         if !self.has_columns(&headed, columns) {
             return Ok(None);
         }
-        Ok(Some(Opened::AfterHeader(headed.into_rest(input))))
+        Ok(Some(Source::AfterHeader(headed.into_rest(input))))
     }
 
     /// Returns the name of the file that was opened last.
@@ -272,17 +303,17 @@ fn index_of(column: Column<'_>) -> u32 {
 }
 
 impl<'r, 's, 'n> Inputs for Files<'r, 's, 'n> {
-    type Reader = Opened;
+    type Reader = Opened<'r>;
 
-    fn next(&mut self) -> Option<Opened> {
+    fn next(&mut self) -> Option<Opened<'r>> {
         if let Some(first) = self.first.take() {
-            return Some(Opened::AfterHeader(first));
+            return Some(self.opened(Source::AfterHeader(first)));
         }
         let names = self.names;
         for at in self.next..names.len() {
             self.next = at + 1;
             match self.open_next(names[at]) {
-                Ok(Some(opened)) => return Some(opened),
+                Ok(Some(source)) => return Some(self.opened(source)),
                 Ok(None) => continue,
                 Err(error) => self.report(error),
             }

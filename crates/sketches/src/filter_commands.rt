@@ -26,6 +26,7 @@ pub fn run_uniq(rt: &HostRuntime, matches: &ArgMatches<'_>) -> u8 {
         .get_strs("files")
         .unwrap_or(STANDARD_INPUT.as_slice());
     let mut files = Files::new(rt, names);
+    files.show_progress(matches.get_flag("progress"));
     let part = match weighed_record(rt, matches, &mut files) {
         Ok(chosen) => chosen.item,
         Err(status) => return status,
@@ -130,6 +131,7 @@ pub fn run_join(rt: &HostRuntime, matches: &ArgMatches<'_>) -> u8 {
         Err(status) => return status,
     };
     let mut files = Files::new(rt, names);
+    files.show_progress(matches.get_flag("progress"));
     let part = match weighed_record(rt, matches, &mut files) {
         Ok(chosen) => chosen.item,
         Err(status) => return status,

@@ -32,11 +32,11 @@ pub fn with_keys<'a>(alloc: Global, command: Command<'a>) -> Result<Command<'a>,
 
 /// Opens the file of keys, after its header if there is one. Returns it and the part of its records that is a key. Returns the status
 /// after a message if the options are wrong or the file cannot be read.
-pub fn open_keys<'n>(
-    rt: &HostRuntime,
+pub fn open_keys<'r, 'n>(
+    rt: &'r HostRuntime,
     matches: &ArgMatches<'n>,
     name: &'n str,
-) -> Result<(RecordPart, Opened), u8> {
+) -> Result<(RecordPart, Opened<'r>), u8> {
     let names = [name];
     let mut files = Files::new(rt, names.as_slice());
     let part = match csv_options(matches, "keys-field", None) {

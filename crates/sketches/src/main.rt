@@ -52,6 +52,7 @@ mod line_sink;
 mod merge;
 mod options;
 mod percent;
+mod progress;
 mod raw_item;
 mod raw_lines;
 mod raw_parts;
@@ -158,6 +159,7 @@ fn run_top(rt: &HostRuntime, matches: &ArgMatches<'_>) -> u8 {
         .get_strs("files")
         .unwrap_or(STANDARD_INPUT.as_slice());
     let mut files = Files::new(rt, names);
+    files.show_progress(matches.get_flag("progress"));
     let weighing = match csv {
         Some(csv) => match files.columns(csv, max_line_of(matches) as usize) {
             Some(part) => Weighing::Csv(part),

@@ -113,14 +113,25 @@ pub fn with_max_line<'a>(alloc: Global, command: Command<'a>) -> Result<Command<
     )?)
 }
 
-/// Adds the names of files.
+/// Adds the names of files, and the option of their progress.
 pub fn with_files<'a>(alloc: Global, command: Command<'a>) -> Result<Command<'a>, AllocError> {
-    Ok(command.arg(
-        Arg::new(alloc, "files")
-            .value_name("FILE")
-            .num_args(0..)
-            .help("Reads these files, or standard input for - and if there is none"),
-    )?)
+    Ok(
+        command
+            .arg(
+                Arg::new(alloc, "progress")
+                    .long("progress")
+                    .action(ArgAction::SetTrue)
+                    .help(
+                        "Shows how much of regular files was read, if standard error is a terminal",
+                    ),
+            )?
+            .arg(
+                Arg::new(alloc, "files")
+                    .value_name("FILE")
+                    .num_args(0..)
+                    .help("Reads these files, or standard input for - and if there is none"),
+            )?,
+    )
 }
 
 /// Returns the size of a table that the options choose, or `None` if no size has the error.

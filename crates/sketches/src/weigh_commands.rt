@@ -40,6 +40,7 @@ pub fn run_weigh(rt: &HostRuntime, matches: &ArgMatches<'_>) -> u8 {
         Err(status) => return status,
     };
     let mut files = Files::new(rt, names);
+    files.show_progress(matches.get_flag("progress"));
     let chosen = match weighed_record(rt, matches, &mut files) {
         Ok(chosen) => chosen,
         Err(status) => return status,
