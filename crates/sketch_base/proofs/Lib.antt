@@ -1,6 +1,7 @@
 mod Ascii
 pub mod BothEnds
 pub mod Blocks
+pub mod Digits
 pub mod Delimited
 pub mod CsvBoth
 pub mod CsvFields
@@ -9,6 +10,7 @@ pub mod CsvRuns
 pub mod CsvWalk
 pub mod DirectRemainder
 mod FirstWords
+pub mod ItemsOfRecords
 pub mod KeptBytes
 pub mod LittleEndian
 mod MapHashing
@@ -28,8 +30,10 @@ pub mod SipWords
 pub mod SplitEnds
 pub mod SplitLines
 pub mod SplitWords
+pub mod StringBuffers
 pub mod StringBoundaries
 pub mod StringEnd
+pub mod Tails
 pub mod ValidBits
 mod Vectors
 mod WordEnds

@@ -40,6 +40,7 @@ fault_words fault.NoMemory = (codes "NoMemory", codes "out of memory")
 fault_words fault.BadSampleSize = (codes "BadSampleSize", codes "sample size out of range")
 fault_words fault.BadWindows = (codes "BadWindows", codes "windows out of range")
 fault_words fault.BadOffsets = (codes "BadOffsets", codes "offsets missing, descending or out of range")
+fault_words fault.BadWeight = (codes "BadWeight", codes "weight missing or no number in range")
 
 -- a fault's message, which it prints
 abbrev pub fault_text : Fault → List ℕ

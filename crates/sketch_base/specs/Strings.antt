@@ -1,5 +1,5 @@
 -- Many strings: in one buffer of bytes with offsets, where each string goes from one offset to the next, or as slices.
-use Rattle.std.specs.Prelude.{ℕ, ◌+◌, ◌<◌, ◌≤◌, List, length, map, drop, slice_index, All, EachIndex}
+use Rattle.std.specs.Prelude.{◌≡◌, ℕ, ◌+◌, ◌-◌, ◌<◌, ◌≤◌, List, length, map, drop, slice_index, All, EachIndex}
 use Rattle.std.specs.List.{slice_range, zip}
 use Rattle.std.specs.Str.{IsUtf8}
 use Rattle.std.specs.Borrow.{Bor}
@@ -18,6 +18,11 @@ pub record AreOffsets (bytes offsets : List ℕ) : Type 0 where
 pub record AreStrings (bytes offsets : List ℕ) : Type 0 where
   pub ends : AreOffsets bytes offsets
   pub utf8 : All IsUtf8 (strings_of bytes offsets)
+
+-- the strings fill the buffer: the last offset is its length
+pub record AreBuffered (bytes offsets : List ℕ) : Type 0 where
+  pub strings : AreStrings bytes offsets
+  pub end : slice_index offsets (length offsets - 1) ≡ length bytes
 
 -- the strings of slices
 abbrev pub strings_at : List (Bor (List ℕ)) → List (List ℕ)

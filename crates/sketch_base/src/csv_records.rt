@@ -1,7 +1,8 @@
 //! The records of CSV.
-ghost use Rattle.std.specs.Prelude.{◌≡◌, ◌==◌, ◌≤◌, ℕ, true, length, take};
+ghost use Rattle.std.specs.Prelude.{◌≡◌, ◌==◌, ◌≤◌, ℕ, true, IfSome, length, take};
 ghost use Rattle.std.specs.Str.Lines.{strip_carriage_return};
 ghost use Rattle.sketch_base.specs.Csv.{IsBehindLastEnd, IsFirstEnd, IsFirstCut, IsStill, TakesRecord, after_bytes, cuts, place_after};
+ghost use Rattle.sketch_base.specs.Records.{IsEndOf};
 
 use crate::byte_set::{ByteSet, OneByte, first_member};
 use crate::place::{Place, QUOTE};
@@ -105,7 +106,8 @@ pub fn finished_csv_records(delimiter: u8, place: Place, bytes: &[u8]) -> (usize
 /// it. The bytes need not be UTF-8. Does not allocate.
 #[inline(always)]
 pub fn next_csv_record(bytes: &[u8], delimiter: u8) -> Option<(&[u8], &[u8], &[u8])>
-    ensures { TakesRecord delimiter bytes.now result }
+    ensures taken { TakesRecord delimiter bytes.now result }
+    ensures end { IfSome result (λ taken. IsEndOf bytes.now taken.2.now) }
 {
     if bytes.is_empty() {
         return None;
@@ -122,7 +124,7 @@ pub fn next_csv_record(bytes: &[u8], delimiter: u8) -> Option<(&[u8], &[u8], &[u
 
 /// Returns a record without the carriage return at its end, if there is one.
 #[inline(always)]
-fn without_carriage_return(row: &[u8]) -> &[u8]
+pub(crate) fn without_carriage_return(row: &[u8]) -> &[u8]
     ensures { result.now ≡ strip_carriage_return row.now }
 {
     let len = row.len();

@@ -87,6 +87,8 @@ pub enum Fault {
     BadWindows,
     /// There is no offset, an offset is below the one before it, or an offset exceeds the number of bytes.
     BadOffsets,
+    /// A record has an item and no weight: no number in decimal digits that is in range.
+    BadWeight,
 }
 
 impl Fault {
@@ -115,7 +117,7 @@ impl Fault {
 }
 
 /// The name and the message of each fault, in the order of the variants.
-static WORDS: [(&str, &str); 35] = [
+static WORDS: [(&str, &str); 36] = [
     ("BadNumBits", "num_bits out of range"),
     ("BadNumHashes", "num_hashes out of range"),
     ("BadNumBuckets", "num_buckets below 3"),
@@ -151,6 +153,7 @@ static WORDS: [(&str, &str); 35] = [
     ("BadSampleSize", "sample size out of range"),
     ("BadWindows", "windows out of range"),
     ("BadOffsets", "offsets missing, descending or out of range"),
+    ("BadWeight", "weight missing or no number in range"),
 ];
 
 /// Writes the message of the fault.

@@ -24,6 +24,8 @@
 //! - [`first_words`] splits a string into an array, and [`nth_word`] returns one of its words. [`nth_word_of_bytes`]
 //!   does so for bytes that need not be UTF-8. [`nth_field_of_bytes`] and [`nth_field`] return one field between
 //!   delimiters. [`finished_words`] and [`finished_lines`] return where a chunk of a stream can be split.
+//! - [`records`] splits bytes into lines or records of CSV, and returns their items with their weights. A [`StringBuffer`] is many
+//!   strings in one buffer.
 #![tactic(auto)]
 
 mod byte_set;
@@ -31,11 +33,13 @@ mod byte_strings;
 mod byte_words;
 mod csv_fields;
 mod csv_records;
+mod decimals;
 mod divisor;
 mod error;
 mod family;
 mod fault;
 mod fed_items;
+mod field;
 mod fields;
 pub mod image;
 mod item_hash;
@@ -46,7 +50,12 @@ mod machine_words;
 mod map_state;
 mod murmurhash;
 mod offset_strings;
+mod part;
 mod place;
+mod raw_lines;
+mod record_items;
+mod record_part;
+pub mod records;
 mod rehashable_bytes;
 mod rehashable_item;
 mod rehashable_str;
@@ -60,6 +69,7 @@ mod sketch_bytes;
 mod sketch_slice;
 mod split;
 mod str_hash;
+mod string_buffer;
 mod strings;
 mod two_bytes;
 mod utf8;
@@ -96,6 +106,7 @@ pub use sketch_bytes::SketchBytes;
 pub use sketch_slice::SketchSlice;
 pub use split::{finished_lines, finished_words, first_words};
 pub use str_hash::{keyed_hash_of_str, murmur3_of_str, xxh64_of_str};
+pub use string_buffer::StringBuffer;
 pub use strings::{Strings, Strs};
 pub use utf8::from_utf8;
 pub use validity::{ValidItems, Validity};

@@ -217,6 +217,15 @@ impl<'a, O: Offsets> OffsetStrings<'a, O> {
         Ok(OffsetStrings { bytes, offsets })
     }
 
+    /// Creates the strings of a buffer whose offsets are valid and whose strings are UTF-8.
+    #[inline(always)]
+    pub(crate) fn of_buffer(bytes: &'a [u8], offsets: O) -> Self
+        requires { AreStrings bytes.now (O.offsets offsets) }
+        ensures { result ≡ strings_of bytes.now (O.offsets offsets) }
+    {
+        OffsetStrings { bytes, offsets }
+    }
+
     /// Returns the number of strings.
     #[inline(always)]
     pub fn len(&self) -> usize

@@ -6,10 +6,11 @@ use Rattle.std.specs.List.{flat_map}
 use Rattle.sketch_base.specs.Strings.{strings_at}
 use Rattle.sketch_bloom.specs.State.{FilterState, all_inserted, answers_in_turn, contains_item, inserted}
 use Rattle.sketches.specs.Joined.{joined_lines}
-use Rattle.sketches.specs.RecordParts.{part_in, raws_by, records_by}
+use Rattle.sketches.specs.RecordParts.{raws_by}
+use Rattle.sketch_base.specs.Records.{part_in, records_by}
 use Rattle.sketches.specs.Unseen.{AreNextLines, hashed, is_seen, item_of, unseen_lines, with_items, with_lines, written_by, written_of}
 use Rattle.sketches.specs.UnseenLaws.{items_both}
-use Rattle.sketches.specs.declared.record_parts.RecordPart.{RecordPart}
+use Rattle.sketch_base.specs.declared.record_part.RecordPart.{RecordPart}
 
 -- the item of a record with its end is that of the record without it
 pub item_is : (part : RecordPart) (raw line : List ℕ) → records_by part raw ≡ line ∷ [] → item_of part raw ≡ part_in part line

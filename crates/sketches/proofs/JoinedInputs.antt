@@ -7,11 +7,12 @@ use Rattle.sketch_bloom.specs.State.{FilterState}
 use Rattle.sketches.specs.Inputs.{TakesEach, TakesInputs}
 use Rattle.sketches.specs.Joined.{FindsKeys, WritesJoined, joined_lines, keys_of}
 use Rattle.sketches.specs.JoinedLaws.{joined_both}
-use Rattle.sketches.specs.RecordParts.{raws_by, splits_by}
+use Rattle.sketches.specs.RecordParts.{raws_by}
+use Rattle.sketch_base.specs.Records.{splits_by}
 use Rattle.sketches.specs.Unseen.{item_of, with_items, written_of}
 use Rattle.sketches.specs.UnseenLaws.{appends_none, appends_both}
 use Rattle.sketches.specs.declared.joined.JoinedLines.{JoinedLines}
-use Rattle.sketches.specs.declared.record_parts.RecordPart.{RecordPart}
+use Rattle.sketch_base.specs.declared.record_part.RecordPart.{RecordPart}
 use Rattle.sketches.proofs.Written.{inserted_is_seen, seen_at}
 
 by_wanted : (wanted : Bool) (raw : List ℕ) → written_of wanted true raw ≡ (if wanted then raw else [])

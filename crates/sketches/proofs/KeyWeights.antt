@@ -21,7 +21,7 @@ use Rattle.sketches.specs.Inputs.{FailsAmong, FailsInputs, FailsTakingInputs, Ha
 use Rattle.sketches.specs.KeyWeightLaws.{all_lines, no_lines}
 use Rattle.sketches.specs.KeyWeights.{CountsLines, CountsWeighed, IsEmptyTable, IsWeightOf, Row, WritesEstimates, WritesWeights, bucket_weight, counted, parts_in, total_line, unweighed_in, unweighed_line, unweighed_lines, usable_seed, weighed_in, weighed_line, weighed_lines}
 use Rattle.sketches.specs.Reading.{AreFirstRecords, FailsInput, TakesInput}
-use Rattle.sketches.specs.RecordParts.{records_by, splits_by}
+use Rattle.sketch_base.specs.Records.{records_by, splits_by}
 use Rattle.sketches.specs.Unseen.{hashed}
 use Rattle.sketches.specs.UnseenLaws.{appends_both}
 use Rattle.sketches.specs.WeighFailures.{ComesLate, FailsLines, FailsWeigh}
@@ -33,7 +33,7 @@ use Rattle.sketches.specs.declared.failure.Failure.TheVariants.{Memory, LineTooL
 use Rattle.sketches.specs.declared.item_weigher.ItemWeigher.{ItemWeigher}
 use Rattle.sketches.specs.declared.item_weigher.WeighedRecord.{WeighedRecord}
 use Rattle.sketches.specs.declared.key_weights.KeyWeights.{KeyWeights}
-use Rattle.sketches.specs.declared.record_parts.RecordPart.{RecordPart}
+use Rattle.sketch_base.specs.declared.record_part.RecordPart.{RecordPart}
 use Rattle.sketches.specs.declared.weigh.WeighOptions.{WeighOptions}
 use Rattle.sketches.proofs.ReadInputs.{IsTaken, taken_one}
 

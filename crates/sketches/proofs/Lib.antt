@@ -9,7 +9,6 @@ pub mod JoinedInputs
 pub mod ItemWeights
 pub mod KeyWeights
 pub mod Merged
-pub mod Numbers
 pub mod RawSplits
 pub mod ReadInputs
 pub mod ReadLines

@@ -4,7 +4,7 @@ use Rattle.sketch_frequencies.proofs.KeyedBatches.{all_zip_push}
 use Rattle.sketches.specs.Reading.{AreFirstRecords, FailsInput, HasLongRecord, TakesInput}
 use Rattle.sketches.specs.Inputs.{AreRead, FailsAmong, FailsInputs, HaveLongRecord, OpensNext, TakesEach, TakesInputs}
 use Rattle.sketches.specs.declared.failure.Failure.{Failure}
-use Rattle.sketches.specs.declared.records.Records.{Records}
+use Rattle.sketch_base.specs.declared.records.Records.{Records}
 
 some_is_not_none : {A : Type 0} (x : A) → Some x ≡ None → ⊥
 some_is_not_none x e = cc

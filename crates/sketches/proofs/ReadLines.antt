@@ -11,8 +11,8 @@ use Rattle.sketch_base.specs.Split.{IsBehindLast, separates}
 use Rattle.sketch_base.specs.declared.separator.Separator.TheVariants.{LineFeed}
 use Rattle.sketches.specs.Reading.{AreWholeLines, AreWholeRecords, FailsTaking, FailsWithin, HasLongRecord, IsBehindEnd, IsInOne, IsInOneLine, TakesInput, TakesRecords, place_of}
 use Rattle.sketches.specs.declared.failure.Failure.{Failure}
-use Rattle.sketches.specs.declared.records.Records.{Records}
-use Rattle.sketches.specs.declared.records.Records.TheVariants.{Lines, Csv}
+use Rattle.sketch_base.specs.declared.records.Records.{Records}
+use Rattle.sketch_base.specs.declared.records.Records.TheVariants.{Lines, Csv}
 use Rattle.sketch_base.specs.Csv.{EndsRecord, ends_field, is_feed, place_after}
 use Rattle.sketch_base.specs.declared.place.Place.{Place}
 use Rattle.sketch_base.specs.declared.place.Place.TheVariants.{Start}

@@ -25,9 +25,11 @@ use Rattle.sketch_frequencies.specs.WeightedBatches.{all_weighed}
 use Rattle.sketches.specs.Added.{Sketch, AddsLine, AddsLines, AddsStrings, AddsWeighed}
 use Rattle.sketches.specs.Failures.{FailsAdding, FailsLine, FailsLines, FailsWeighing, IsBadWeight}
 use Rattle.sketches.specs.Faults.{failure_of}
-use Rattle.sketches.specs.Items.{items_of, items_of_raw_line, part_of}
+use Rattle.sketches.specs.Items.{items_of, items_of_raw_line}
+use Rattle.sketch_base.specs.Decimals.{number_in}
+use Rattle.sketch_base.specs.Records.{part_of}
 use Rattle.sketches.specs.Weighed.{Weighed, csv_items, field_weight, once, records_of, total_of, unweighed_of, unweighed_of_line, weighed_of, weighed_of_line, with_weight, without_weight}
-use Rattle.sketches.specs.Weights.{number_in, weight_in}
+use Rattle.sketches.specs.Weights.{weight_in}
 use Rattle.sketches.specs.declared.weighing.CsvPart.{CsvPart}
 use Rattle.sketch_base.specs.Csv.{field_at, text_of_field}
 use Rattle.std.specs.Option.{option_and_then}

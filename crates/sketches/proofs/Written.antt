@@ -7,10 +7,11 @@ use Rattle.std.specs.List.{flat_map}
 use Rattle.sketch_bloom.specs.State.{FilterState, all_inserted, contains_item, inserted, item_positions}
 use Rattle.sketch_bloom.proofs.SetAlgebra.{inserted_is_contained, union_keeps}
 use Rattle.sketches.specs.Inputs.{TakesEach, TakesInputs}
-use Rattle.sketches.specs.RecordParts.{raws_by, splits_by}
+use Rattle.sketches.specs.RecordParts.{raws_by}
+use Rattle.sketch_base.specs.Records.{splits_by}
 use Rattle.sketches.specs.Unseen.{AreFirst, WritesUnseen, hashed, is_seen, item_of, unseen_lines, with_items, with_lines}
 use Rattle.sketches.specs.UnseenLaws.{appends_none, appends_both, unseen_both, with_both}
-use Rattle.sketches.specs.declared.record_parts.RecordPart.{RecordPart}
+use Rattle.sketch_base.specs.declared.record_part.RecordPart.{RecordPart}
 use Rattle.sketches.specs.declared.unseen.UnseenLines.{UnseenLines}
 
 -- ---- a record whose item is not seen is the first with its item

@@ -17,9 +17,9 @@ use Rattle.sketch_frequencies.specs.Stands.{StandsFor, KeepsTailBudget}
 use Rattle.sketches.specs.Added.{Sketch, AddsStrings}
 use Rattle.sketches.specs.Failures.{FailsAdding}
 use Rattle.sketches.specs.Reading.{AreWholeLines, AreWholeRecords}
-use Rattle.sketches.specs.Weighed.{records_in}
-use Rattle.sketches.specs.declared.records.Records.{Records}
-use Rattle.sketches.specs.declared.records.Records.TheVariants.{Lines, Csv}
+use Rattle.sketch_base.specs.Records.{records_in}
+use Rattle.sketch_base.specs.declared.records.Records.{Records}
+use Rattle.sketch_base.specs.declared.records.Records.TheVariants.{Lines, Csv}
 use Rattle.sketches.specs.declared.failure.Failure.{Failure}
 use Rattle.sketches.specs.declared.failure.Failure.TheVariants.{Memory, LineTooLong, TooManyItems, BadSize, BadWeight, Write}
 

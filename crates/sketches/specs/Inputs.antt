@@ -4,7 +4,7 @@ use Rattle.std.specs.List.{AllZip}
 use Rattle.sketches.specs.Reading.{AreFirstRecords, HasLongRecord}
 use Rattle.sketches.specs.declared.failure.Failure.{Failure}
 use Rattle.sketches.specs.declared.failure.Failure.TheVariants.{Memory, LineTooLong}
-use Rattle.sketches.specs.declared.records.Records.{Records}
+use Rattle.sketch_base.specs.declared.records.Records.{Records}
 
 -- the next input was opened, and is left no more; or none is left
 abbrev pub OpensNext : {R : Type 0} → (R → Option (List ℕ)) → Option (List (List ℕ)) → Option (List (List ℕ)) → Option R → Type 0

@@ -1,19 +1,12 @@
 -- The items of lines.
-use Rattle.std.specs.Prelude.{ℕ, ◌==◌, List, [], ◌∷◌, take, drop}
-use Rattle.std.specs.List.{flat_map, slice_split}
+use Rattle.std.specs.Prelude.{ℕ, List}
+use Rattle.std.specs.List.{flat_map}
 use Rattle.std.specs.Str.Lossy.{utf8_lossy}
 use Rattle.std.specs.Str.Lines.{lines}
+use Rattle.sketch_base.specs.Records.{part_of}
 use Rattle.sketch_base.specs.Split.{words_of}
-use Rattle.sketches.specs.declared.selection.Part.{Part}
-use Rattle.sketches.specs.declared.selection.Part.TheVariants as part
 use Rattle.sketches.specs.declared.selection.Selection.{Selection}
 use Rattle.sketches.specs.declared.selection.Selection.TheVariants as selection
-
--- a part of a line, or nothing if the line has too few words or fields
-abbrev pub part_of : Part → List ℕ → List (List ℕ)
-part_of part.Line line = line ∷ []
-part_of (part.Word index) line = take 1 (drop index (words_of line))
-part_of (part.Field field) line = take 1 (drop field.index (slice_split (λ byte. byte == field.delimiter) line))
 
 -- the items of a line
 abbrev pub items_of_line : Selection → List ℕ → List (List ℕ)

@@ -4,9 +4,10 @@ use Rattle.std.specs.Io.KnownBytes.{Appends}
 use Rattle.std.specs.List.{flat_map}
 use Rattle.sketch_bloom.specs.State.{FilterState}
 use Rattle.sketches.specs.Inputs.{AreRead}
-use Rattle.sketches.specs.RecordParts.{raws_by, splits_by}
+use Rattle.sketches.specs.RecordParts.{raws_by}
+use Rattle.sketch_base.specs.Records.{splits_by}
 use Rattle.sketches.specs.Unseen.{is_seen, item_of, with_items, written_of}
-use Rattle.sketches.specs.declared.record_parts.RecordPart.{RecordPart}
+use Rattle.sketch_base.specs.declared.record_part.RecordPart.{RecordPart}
 
 -- the keys in a file of keys: the items of its records
 abbrev pub keys_of : RecordPart → List ℕ → List (List ℕ)

@@ -5,10 +5,11 @@ use Rattle.std.specs.Io.KnownBytes.{Appends}
 use Rattle.sketch_bloom.specs.State.{FilterState}
 use Rattle.sketches.specs.Joined.{joined_lines}
 use Rattle.sketches.specs.Reading.{AreWholeRecords}
-use Rattle.sketches.specs.RecordParts.{raws_by, splits_by}
+use Rattle.sketches.specs.RecordParts.{raws_by}
+use Rattle.sketch_base.specs.Records.{splits_by}
 use Rattle.sketches.specs.Unseen.{is_seen, item_of, with_lines, written_of}
 use Rattle.sketches.specs.UnseenLaws.{appends_none, appends_both, raw_records_both, raws_none, with_both}
-use Rattle.sketches.specs.declared.record_parts.RecordPart.{RecordPart}
+use Rattle.sketch_base.specs.declared.record_part.RecordPart.{RecordPart}
 
 -- ---- keys
 

@@ -13,7 +13,7 @@ use Rattle.sketch_countmin.specs.State.{CountState, IsMinCell}
 use Rattle.sketches.specs.AddingLaws.{records_both}
 use Rattle.sketches.specs.KeyWeights.{CountsLines, CountsWeighed, Row, WritesEstimates, counted, parts_in, row_line, unweighed_line, unweighed_lines, weighed_line, weighed_lines}
 use Rattle.sketches.specs.Reading.{AreWholeRecords}
-use Rattle.sketches.specs.RecordParts.{part_in, records_by, splits_by}
+use Rattle.sketch_base.specs.Records.{part_in, records_by, splits_by}
 use Rattle.sketches.specs.Unseen.{hashed}
 use Rattle.sketches.specs.UnseenLaws.{appends_none, appends_both}
 use Rattle.sketches.specs.WeighFailures.{FailsCounting, FailsLines}
@@ -22,8 +22,8 @@ use Rattle.sketches.specs.WeighingLaws.{total_both}
 use Rattle.sketches.specs.declared.failure.Failure.{Failure}
 use Rattle.sketches.specs.declared.failure.Failure.TheVariants.{Memory, LineTooLong, TooManyItems, BadSize, BadWeight, Write}
 use Rattle.sketches.specs.declared.item_weigher.WeighedRecord.{WeighedRecord}
-use Rattle.sketches.specs.declared.record_parts.RecordPart.{RecordPart}
-use Rattle.sketches.specs.declared.record_parts.RecordPart.TheVariants as part
+use Rattle.sketch_base.specs.declared.record_part.RecordPart.{RecordPart}
+use Rattle.sketch_base.specs.declared.record_part.RecordPart.TheVariants as part
 
 updated_both : (h : CountHistory) (xs ys : List (List ℕ × ℤ)) → each_updated h (xs ++ ys) ≡ each_updated (each_updated h xs) ys
 updated_both h [] ys = refl

@@ -13,13 +13,13 @@ use Rattle.sketch_countmin.specs.Stands.{Extends, StandsFor}
 use Rattle.sketch_countmin.specs.State.{CountState, IsMinCell, empty_state}
 use Rattle.sketches.specs.Inputs.{AreRead}
 use Rattle.sketches.specs.Reading.{AreFirstRecords}
-use Rattle.sketches.specs.RecordParts.{part_in, records_by, splits_by}
+use Rattle.sketch_base.specs.Decimals.{number_in}
+use Rattle.sketch_base.specs.Records.{part_in, records_by, splits_by}
 use Rattle.sketches.specs.TextEscapes.{text_escaped}
 use Rattle.sketches.specs.Unseen.{hashed}
 use Rattle.sketches.specs.Weighed.{Weighed, total_of, weight_of, without_weight}
-use Rattle.sketches.specs.Weights.{number_in}
 use Rattle.sketches.specs.declared.item_weigher.WeighedRecord.{WeighedRecord}
-use Rattle.sketches.specs.declared.record_parts.RecordPart.{RecordPart}
+use Rattle.sketch_base.specs.declared.record_part.RecordPart.{RecordPart}
 use Rattle.sketches.specs.declared.weigh.WeighOptions.{WeighOptions}
 
 -- the weight of a record: 1, or the number below 2^64 that a part spells, if the record has this part and it spells one

@@ -8,8 +8,8 @@ use Rattle.sketch_base.specs.declared.place.Place.TheVariants.{Start}
 use Rattle.sketch_base.specs.declared.separator.Separator.TheVariants.{LineFeed}
 use Rattle.sketches.specs.declared.failure.Failure.{Failure}
 use Rattle.sketches.specs.declared.failure.Failure.TheVariants.{Memory, LineTooLong}
-use Rattle.sketches.specs.declared.records.Records.{Records}
-use Rattle.sketches.specs.declared.records.Records.TheVariants.{Lines, Csv}
+use Rattle.sketch_base.specs.declared.records.Records.{Records}
+use Rattle.sketch_base.specs.declared.records.Records.TheVariants.{Lines, Csv}
 
 -- these bytes are whole lines: none, or the last is a line feed
 abbrev pub AreWholeLines : List ℕ → Type 0

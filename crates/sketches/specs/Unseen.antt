@@ -6,8 +6,9 @@ use Rattle.std.specs.List.{flat_map, list_any}
 use Rattle.sketch_base.specs.Hashes.{fed_bytes}
 use Rattle.sketch_bloom.specs.State.{FilterState, all_inserted, contains_item}
 use Rattle.sketches.specs.Inputs.{AreRead}
-use Rattle.sketches.specs.RecordParts.{part_in, raws_by, records_by, splits_by}
-use Rattle.sketches.specs.declared.record_parts.RecordPart.{RecordPart}
+use Rattle.sketches.specs.RecordParts.{raws_by}
+use Rattle.sketch_base.specs.Records.{part_in, records_by, splits_by}
+use Rattle.sketch_base.specs.declared.record_part.RecordPart.{RecordPart}
 
 -- the item of a record with its end: a part of the record without it, if the record has this part
 abbrev pub item_of : RecordPart → List ℕ → List (List ℕ)

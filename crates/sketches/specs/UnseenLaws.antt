@@ -10,12 +10,13 @@ use Rattle.sketch_base.proofs.CsvBoth.{raw_csv_both}
 use Rattle.sketch_bloom.specs.State.{FilterState, all_inserted, inserted}
 use Rattle.sketches.specs.RawLines.{raw_lines, raw_lines_of_parts}
 use Rattle.sketches.specs.Reading.{AreWholeLines, AreWholeRecords}
-use Rattle.sketches.specs.RecordParts.{raw_records_in, raws_by, splits_by}
+use Rattle.sketches.specs.RecordParts.{raw_records_in, raws_by}
+use Rattle.sketch_base.specs.Records.{splits_by}
 use Rattle.sketches.specs.Unseen.{hashed, is_seen, is_written, item_of, unseen_lines, with_items, with_lines}
-use Rattle.sketches.specs.declared.record_parts.RecordPart.{RecordPart}
-use Rattle.sketches.specs.declared.record_parts.RecordPart.TheVariants as part
-use Rattle.sketches.specs.declared.records.Records.{Records}
-use Rattle.sketches.specs.declared.records.Records.TheVariants as records
+use Rattle.sketch_base.specs.declared.record_part.RecordPart.{RecordPart}
+use Rattle.sketch_base.specs.declared.record_part.RecordPart.TheVariants as part
+use Rattle.sketch_base.specs.declared.records.Records.{Records}
+use Rattle.sketch_base.specs.declared.records.Records.TheVariants as records
 
 abbrev is_feed : ℕ → Bool
 is_feed byte = eqb byte 10

@@ -3,13 +3,14 @@ use Rattle.std.specs.Prelude.{ℕ, nat_lt, List, [], map, sum_by, Option, Some, 
 use Rattle.std.specs.List.{flat_map, slice_get}
 use Rattle.std.specs.Option.{option_and_then}
 use Rattle.std.specs.Str.{bytes_eq}
-use Rattle.std.specs.Str.Lines.{lines}
 use Rattle.std.specs.Str.Lossy.{utf8_lossy}
-use Rattle.sketch_base.specs.Csv.{csv_records, field_text}
-use Rattle.sketches.specs.Items.{items_of_raw_line, part_of}
-use Rattle.sketches.specs.Weights.{number_in, weight_in}
-use Rattle.sketches.specs.declared.records.Records.{Records}
-use Rattle.sketches.specs.declared.records.Records.TheVariants as records
+use Rattle.sketch_base.specs.Csv.{field_text}
+use Rattle.sketches.specs.Items.{items_of_raw_line}
+use Rattle.sketch_base.specs.Decimals.{number_in}
+use Rattle.sketch_base.specs.Records.{part_of, records_in}
+use Rattle.sketches.specs.Weights.{weight_in}
+use Rattle.sketch_base.specs.declared.records.Records.{Records}
+use Rattle.sketch_base.specs.declared.records.Records.TheVariants as records
 use Rattle.sketches.specs.declared.weighing.CsvPart.{CsvPart}
 use Rattle.sketches.specs.declared.weighing.Weighing.{Weighing}
 use Rattle.sketches.specs.declared.weighing.Weighing.TheVariants as weighing
@@ -47,10 +48,6 @@ splits_of (weighing.Field part) = records.Lines
 splits_of (weighing.Csv part) = records.Csv part.delimiter
 
 -- the records of an input
-abbrev pub records_in : Records → List ℕ → List (List ℕ)
-records_in records.Lines bytes = lines bytes
-records_in (records.Csv delimiter) bytes = csv_records delimiter bytes
-
 abbrev pub records_of : Weighing → List ℕ → List (List ℕ)
 records_of chosen bytes = records_in (splits_of chosen) bytes
 

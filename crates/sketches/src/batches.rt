@@ -6,7 +6,8 @@ ghost use Rattle.sketches.specs.Unseen.{AreNextLines, written_by};
 
 use crate::batch_sink::BatchSink;
 use crate::failure::Failure;
-use crate::record_parts::{RecordPart, next_record_with_end, whole_part_of};
+use crate::records::next_record_with_end;
+use sketch_base::records::{RecordPart, whole_part_of};
 use sketch_base::from_utf8;
 use std::alloc::Global;
 

@@ -11,7 +11,7 @@ use crate::failure::Failure;
 use crate::utf8_lines::str_of;
 use crate::weighed_lines::bad_field;
 use crate::weighing::{CsvPart, Weighing};
-use crate::weights::number_of;
+use sketch_base::records::number_of;
 use sketch_base::{append_csv_text, from_utf8, next_csv_record, nth_csv_field, plain_csv_text};
 use sketch_frequencies::FrequentItemsSketch;
 use std::alloc::{AllocError, Global};

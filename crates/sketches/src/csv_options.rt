@@ -1,10 +1,9 @@
 //! Options of records and their fields.
 use crate::item_weigher::WeighedRecord;
 use crate::options::field_between;
-use crate::record_parts::RecordPart;
-use crate::selection::{Part, Selection};
+use crate::selection::Selection;
 use crate::weighing::{WeighedPart, Weighing};
-use crate::weights::number_of;
+use sketch_base::records::{Part, RecordPart, number_of};
 use clap::{Arg, ArgAction, ArgMatches, Command};
 use std::alloc::{AllocError, Global};
 

@@ -9,10 +9,10 @@ use crate::keyed_options::{open_keys, reads_input_twice};
 use crate::keys::{key_of, seed_of};
 use crate::line_count::count_lines;
 use crate::record_options::weighed_record;
-use crate::record_parts::RecordPart;
 use crate::state_file::{load_state, save_state};
 use crate::uniq::{UniqOptions, uniq, uniq_after};
 use crate::{ERROR, STANDARD_INPUT, end, fail, max_line_of, message_of, number_of};
+use sketch_base::records::RecordPart;
 use clap::ArgMatches;
 use sketch_bloom::BloomFilter;
 

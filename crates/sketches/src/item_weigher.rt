@@ -1,17 +1,15 @@
 //! Adds the items of records with their weights to a Count-Min sketch.
 ghost use Rattle.std.specs.Prelude.{◌≡◌, Some, [], ◌∷◌, IfErr, IfOk, OnOk};
 ghost use Rattle.sketches.specs.KeyWeights.{CountsLines, CountsWeighed, unweighed_line, weight_on, weighed_line};
-ghost use Rattle.sketches.specs.RecordParts.{records_by};
+ghost use Rattle.sketch_base.specs.Records.{records_by};
 ghost use Rattle.sketches.specs.Failures.{IsBadWeight};
 ghost use Rattle.sketches.specs.WeighFailures.{FailsCounting, FailsLines};
 
 use crate::failure::Failure;
 use crate::line_sink::LineSink;
 use crate::raw_item::RawItem;
-use crate::record_parts::{RecordPart, next_record, record_part_of};
-use crate::records::Records;
 use crate::weighed_lines::bad_field;
-use crate::weights::number_of;
+use sketch_base::records::{RecordPart, Records, next_record, number_of, record_part_of};
 use sketch_base::from_utf8;
 use sketch_countmin::CountMinSketch;
 use std::alloc::{AllocError, Global};
@@ -34,7 +32,7 @@ pub struct ItemWeigher {
 
 impl LineSink<()> for ItemWeigher {
     ghost use Rattle.std.proofs.Common.{ap};
-    ghost use Rattle.sketches.specs.RecordParts.{splits_by};
+    ghost use Rattle.sketch_base.specs.Records.{splits_by};
     ghost use Rattle.sketches.specs.declared.item_weigher.WeighedRecord.{WeighedRecord};
     ghost use Rattle.sketches.specs.KeyWeightLaws.{counts_none, counts_both, counts_sooner, counts_later};
 

@@ -13,7 +13,7 @@ use crate::inputs::{Inputs, read_inputs};
 use crate::joined::JoinedLines;
 use crate::key_lines::KeyLines;
 use crate::reading::{BLOCK, read_lines};
-use crate::record_parts::RecordPart;
+use sketch_base::records::RecordPart;
 use sketch_bloom::BloomFilter;
 use std::alloc::Global;
 use std::io;

@@ -12,8 +12,7 @@ use crate::batches::{BATCH, take_batches, write_batch};
 use crate::failure::Failure;
 use crate::line_items::contains_record;
 use crate::line_sink::LineSink;
-use crate::record_parts::RecordPart;
-use crate::records::Records;
+use sketch_base::records::{RecordPart, Records};
 use sketch_base::Strs;
 use sketch_bloom::BloomFilter;
 use std::alloc::Global;
@@ -33,7 +32,7 @@ pub struct JoinedLines {
 
 impl<W: Write> LineSink<W> for JoinedLines {
     ghost use Rattle.std.proofs.Common.{ap};
-    ghost use Rattle.sketches.specs.RecordParts.{splits_by};
+    ghost use Rattle.sketch_base.specs.Records.{splits_by};
     ghost use Rattle.sketches.specs.JoinedLaws.{lines_none, lines_both};
     ghost use Rattle.sketches.specs.Failures.{FailsWriting};
 

@@ -8,8 +8,7 @@ use crate::batches::take_batches;
 use crate::failure::Failure;
 use crate::line_items::insert_record;
 use crate::line_sink::LineSink;
-use crate::record_parts::RecordPart;
-use crate::records::Records;
+use sketch_base::records::{RecordPart, Records};
 use sketch_base::Strs;
 use sketch_bloom::BloomFilter;
 use std::alloc::Global;
@@ -23,7 +22,7 @@ pub struct KeyLines {
 
 impl LineSink<()> for KeyLines {
     ghost use Rattle.std.proofs.Common.{ap};
-    ghost use Rattle.sketches.specs.RecordParts.{splits_by};
+    ghost use Rattle.sketch_base.specs.Records.{splits_by};
     ghost use Rattle.sketches.specs.JoinedLaws.{key_lines_none, key_lines_both};
     ghost use Rattle.sketches.specs.declared.failure.Failure.TheVariants.{Memory};
 

@@ -1,16 +1,15 @@
 //! Writes the weights of keys.
 ghost use Rattle.std.specs.Prelude.{◌≡◌, ◌++◌, Some, OnOk, pos};
 ghost use Rattle.sketch_countmin.specs.State.{IsMinCell};
-ghost use Rattle.sketches.specs.RecordParts.{part_in};
+ghost use Rattle.sketch_base.specs.Records.{part_in};
 ghost use Rattle.sketches.specs.Unseen.{hashed};
 ghost use Rattle.sketches.specs.KeyWeights.{WritesEstimates, parts_in, row_line};
 
 use crate::failure::Failure;
 use crate::line_sink::LineSink;
 use crate::raw_item::RawItem;
-use crate::record_parts::{RecordPart, next_record, record_part_of};
-use crate::records::Records;
 use crate::text_escapes::append_text;
+use sketch_base::records::{RecordPart, Records, next_record, record_part_of};
 use sketch_base::from_utf8;
 use sketch_countmin::CountMinSketch;
 use std::alloc::{AllocError, Global};
@@ -32,7 +31,7 @@ pub struct KeyWeights {
 
 impl<W: Write> LineSink<W> for KeyWeights {
     ghost use Rattle.std.proofs.Common.{ap};
-    ghost use Rattle.sketches.specs.RecordParts.{splits_by};
+    ghost use Rattle.sketch_base.specs.Records.{splits_by};
     ghost use Rattle.sketches.specs.KeyWeightLaws.{keys_none, keys_both};
     ghost use Rattle.sketches.specs.Failures.{FailsWriting};
 

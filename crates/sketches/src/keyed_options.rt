@@ -3,8 +3,8 @@ use crate::csv_options::{csv_options, line_part};
 use crate::files::{Files, Opened};
 use crate::inputs::Inputs;
 use crate::record_options::record_at;
-use crate::record_parts::RecordPart;
 use crate::{ERROR, fail, max_line_of};
+use sketch_base::records::RecordPart;
 use clap::{Arg, ArgMatches, Command};
 use std::alloc::{AllocError, Global};
 

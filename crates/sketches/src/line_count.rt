@@ -7,8 +7,8 @@ use crate::failure::Failure;
 use crate::join::JoinFailure;
 use crate::line_sink::LineSink;
 use crate::reading::{BLOCK, read_lines};
-use crate::record_parts::{RecordPart, next_record_with_end};
-use crate::records::Records;
+use crate::records::next_record_with_end;
+use sketch_base::records::{RecordPart, Records};
 use std::alloc::Global;
 use std::io::Read;
 
@@ -21,7 +21,7 @@ pub struct LineCount {
 
 impl LineSink<()> for LineCount {
     ghost use Rattle.std.proofs.Common.{ap};
-    ghost use Rattle.sketches.specs.RecordParts.{splits_by};
+    ghost use Rattle.sketch_base.specs.Records.{splits_by};
     ghost use Rattle.sketches.specs.CountedLines.{counts_none, counts_both, exceeds_sooner, exceeds_later};
     ghost use Rattle.sketches.specs.declared.failure.Failure.TheVariants.{TooManyItems};
 

@@ -1,11 +1,11 @@
 //! The items of records in a filter.
 ghost use Rattle.std.specs.Prelude.{◌≡◌, IfOk, OnOk};
 ghost use Rattle.sketch_bloom.specs.State.{contains_item, inserted};
-ghost use Rattle.sketches.specs.RecordParts.{part_in};
+ghost use Rattle.sketch_base.specs.Records.{part_in};
 ghost use Rattle.sketches.specs.Unseen.{hashed, is_seen, with_items};
 
 use crate::raw_item::RawItem;
-use crate::record_parts::{RecordPart, record_part_of};
+use sketch_base::records::{RecordPart, record_part_of};
 use sketch_base::from_utf8;
 use sketch_bloom::BloomFilter;
 use std::alloc::{AllocError, Global};

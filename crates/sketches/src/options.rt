@@ -1,6 +1,5 @@
 //! The command line.
 use crate::csv_options::{with_fields, with_weight};
-use crate::field::Field;
 use crate::filter_options::{no_note, with_size, with_state};
 use crate::image_options::{merge_command, show_command};
 use crate::join_options::join_command;
@@ -8,6 +7,7 @@ use crate::percent::percent_of;
 use crate::shared_options::{above, escape, exact, json, key, no_header, rows, save};
 use crate::table_size::size_for;
 use crate::weigh_options::weigh_command;
+use sketch_base::records::Field;
 use clap::{Arg, ArgAction, ArgMatches, Command, value_parser};
 use std::alloc::{AllocError, Global};
 

@@ -1,7 +1,6 @@
 //! Percentages.
 ghost use Rattle.std.specs.Prelude.{◌<◌, ◌≤◌, IfSome};
-
-use crate::weights::number_of;
+use sketch_base::records::number_of;
 
 /// The number of millionths of a percent in 100 percent.
 pub const WHOLE: u32 = 100_000_000;

@@ -1,27 +1,9 @@
 //! Lines of bytes that may not be UTF-8.
 ghost use Rattle.std.specs.Prelude.{◌≡◌};
 ghost use Rattle.std.specs.Str.Lines.{strip_carriage_return};
-ghost use Rattle.sketch_base.specs.Split.{TakesLine};
 ghost use Rattle.sketches.specs.RawLines.{TakesRawLine};
 
 use sketch_base::{Separator, first_separator};
-
-/// Returns the first line of bytes and the bytes after its end, or `None` if there are no bytes.
-///
-/// A line ends at a line feed or at the end of the bytes. It has neither the line feed nor a carriage return before it.
-pub fn next_raw_line(bytes: &[u8]) -> Option<(&[u8], &[u8])>
-    ensures { TakesLine bytes.now result }
-{
-    if bytes.is_empty() {
-        return None;
-    }
-    let (line, after) = bytes.split_at(first_separator(bytes, Separator::LineFeed));
-    if after.is_empty() {
-        return Some((line, after));
-    }
-    let (_, rest) = after.split_at(1);
-    Some((without_carriage_return(line), rest))
-}
 
 /// Returns the first line of bytes with its end, the same line without it, and the bytes after it. Returns `None` if there are no
 /// bytes.

@@ -5,7 +5,8 @@ ghost use Rattle.sketches.specs.Reading.{FailsInput, FailsWithin, Fills, IsInOne
 
 use crate::failure::Failure;
 use crate::line_sink::LineSink;
-use crate::records::{Records, finished_records};
+use crate::records::finished_records;
+use sketch_base::records::Records;
 use sketch_base::Place;
 use std::alloc::Global;
 use std::io;

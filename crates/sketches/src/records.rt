@@ -1,17 +1,11 @@
-//! How inputs are split into records.
+//! Where inputs can be split into records.
 ghost use Rattle.std.specs.Prelude.{◌≡◌, ◌≤◌, length};
+ghost use Rattle.sketches.specs.RecordParts.{TakesRawRecord};
 ghost use Rattle.sketches.specs.Reading.{IsBehindEnd, place_of};
 
-use sketch_base::{Place, finished_csv_records, finished_lines};
-
-/// How inputs are split into records.
-#[derive(Clone, Copy)]
-pub enum Records {
-    /// Each line is a record.
-    Lines,
-    /// The records of CSV with this delimiter.
-    Csv(u8),
-}
+use crate::raw_lines::next_line_with_end;
+use sketch_base::records::{RecordPart, Records};
+use sketch_base::{Place, finished_csv_records, finished_lines, next_csv_record};
 
 /// Returns the number of bytes through the last end of a record, or 0 if there is none, and the place in a field after all bytes.
 ///
@@ -25,5 +19,22 @@ pub fn finished_records(records: Records, place: Place, bytes: &[u8]) -> (usize,
     match records {
         Records::Lines => (finished_lines(bytes), Place::Start),
         Records::Csv(delimiter) => finished_csv_records(delimiter, place, bytes),
+    }
+}
+
+/// Returns the first record of bytes with its end, the same record without it, and the bytes after it. Returns `None` if there are no
+/// bytes.
+///
+/// The end is the line feed and a carriage return before it. The last record may have no end.
+#[inline(always)]
+pub fn next_record_with_end(part: RecordPart, bytes: &[u8]) -> Option<(&[u8], &[u8], &[u8])>
+    ensures { TakesRawRecord part bytes.now result }
+{
+    match part {
+        RecordPart::Line(_) => next_line_with_end(bytes),
+        RecordPart::Csv(field) => match next_csv_record(bytes, field.delimiter) {
+            Some((raw, row, after)) => Some((raw, row, after)),
+            None => None,
+        },
     }
 }

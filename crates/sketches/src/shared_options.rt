@@ -2,7 +2,7 @@
 use crate::layout::{Layout, Style};
 use crate::percent::percent_of;
 use crate::threshold::Threshold;
-use crate::weights::number_of;
+use sketch_base::records::number_of;
 use clap::{Arg, ArgAction, ArgMatches, value_parser};
 use std::alloc::Global;
 

@@ -11,8 +11,7 @@ use crate::batches::{BATCH, take_batches, write_batch};
 use crate::failure::Failure;
 use crate::line_items::insert_record;
 use crate::line_sink::LineSink;
-use crate::record_parts::RecordPart;
-use crate::records::Records;
+use sketch_base::records::{RecordPart, Records};
 use sketch_base::Strs;
 use sketch_bloom::BloomFilter;
 use std::alloc::Global;
@@ -32,7 +31,7 @@ pub struct UnseenLines {
 
 impl<W: Write> LineSink<W> for UnseenLines {
     ghost use Rattle.std.proofs.Common.{ap};
-    ghost use Rattle.sketches.specs.RecordParts.{splits_by};
+    ghost use Rattle.sketch_base.specs.Records.{splits_by};
     ghost use Rattle.sketches.specs.UnseenLaws.{takes_nothing, takes_lines};
     ghost use Rattle.sketches.specs.Failures.{FailsWriting};
 

@@ -14,7 +14,7 @@ use crate::inputs::{Inputs, read_inputs};
 use crate::item_weigher::{ItemWeigher, WeighedRecord};
 use crate::key_weights::KeyWeights;
 use crate::reading::{BLOCK, read_lines};
-use crate::record_parts::RecordPart;
+use sketch_base::records::RecordPart;
 use sketch_base::{DEFAULT_UPDATE_SEED, ErrorKind, compute_seed_hash};
 use sketch_countmin::{CountMinSketch, suggest_num_buckets, suggest_num_hashes};
 use std::alloc::{AllocError, Global};

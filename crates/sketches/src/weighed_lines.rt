@@ -7,12 +7,10 @@ ghost use Rattle.sketches.specs.Failures.{FailsLine, FailsLines, IsBadWeight};
 ghost use Rattle.sketches.specs.Utf8Lines.{GrowsBy, not_utf8_in};
 
 use crate::failure::{BadWeight, Failure};
-use crate::raw_lines::next_raw_line;
-use crate::raw_parts::raw_part_of;
-use crate::selection::{Part, part_of};
 use crate::utf8_lines::str_of;
 use crate::weighing::{WeighedPart, Weighing};
 use crate::weights::weight_of;
+use sketch_base::records::{Part, next_raw_line, part_of, raw_part_of};
 use sketch_frequencies::FrequentItemsSketch;
 use std::alloc::{AllocError, Global};
 

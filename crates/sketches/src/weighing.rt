@@ -2,8 +2,8 @@
 ghost use Rattle.std.specs.Prelude.{◌≡◌};
 ghost use Rattle.sketches.specs.Weighed.{splits_of};
 
-use crate::records::Records;
-use crate::selection::{Part, Selection};
+use crate::selection::Selection;
+use sketch_base::records::{Part, Records};
 
 /// The items of a record and their weights. A record is a line, or one of CSV.
 #[derive(Clone, Copy)]

@@ -1,9 +1,9 @@
 //! The weights of lines.
 ghost use Rattle.std.specs.Prelude.{◌≡◌};
-ghost use Rattle.sketches.specs.Weights.{number_in, weight_in};
+ghost use Rattle.sketches.specs.Weights.{weight_in};
+ghost use Rattle.sketch_base.specs.Decimals.{number_in};
 
-use crate::raw_parts::raw_part_of;
-use crate::selection::Part;
+use sketch_base::records::{Part, number_of, raw_part_of};
 
 /// Returns the weight in a part of a line.
 ///
@@ -17,27 +17,4 @@ pub fn weight_of(part: Part, line: &[u8]) -> Option<u64>
         Some(text) => number_of(text),
         None => None,
     }
-}
-
-/// Returns the number that decimal digits spell, or `None` if another byte is among them, there are none, or it exceeds `u64::MAX`.
-#[inline(always)]
-pub fn number_of(text: &[u8]) -> Option<u64>
-    ensures { result ≡ number_in text.now }
-{
-    if text.is_empty() {
-        return None;
-    }
-    let mut value: u64 = 0;
-    'digits: for at in 0..text.len() {
-        let byte = text[at];
-        if !byte.is_ascii_digit() {
-            return None;
-        }
-        let digit = u64::from(byte - b'0');
-        if value > (u64::MAX - digit) / 10 {
-            return None;
-        }
-        value = 10 * value + digit;
-    }
-    Some(value)
 }

@@ -10,11 +10,11 @@ each-init c = (lines_none c.args.selection c.args.sketch.now (lines c.args.bytes
 
 pub each-preserved : goal.each-preserved
 each-preserved c = (
-  lines_more c.args.selection c.args.sketch.now c.each.sketch c.add_raw_line.new.sketch (lines c.args.bytes.now) (lines c.each.rest.now) (lines c.in-Some.after.now) c.in-Some.line.now c.each.invariant.0 c.in-Some.ensures.0 c.in_ok-add_raw_line.ensures.added,
-  grown_more c.args.not_utf8.now c.each.not_utf8 c.add_raw_line.new.not_utf8 (lines c.args.bytes.now) (lines c.each.rest.now) (lines c.in-Some.after.now) c.in-Some.line.now c.each.invariant.1 c.in-Some.ensures.0 c.add_raw_line.ensures.counted,
+  lines_more c.args.selection c.args.sketch.now c.each.sketch c.add_raw_line.new.sketch (lines c.args.bytes.now) (lines c.each.rest.now) (lines c.in-Some.after.now) c.in-Some.line.now c.each.invariant.0 c.in-Some.ensures.taken.0 c.in_ok-add_raw_line.ensures.added,
+  grown_more c.args.not_utf8.now c.each.not_utf8 c.add_raw_line.new.not_utf8 (lines c.args.bytes.now) (lines c.each.rest.now) (lines c.in-Some.after.now) c.in-Some.line.now c.each.invariant.1 c.in-Some.ensures.taken.0 c.add_raw_line.ensures.counted,
 )
 
 pub returns-in_err-add_raw_line-clause-failed : goal.returns-in_err-add_raw_line-clause-failed
 returns-in_err-add_raw_line-clause-failed c =
     let e = err_from_is_err_and c.from_residual.result c.from_residual.ensures.1 in
-    rw (e.1, e.2) (lines_failed c.args.selection c.args.sketch.now c.each.sketch (lines c.args.bytes.now) (lines c.each.rest.now) (lines c.in-Some.after.now) c.in-Some.line.now _ c.each.invariant.0 c.in-Some.ensures.0 c.in_err-add_raw_line.ensures.failed)
+    rw (e.1, e.2) (lines_failed c.args.selection c.args.sketch.now c.each.sketch (lines c.args.bytes.now) (lines c.each.rest.now) (lines c.in-Some.after.now) c.in-Some.line.now _ c.each.invariant.0 c.in-Some.ensures.taken.0 c.in_err-add_raw_line.ensures.failed)

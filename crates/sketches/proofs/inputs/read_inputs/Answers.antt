@@ -1,7 +1,7 @@
 use Rattle.std.proofs.Common.{refl, subst, ◌∙◌}
 use Rattle.std.proofs.lemmas.Result.{err_from_is_err_and}
 use Rattle.sketches.specs.Reading.{FailsInput, TakesInput}
-use Rattle.sketches.specs.declared.records.Records.{Records}
+use Rattle.sketch_base.specs.declared.records.Records.{Records}
 use Rattle.sketches.proofs.ReadInputs.{inputs_none, inputs_more, inputs_failed}
 use Rattle.sketches.proofs.inputs.read_inputs.Goals as goal
 

@@ -1,5 +1,5 @@
 use Rattle.std.proofs.Common.{length}
-use Rattle.sketches.specs.RecordParts.{records_by}
+use Rattle.sketch_base.specs.Records.{records_by}
 use Rattle.sketches.proofs.ItemWeights.{HasCountedLines}
 use Rattle.sketches.proofs.item_weigher.add_lines.Given as goal
 

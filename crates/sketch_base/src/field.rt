@@ -1,4 +1,4 @@
-//! A field of a line between delimiters.
+//! Fields between delimiters.
 ghost use Rattle.std.specs.Prelude.{◌<◌};
 
 /// The field of an index, counted from 0, between delimiters of one byte.

@@ -1,6 +1,6 @@
 use Rattle.std.proofs.Common.{◌∙◌, refl, sym, arith}
-use Rattle.sketches.proofs.Numbers.{number_of_other, number_too_large, reads_more}
-use Rattle.sketches.proofs.weights.number_of.Goals as goal
+use Rattle.sketch_base.proofs.Digits.{number_of_other, number_too_large, reads_more}
+use Rattle.sketch_base.proofs.decimals.number_of.Goals as goal
 
 pub returns-then-not-is_ascii_digit : goal.returns-then-not-is_ascii_digit
 returns-then-not-is_ascii_digit c = number_of_other c.args.text.now c.digits.at (omega (arith, c.digits-test.true)) (sym c.is_ascii_digit.ensures.value ∙ c.if-not-is_ascii_digit.true)

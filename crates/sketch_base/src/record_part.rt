@@ -1,12 +1,12 @@
 //! The parts of records.
 ghost use Rattle.std.specs.Prelude.{◌≡◌, ◌∷◌, [], IfOk, IfSome, MatchOption};
-ghost use Rattle.sketches.specs.RecordParts.{TakesRawRecord, TakesRecord, part_in, splits_by};
+ghost use Rattle.sketch_base.specs.Records.{IsEndOf, TakesRecord, part_in, splits_by};
 
-use crate::raw_lines::{next_line_with_end, next_raw_line};
-use crate::raw_parts::raw_part_of;
+use crate::csv_fields::{append_csv_text, nth_csv_field, plain_csv_text};
+use crate::csv_records::next_csv_record;
+use crate::part::{Part, raw_part_of};
+use crate::raw_lines::next_raw_line;
 use crate::records::Records;
-use crate::selection::Part;
-use sketch_base::{append_csv_text, next_csv_record, nth_csv_field, plain_csv_text};
 use std::alloc::AllocError;
 
 /// A part of a record.
@@ -26,7 +26,7 @@ pub struct CsvField {
 }
 
 impl RecordPart {
-    /// Returns how inputs are split into records that have this part.
+    /// Returns how bytes are split into records that have this part.
     pub fn records(self) -> Records
         ensures { result ≡ splits_by self }
     {
@@ -37,27 +37,11 @@ impl RecordPart {
     }
 }
 
-/// Returns the first record of bytes with its end, the same record without it, and the bytes after it. Returns `None` if there are no
-/// bytes.
-///
-/// The end is the line feed and a carriage return before it. The last record may have no end.
-#[inline(always)]
-pub fn next_record_with_end(part: RecordPart, bytes: &[u8]) -> Option<(&[u8], &[u8], &[u8])>
-    ensures { TakesRawRecord part bytes.now result }
-{
-    match part {
-        RecordPart::Line(_) => next_line_with_end(bytes),
-        RecordPart::Csv(field) => match next_csv_record(bytes, field.delimiter) {
-            Some((raw, row, after)) => Some((raw, row, after)),
-            None => None,
-        },
-    }
-}
-
-/// Returns the first record of bytes without its end, and the bytes after it. Returns `None` if there are no bytes.
+/// Returns the first record of bytes without its end, and the bytes after it. Returns `None` if there are no bytes. Does not allocate.
 #[inline(always)]
 pub fn next_record(part: RecordPart, bytes: &[u8]) -> Option<(&[u8], &[u8])>
-    ensures { TakesRecord part bytes.now result }
+    ensures taken { TakesRecord part bytes.now result }
+    ensures end { IfSome result (λ taken. IsEndOf bytes.now taken.1.now) }
 {
     match part {
         RecordPart::Line(_) => next_raw_line(bytes),
@@ -68,7 +52,7 @@ pub fn next_record(part: RecordPart, bytes: &[u8]) -> Option<(&[u8], &[u8])>
     }
 }
 
-/// Returns a part of a record, or `None` if the record does not have it or its bytes do not stand in one piece.
+/// Returns a part of a record, or `None` if the record does not have it or its bytes do not stand in one piece. Does not allocate.
 #[inline(always)]
 pub fn whole_part_of(part: RecordPart, row: &[u8]) -> Option<&[u8]>
     ensures { IfSome result (λ item. part_in part row.now ≡ item.now ∷ []) }
