@@ -178,9 +178,9 @@ def with_columns(file: Part, column: str, weight: str | None, no_header: bool, d
 
 
 def image_of(words: argparse.Namespace, shape: Shape, parts: Sequence[Part]) -> bytes:
-    """Returns the image of the sketch of all parts. Threads of this process count lines and words, which the library does without
-    the interpreter's lock. Workers of Dask count columns and fields, and all that a scheduler is named for."""
-    if words.scheduler is None and words.column is None and words.field is None and words.weight_field is None:
+    """Returns the image of the sketch of all parts. Threads of this process count items, which the library does without the
+    interpreter's lock. If a scheduler is named, its workers count them."""
+    if words.scheduler is None:
         return image_by_threads(shape, parts, words.workers, words.fan_in)
     with connect(words.workers, words.scheduler) as client:
         return answer(client, merged(shape, sketches(shape, parts), words.fan_in))

@@ -22,11 +22,6 @@ from typing import Any, BinaryIO, Callable, Iterable, Iterator, NamedTuple, Sequ
 
 import datasketches_rattle as ds
 
-try:
-    import numpy
-except ImportError:  # then Python's csv reads all columns
-    numpy = None
-
 BLOCK = 1 << 20
 LONGEST_LINE = 1 << 24
 PACKED_STEP = 512  # this number of bytes of a .gz or .zst unpacks to at most some 16 MiB
@@ -298,37 +293,14 @@ def lines_of(path: str, at: int, data: bytes) -> list[str]:
 
 def full_lines(data: bytes) -> bytes:
     """Returns a block without its blank lines, and without CR at the end of a last line without LF."""
-    data = data.removesuffix(b"\r")
+    return without_blank_lines(data.removesuffix(b"\r"))
+
+
+def without_blank_lines(data: bytes) -> bytes:
+    """Returns a block without its blank lines."""
     if data.startswith((b"\n", b"\r\n")) or b"\n\n" in data or b"\n\r\n" in data:
         data = BLANK_LINES.sub(b"", data)
     return data
-
-
-def column_lines(columns: Columns, data: bytes) -> bytes | None:
-    """Returns the fields of a column without weights as lines. Returns None if the block needs Python's csv: for its quotes, or
-    for the error of a row."""
-    data = full_lines(data).replace(b"\r\n", b"\n")
-    delimiter = columns.delimiter.encode()
-    if numpy is None or columns.weight is not None or len(delimiter) != 1 or delimiter in b'"\r\n' or not data:
-        return None
-    if any(byte in data for byte in (b'"', b"\r", b"\0")):
-        return None
-    block = numpy.frombuffer(data + b"\n" * (not data.endswith(b"\n")), numpy.uint8)
-    ends = numpy.flatnonzero(block == ord("\n"))
-    starts = numpy.concatenate(([0], ends[:-1] + 1))
-    breaks = numpy.flatnonzero((block == ord("\n")) | (block == ord(delimiter)))  # the ends of all fields
-    first = numpy.searchsorted(breaks, starts)
-    last = numpy.searchsorted(breaks, ends)
-    if (ends - starts).max() > csv.field_size_limit() or (last - first).min() < columns.item:
-        return None
-    field_ends = breaks[first + columns.item]
-    field_starts = starts if columns.item == 0 else breaks[first + columns.item - 1] + 1
-    kept = numpy.zeros(len(block) + 1, numpy.int8)
-    kept[field_starts] += 1
-    kept[field_ends] -= 1
-    inside = numpy.cumsum(kept[:-1], dtype=numpy.int8).astype(bool)
-    inside[ends] = True
-    return block[inside].tobytes()
 
 
 def words_of(text: str) -> list[str]:
@@ -350,12 +322,6 @@ def fields_of(field: Field, data: bytes) -> list[bytes]:
         return [item.replace(b"\xff", b"\v") for item in fields_of(field, data.replace(b"\v", b"\xff"))]
     lines = data.replace(b"\r\n", b"\n").split(b"\n")
     return [fields[index] for line in lines if line and len(fields := line.split(delimiter, index + 1)) > index]
-
-
-def field_lines(field: Field, data: bytes) -> bytes | None:
-    """Returns the fields of a block as lines. Returns None if one ends in CR, which a line would lose."""
-    text = b"\n".join([*fields_of(field, data), b""])
-    return None if b"\r\n" in text else text
 
 
 def fields_with_lines(part: Part, field: Field, at: int, data: bytes, least: int, most: int) -> Batch:
@@ -463,8 +429,15 @@ class Heavy:
     def add(self, sketch: ds.FrequentItemsSketch, batch: Batch) -> None:
         sketch.update(batch.items, 1 if batch.weights is None else batch.weights)
 
+    @property
+    def takes_strings(self) -> bool:
+        return self.item in (str, "str")
+
     def add_text(self, sketch: ds.FrequentItemsSketch, text: bytes, words: bool) -> None:
         (sketch.update_words if words else sketch.update_lines)(text)
+
+    def add_fields(self, sketch: ds.FrequentItemsSketch, text: bytes, item: int | None, weight: int | None, **chosen: Any) -> tuple[int, int]:
+        return sketch.update_fields(text, item, weight=weight, **chosen)
 
     def join_all(self, sketch: ds.FrequentItemsSketch, others: list[ds.FrequentItemsSketch]) -> None:
         sketch.merge_all(others)
@@ -477,6 +450,7 @@ class Traffic:
     hashes: int
     buckets: int
     signed: bool = False
+    takes_strings = True
 
     @property
     def least(self) -> int:
@@ -498,6 +472,9 @@ class Traffic:
     def add_text(self, sketch: ds.CountMinSketch, text: bytes, words: bool) -> None:
         (sketch.update_words if words else sketch.update_lines)(text)
 
+    def add_fields(self, sketch: ds.CountMinSketch, text: bytes, item: int | None, weight: int | None, **chosen: Any) -> tuple[int, int]:
+        return sketch.update_fields(text, item, weight=weight, **chosen)
+
     def join_all(self, sketch: ds.CountMinSketch, others: list[ds.CountMinSketch]) -> None:
         sketch.merge_all(others)
 
@@ -509,6 +486,7 @@ class Seen:
     bits: int
     hashes: int
     least, most = 0, 2**64 - 1
+    takes_strings = True
 
     def empty(self) -> ds.BloomFilter:
         return ds.BloomFilter(self.bits, self.hashes)
@@ -522,34 +500,69 @@ class Seen:
     def add_text(self, sketch: ds.BloomFilter, text: bytes, words: bool) -> None:
         (sketch.insert_words if words else sketch.insert_lines)(text)
 
+    def add_fields(self, sketch: ds.BloomFilter, text: bytes, item: int | None, weight: int | None, **chosen: Any) -> tuple[int, int]:
+        return sketch.insert_fields(text, item, **chosen)
+
     def join_all(self, sketch: ds.BloomFilter, others: list[ds.BloomFilter]) -> None:
         sketch.union_all(others)
 
 
 Shape = Heavy | Traffic | Seen
+Sketch = ds.FrequentItemsSketch | ds.CountMinSketch | ds.BloomFilter
 
 
-def lines_for_sketch(part: Part, data: bytes) -> bytes | None:
-    """Returns a block's text from which a sketch takes the items: lines, or words. Returns None if Python must take them."""
-    if part.words:
-        return data
-    if part.field is not None:
-        return field_lines(part.field, data) if part.field.weight is None else None
-    return full_lines(data) if part.columns is None else column_lines(part.columns, data)
+def takes_fields(columns: Columns, data: bytes) -> bool:
+    """Returns whether the library reads the records of a block as Python's csv does: it takes more, as text after a quoted field.
+    Then CR stands before LF alone, and each quote begins a field, ends it, or is one of two for one."""
+    delimiter = columns.delimiter.encode()
+    if len(delimiter) != 1 or b"\0" in data or data.count(b"\r") != data.count(b"\r\n"):
+        return False
+    if max(map(len, data.split(b"\n"))) > csv.field_size_limit():
+        return False
+    if b'"' not in data:
+        return True
+    quotes = b"\n" + data.replace(b'""', b"").replace(b"\r\n", b"\n") + b"\n"
+    begin = quotes.count(delimiter + b'"') + quotes.count(b'\n"')
+    end = quotes.count(b'"' + delimiter) + quotes.count(b'"\n')
+    return begin == end and begin + end == quotes.count(b'"')
+
+
+def add_records(shape: Shape, sketch: Sketch, part: Part, at: int, data: bytes) -> None:
+    """Adds the items of a block's records, by one call of the library. If the library rejects a record, or the records are not the
+    block's lines, Python takes them, and raises `BadInput`."""
+    columns, field = part.columns, part.field
+    if field is not None:
+        lines = without_blank_lines(data)
+        chosen: dict[str, Any] = {"delimiter": None if field.delimiter is None else field.delimiter.decode()}
+        item, weight = field.index, field.weight
+    else:
+        assert columns is not None
+        lines = full_lines(data)
+        chosen = {"delimiter": columns.delimiter, "csv": True}
+        item, weight = columns.item, columns.weight
+    if shape.takes_strings and (columns is None or takes_fields(columns, lines)):
+        try:
+            records, left_out = shape.add_fields(sketch, lines, item, weight, **chosen)
+        except ds.SketchError:
+            pass  # and nothing was added
+        else:
+            if columns is None or (left_out == 0 and records == lines.count(b"\n") + (lines[-1:] not in (b"", b"\n"))):
+                return
+            batch_of(part, at, data, shape.least, shape.most)
+            raise BadInput(part.path, "records that are not lines", at)
+    shape.add(sketch, batch_of(part, at, data, shape.least, shape.most))
 
 
 def sketch_part(shape: Shape, part: Part) -> bytes:
-    """Returns the image of a sketch of a part's items. The sketch splits words and lines itself."""
+    """Returns the image of a sketch of a part's items. The library splits words, lines and records itself."""
     sketch = shape.empty()
     for at, data in blocks(part):
         if part.columns is not None or part.field is not None:
             text_of(part.path, at, data)  # the other columns and fields are UTF-8 too
-        text = lines_for_sketch(part, data)
-        if text is None:
-            shape.add(sketch, batch_of(part, at, data, shape.least, shape.most))
+            add_records(shape, sketch, part, at, data)
             continue
         try:
-            shape.add_text(sketch, text, part.words)
+            shape.add_text(sketch, data if part.words else full_lines(data), part.words)
         except ds.SketchError as error:
             if error.fault == "InvalidUtf8":
                 text_of(part.path, at, data)

@@ -137,10 +137,11 @@ enum {
     X(-42, DS_NO_MEMORY, "NoMemory", "out of memory") \
     X(-43, DS_BAD_SAMPLE_SIZE, "BadSampleSize", "sample size out of range") \
     X(-44, DS_BAD_WINDOWS, "BadWindows", "windows out of range") \
-    X(-6, DS_BAD_OFFSETS, "BadOffsets", "offsets missing, descending or out of range")
+    X(-6, DS_BAD_OFFSETS, "BadOffsets", "offsets missing, descending or out of range") \
+    X(-45, DS_BAD_WEIGHT, "BadWeight", "weight missing or no number in range")
 
 #define DS_AS_CONSTANT(number, constant, name, message) constant = number,
-enum { DS_SKETCH_ERRORS(DS_AS_CONSTANT) DS_MIN_RESULT = -44 };
+enum { DS_SKETCH_ERRORS(DS_AS_CONSTANT) DS_MIN_RESULT = -45 };
 #undef DS_AS_CONSTANT
 
 /* Returns the name of a result, as "Mismatch", and its message, as "shapes or seeds differ". They are never null, and are never
@@ -473,6 +474,39 @@ static inline ds_items ds_items_with_validity(ds_items items, const uint8_t *val
     return items;
 }
 
+/* --- Fields of records: a field of each line or record of CSV is an item, and another one may have its weight. --- */
+
+/* The formats of records. Calls return DS_BAD_ARGUMENT for another number. */
+enum {
+    DS_FIELDS_WORDS = 0,     /* a record is a line, as of `ds_items_lines`, and its fields are its words, as of `ds_items_words` */
+    DS_FIELDS_DELIMITED = 1, /* a record is a line, and its fields stand between single bytes of ASCII. Some may be empty */
+    DS_FIELDS_CSV = 2        /* a record of RFC 4180, read leniently: line ends and delimiters in quotes belong to its field, and two
+                              * quotes there stand for one. A record without bytes has no field */
+};
+
+/* The index that names no field. */
+#define DS_NO_FIELD UINT32_MAX
+
+/* Which fields are taken. Calls return DS_BAD_ARGUMENT for a delimiter from 128 on between fields of lines, and for a quote, LF or CR
+ * between those of CSV. */
+typedef struct ds_fields {
+    int32_t format;
+    uint8_t delimiter; /* the byte between fields. Words have none */
+    uint32_t item;     /* the index of the field that is the item, from 0. In a line, DS_NO_FIELD is the whole line */
+    uint32_t weight;   /* the index of the field with the weight. With DS_NO_FIELD each item has the weight 1 */
+} ds_fields;
+
+/* What a call read of records. It writes both numbers once all records are read, and the offset if a record has an error. */
+typedef struct ds_fields_read {
+    size_t num_records; /* of all records */
+    size_t num_items;   /* of those with an item. The others are left out */
+    size_t offset;      /* the index of the byte at which the first record with an error begins */
+} ds_fields_read;
+
+/* Returns the number of bytes through the last end of a record of CSV, or 0 if there is none. The bytes begin with a record, and those
+ * after the end may go on in the next chunk. */
+size_t ds_finished_csv_records(const uint8_t *bytes, size_t length, uint8_t delimiter);
+
 /* Writes the number of items: of rows with the missing ones, of words, or of lines. Returns DS_BAD_ARGUMENT, DS_BAD_OFFSETS or
  * DS_INVALID_UTF8 as each call with these items: then `count` stays as it was. Takes no handle and does not allocate. */
 int32_t ds_num_items(const ds_items *items, size_t *count);
@@ -491,6 +525,10 @@ int32_t ds_bloom_insert_fed(ds_sketch *handle, const uint8_t *item, size_t lengt
 
 /* Inserts many items, as one after another. */
 int32_t ds_bloom_insert_all(ds_sketch *handle, const ds_items *items);
+
+/* Inserts the item of each record into a filter. Returns DS_BAD_ARGUMENT, the error of a record, DS_NO_MEMORY, DS_NO_SKETCH and
+ * DS_WRONG_KIND as `ds_update_fields` does, and then changes nothing. A field with a weight is only checked. */
+int32_t ds_bloom_insert_fields(ds_sketch *handle, const uint8_t *bytes, size_t length, const ds_fields *fields, ds_fields_read *read);
 
 /* Returns DS_YES if the filter contains the item, and DS_NO otherwise. */
 int32_t ds_bloom_contains_u64(ds_sketch *handle, uint64_t item);
@@ -551,6 +589,16 @@ int32_t ds_update_all(ds_sketch *handle, const ds_items *items);
  * and no others. With a bitmap, the call copies the weights of the rows that are there. It allocates 8 bytes for each row, and
  * returns DS_NO_MEMORY if that fails, before errors of the handle. Then nothing changes. */
 int32_t ds_update_all_weighted(ds_sketch *handle, const ds_items *items, const uint64_t *weights, size_t num_weights);
+
+/* Adds the weight of each record to that of the record's item, in order, in a Count-Min sketch or in frequent strings. A weight is a
+ * number in decimal digits, below 2^64. For weights in int64_t it is from -2^63 to 2^63 - 1, and may begin with a minus sign.
+ *
+ * Bytes need not be UTF-8, but items do. Returns the first of these errors, and then changes no sketch: DS_BAD_ARGUMENT for the fields,
+ * DS_NO_SKETCH, the error of the first record with one, DS_NO_MEMORY if the items and weights of all records cannot be allocated,
+ * DS_WRONG_KIND, and DS_WEIGHT_OVERFLOW if the total has no room for all weights. The error of a record is DS_INVALID_UTF8 if its item
+ * is not UTF-8, and DS_BAD_WEIGHT if it has an item and no weight. Frequent items return DS_NO_MEMORY for the first item without memory:
+ * then the items before it are added, and no others. */
+int32_t ds_update_fields(ds_sketch *handle, const uint8_t *bytes, size_t length, const ds_fields *fields, ds_fields_read *read);
 
 /* --- Count-Min sketches with weights in uint64_t. An estimate is at most the total, and at least the item's own weight: what
  * was added for the item, halved and decayed as often as the sketch, and rounded down each time. --- */

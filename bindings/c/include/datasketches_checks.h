@@ -142,6 +142,12 @@ static inline size_t ds_check_text(size_t (*call)(const uint8_t *, size_t), cons
     return text ? call(text, length) : 0;
 }
 
+static inline size_t ds_check_csv(size_t (*call)(const uint8_t *, size_t, uint8_t), const uint8_t *bytes, size_t length,
+                                  uint8_t delimiter)
+{
+    return bytes ? call(bytes, length, delimiter) : 0;
+}
+
 /* Null means no bytes, whatever the length. */
 static inline uint64_t ds_check_hash(uint64_t (*call)(const uint8_t *, size_t, uint64_t, uint64_t), const uint8_t *bytes,
                                      size_t length, uint64_t k0, uint64_t k1)
@@ -171,6 +177,15 @@ DS_CHECK_BYTES_AND(u64_out, uint64_t *)
 DS_CHECK_BYTES_AND(i64_out, int64_t *)
 DS_CHECK_BYTES_AND(bounds_out, ds_frequent_items_bounds *)
 #undef DS_CHECK_BYTES_AND
+
+/* The bytes of records, and their fields. */
+static inline int32_t ds_check_fields(int32_t (*call)(ds_sketch *, const uint8_t *, size_t, const ds_fields *, ds_fields_read *),
+                                      ds_sketch *handle, const uint8_t *bytes, size_t length, const ds_fields *fields,
+                                      ds_fields_read *read)
+{
+    if ((!bytes && length) || !fields || !read) return DS_BAD_ARGUMENT;
+    return call(handle, bytes ? bytes : (const uint8_t *)ds_no_values(), length, fields, read);
+}
 
 /* The number of items. */
 static inline int32_t ds_check_num_items(int32_t (*call)(const ds_items *, size_t *), const ds_items *items, size_t *count)
@@ -244,6 +259,9 @@ static inline int32_t ds_check_string_rows(int32_t (*call)(ds_sketch *, bool, ui
 #define ds_deserialize_prefix(...) ds_check_prefix(ds_deserialize_prefix, __VA_ARGS__)
 #define ds_share(...) ds_check_two_handles(ds_share, __VA_ARGS__)
 #define ds_num_items(...) ds_check_num_items(ds_num_items, __VA_ARGS__)
+#define ds_finished_csv_records(...) ds_check_csv(ds_finished_csv_records, __VA_ARGS__)
+#define ds_update_fields(...) ds_check_fields(ds_update_fields, __VA_ARGS__)
+#define ds_bloom_insert_fields(...) ds_check_fields(ds_bloom_insert_fields, __VA_ARGS__)
 #define ds_bloom_insert_string(...) ds_check_bytes(ds_bloom_insert_string, __VA_ARGS__)
 #define ds_bloom_insert_fed(...) ds_check_bytes(ds_bloom_insert_fed, __VA_ARGS__)
 #define ds_bloom_insert_all(...) ds_check_items(ds_bloom_insert_all, __VA_ARGS__)

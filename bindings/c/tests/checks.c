@@ -43,7 +43,7 @@ _Static_assert(DS_BLOOM == 1 && DS_COUNT_MIN_U64 == 2 && DS_COUNT_MIN_I64 == 3 &
 _Static_assert(DS_NO == 0 && DS_YES == 1 && DS_NO_SKETCH == -1 && DS_WRONG_KIND == -2 && DS_NO_ROOM == -3 &&
                    DS_BAD_FRACTION == -4 && DS_BAD_ARGUMENT == -5 && DS_BAD_OFFSETS == -6 && DS_NO_RANDOM == -7 &&
                    DS_BAD_NUM_BITS == -11 && DS_MISMATCH == -16 && DS_INVALID_UTF8 == -40 && DS_NO_MEMORY == -42 &&
-                   DS_BAD_WINDOWS == -44,
+                   DS_BAD_WINDOWS == -44 && DS_BAD_WEIGHT == -45,
                "results");
 
 static const uint64_t K0 = 0x0706050403020100, K1 = 0x0f0e0d0c0b0a0908;

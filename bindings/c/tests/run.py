@@ -40,6 +40,7 @@ TABLE_KEY = {"DATASKETCHES_TABLE_KEY": bytes(range(16)).hex()}
 CROSSES = {"u8": "uint8_t", "u16": "uint16_t", "u32": "uint32_t", "u64": "uint64_t", "i32": "int32_t", "i64": "int64_t"}
 CROSSES |= {"usize": "size_t", "bool": "bool", "SketchHandle": "ds_sketch", "Status": "ds_status"}
 CROSSES |= {"ItemBounds": "ds_frequent_items_bounds", "ItemsArgument": "ds_items"}
+CROSSES |= {"FieldsArgument": "ds_fields", "FieldsRead": "ds_fields_read"}
 
 # The exports of the sources that only the library's own C calls.
 INTERNAL = {"ds_free_handle", "ds_new_frequent_items", "ds_read_image"}
@@ -285,7 +286,7 @@ class Tests:
             self.check(f"the constant of {name}", constant.replace("_", "") == name.upper())
         others = re.findall(r"pub const (\w+): i32 = (-?\d+);", read(f"{CRATE}/src/status_code.rt"))
         constants = re.findall(r"DS_(\w+) = (-?\d+)", read(f"{C}/include/datasketches.h"))
-        of_c = {("NO_RANDOM", "-7"), ("MIN_RESULT", "-44")}
+        of_c = {("NO_RANDOM", "-7"), ("MIN_RESULT", "-45")}
         kinds = re.findall(r"^ +(\d) => Some\(SketchKind::(\w+)\),$", read(f"{CRATE}/src/sketch_kind.rt"), re.MULTILINE)
         of_kinds = [(KINDS.get(name), number) for number, name in kinds]
         kinds = re.findall(r"^ +(\d) => Some\(ItemsKind::(\w+)\),$", read(f"{CRATE}/src/items_argument.rt"), re.MULTILINE)

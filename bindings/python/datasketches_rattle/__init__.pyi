@@ -51,6 +51,16 @@ class BloomFilter:
     def insert(self, items: Item | Items, /) -> None: ...
     def insert_words(self, text: Text, /, *, final: bool = True, threads: SupportsIndex | None = 1) -> int: ...
     def insert_lines(self, text: Text, /, *, final: bool = True, threads: SupportsIndex | None = 1) -> int: ...
+    def insert_fields(
+        self,
+        text: Text,
+        item: SupportsIndex | None,
+        /,
+        *,
+        delimiter: str | None = None,
+        csv: bool = False,
+        threads: SupportsIndex | None = 1,
+    ) -> tuple[int, int]: ...
     @classmethod
     def from_file(
         cls: type[_F],
@@ -121,6 +131,17 @@ class CountMinSketch:
     def update(self, items: Items, /, weight: Weight = 1) -> None: ...
     def update_words(self, text: Text, /, *, final: bool = True, threads: SupportsIndex | None = 1) -> int: ...
     def update_lines(self, text: Text, /, *, final: bool = True, threads: SupportsIndex | None = 1) -> int: ...
+    def update_fields(
+        self,
+        text: Text,
+        item: SupportsIndex | None,
+        /,
+        *,
+        weight: SupportsIndex | None = None,
+        delimiter: str | None = None,
+        csv: bool = False,
+        threads: SupportsIndex | None = 1,
+    ) -> tuple[int, int]: ...
     @classmethod
     def from_file(
         cls: type[_C],
@@ -192,6 +213,17 @@ class FrequentItemsSketch:
     def update(self, items: Items, /, weight: Weight = 1) -> None: ...
     def update_words(self, text: Text, /, *, final: bool = True, threads: SupportsIndex | None = 1) -> int: ...
     def update_lines(self, text: Text, /, *, final: bool = True, threads: SupportsIndex | None = 1) -> int: ...
+    def update_fields(
+        self,
+        text: Text,
+        item: SupportsIndex | None,
+        /,
+        *,
+        weight: SupportsIndex | None = None,
+        delimiter: str | None = None,
+        csv: bool = False,
+        threads: SupportsIndex | None = 1,
+    ) -> tuple[int, int]: ...
     @classmethod
     def from_file(
         cls: type[_I],

@@ -247,6 +247,7 @@ static PyMethodDef count_methods[] = {
     {"update", FAST(sketch_update), METH_FASTCALL | METH_KEYWORDS, update_doc},
     KEYWORDS_ROW("update_words", sketch_words, 0, count_words_doc),
     KEYWORDS_ROW("update_lines", sketch_lines, 0, count_lines_doc),
+    KEYWORDS_ROW("update_fields", sketch_fields, 0, count_fields_doc),
     CLASS_METHOD("from_file", count_from_file),
     {"estimate", count_estimate, METH_O, estimate_doc},
     {"upper_bound", count_upper_bound, METH_O, upper_bound_doc},

@@ -41,11 +41,13 @@ static PyObject *take_file(PyObject *Py_UNUSED(module), PyObject *args)
     PyObject *sketch, *given, *progress;
     int file, of_lines;
     size_t threads;
+    ds_fields_read read;
     Input input;
     if (!PyArg_ParseTuple(args, "OipOO", &sketch, &file, &of_lines, &given, &progress) || !is_of_texts(sketch) ||
         !threads_of((Sketch *)sketch, given, &threads))
         return NULL;
-    if (!input_open(file, &input) || !take_by_threads((Sketch *)sketch, &input, of_lines, threads, progress)) return NULL;
+    const Taken taken = {.of_lines = of_lines != 0};
+    if (!input_open(file, &input) || !take_by_threads((Sketch *)sketch, &input, &taken, threads, progress, &read)) return NULL;
     if (input.origin == FROM_FILE) lseek(file, (off_t)(input.start + input.length), SEEK_SET);
     Py_RETURN_NONE;
 }

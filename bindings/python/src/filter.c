@@ -220,6 +220,7 @@ static PyMethodDef filter_methods[] = {
     {"insert", filter_insert, METH_O, insert_doc},
     KEYWORDS_ROW("insert_words", sketch_words, 0, filter_words_doc),
     KEYWORDS_ROW("insert_lines", sketch_lines, 0, filter_lines_doc),
+    KEYWORDS_ROW("insert_fields", sketch_fields, 0, filter_fields_doc),
     CLASS_METHOD("from_file", filter_from_file),
     {"contains", filter_contains, METH_O, contains_doc},
     {"contains_and_insert", filter_contains_and_insert, METH_O, contains_and_insert_doc},

@@ -268,6 +268,7 @@ static PyMethodDef frequent_methods[] = {
     {"update", (PyCFunction)(void (*)(void))sketch_update, METH_FASTCALL | METH_KEYWORDS, update_doc},
     KEYWORDS_ROW("update_words", sketch_words, 0, frequent_words_doc),
     KEYWORDS_ROW("update_lines", sketch_lines, 0, frequent_lines_doc),
+    KEYWORDS_ROW("update_fields", sketch_fields, 0, frequent_fields_doc),
     CLASS_METHOD("from_file", frequent_from_file),
     {"bounds", frequent_bounds, METH_O, bounds_doc},
     {"estimate", frequent_estimate, METH_O, estimate_doc},

@@ -202,10 +202,14 @@ extern const char count_words_doc[];
 extern const char count_lines_doc[];
 extern const char frequent_words_doc[];
 extern const char frequent_lines_doc[];
+extern const char filter_fields_doc[];
+extern const char count_fields_doc[];
+extern const char frequent_fields_doc[];
 
-/* Take the words or the lines of a string or of a buffer, in all classes. */
+/* Take the words, the lines or the fields of a string or of a buffer, in all classes. */
 PyObject *sketch_words(PyObject *self, PyObject *args, PyObject *keywords);
 PyObject *sketch_lines(PyObject *self, PyObject *args, PyObject *keywords);
+PyObject *sketch_fields(PyObject *self, PyObject *args, PyObject *keywords);
 
 /* --- files.c --- */
 

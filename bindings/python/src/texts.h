@@ -1,4 +1,4 @@
-/* Declarations of text that is split into words or lines: of a string, of a buffer and of a file. */
+/* Declarations of text that is split into words, lines or fields of records: of a string, of a buffer and of a file. */
 #ifndef TEXTS_H
 #define TEXTS_H
 
@@ -8,6 +8,12 @@
 
 /* How many bytes one call of the library takes, and more only up to the end of a word or line. */
 #define PIECE ((size_t)1 << 20)
+
+/* What is taken of a text: its words, its lines, or a field of each of its records. */
+typedef struct {
+    bool of_lines;           /* whether a piece ends with a line, and not with a word */
+    const ds_fields *fields; /* the fields of records, or NULL for words and lines */
+} Taken;
 
 /* Returns whether a byte ends a word, or a line if `of_lines`. */
 static inline bool is_end(uint8_t byte, bool of_lines)
@@ -26,16 +32,32 @@ static inline size_t end_after(const uint8_t *bytes, size_t length, bool of_line
     return from < length ? from + 1 : length;
 }
 
+/* Returns the end of the piece of memory that begins at `from`: no word, line or record goes on after it. */
+static inline size_t piece_end(const uint8_t *bytes, size_t length, const Taken *taken, size_t from)
+{
+    if (length - from <= PIECE) return length;
+    if (taken->fields == NULL || taken->fields->format != DS_FIELDS_CSV)
+        return end_after(bytes, length, taken->of_lines, from + PIECE);
+    for (size_t size = PIECE; size < length - from; size *= 2) {
+        size_t end = ds_finished_csv_records(bytes + from, size, taken->fields->delimiter);
+        if (end > 0) return from + end;
+    }
+    return length;
+}
+
 /* Returns the words or the lines of bytes as the library takes them. */
 static inline ds_items items_in(const uint8_t *bytes, size_t length, bool of_lines)
 {
     return ds_items_in(of_lines ? DS_ITEMS_LINES : DS_ITEMS_WORDS, bytes, length);
 }
 
-/* Counts or inserts the words or lines of bytes. */
-static inline int32_t take_bytes(ds_sketch *handle, int32_t kind, const uint8_t *bytes, size_t length, bool of_lines)
+/* Counts or inserts the words, lines or fields of bytes. `read` is written for fields alone. */
+static inline int32_t take_bytes(ds_sketch *handle, int32_t kind, const uint8_t *bytes, size_t length, const Taken *taken,
+                                 ds_fields_read *read)
 {
-    ds_items items = items_in(bytes, length, of_lines);
+    if (taken->fields != NULL && kind == DS_BLOOM) return ds_bloom_insert_fields(handle, bytes, length, taken->fields, read);
+    if (taken->fields != NULL) return ds_update_fields(handle, bytes, length, taken->fields, read);
+    ds_items items = items_in(bytes, length, taken->of_lines);
     return kind == DS_BLOOM ? ds_bloom_insert_all(handle, &items) : ds_update_all(handle, &items);
 }
 
@@ -67,9 +89,11 @@ typedef struct {
  * one take at most 1 GiB in all. Returns false, with an error set, if the object is none of these. */
 bool threads_of(Sketch *self, PyObject *object, size_t *threads);
 
-/* Counts or inserts all words or lines, by threads that take pieces of about PIECE bytes. Each has a sketch of its own, and all are
- * merged at the end. Calls `progress`, unless it is NULL, with numbers of bytes that were taken. Returns false, with an error set,
- * if some bytes are rejected or cannot be read, or if Ctrl-C ends the call. Then the sketch is as before. */
-bool take_by_threads(Sketch *self, const Input *input, bool of_lines, size_t threads, PyObject *progress);
+/* Counts or inserts all words, lines or fields, by threads that take pieces of about PIECE bytes. Fields are those of memory. Each
+ * thread has a sketch of its own, and all are merged at the end. Calls `progress`, unless it is NULL, with numbers of bytes that were
+ * taken. Writes the numbers of records and of their items, for fields. Returns false, with an error set, if some bytes are rejected or
+ * cannot be read, or if Ctrl-C ends the call. Then the sketch is as before. */
+bool take_by_threads(Sketch *self, const Input *input, const Taken *taken, size_t threads, PyObject *progress,
+                     ds_fields_read *read);
 
 #endif

@@ -1,4 +1,4 @@
-/* The words and the lines of a text by several threads, each with a sketch of its own. */
+/* The words, the lines and the fields of a text by several threads, each with a sketch of its own. */
 #include "items.h"
 #include "texts.h"
 
@@ -40,11 +40,12 @@ typedef struct {
 /* The work of a call. `turn` guards what follows it, and `state` what follows that. */
 typedef struct {
     const Input *input;
-    bool of_lines;
+    const Taken *what;
     int32_t kind;
     ds_status sizes; /* those of the sketch */
     atomic_bool stopped;
-    atomic_uint_fast64_t taken; /* bytes of pieces that were taken */
+    atomic_uint_fast64_t taken;   /* bytes of pieces that were taken */
+    atomic_size_t records, items; /* of fields */
 
     pthread_mutex_t turn;
     uint64_t next; /* the offset of the next piece */
@@ -90,7 +91,7 @@ static int32_t memory_piece(Job *job, Buffer *buffer, Piece *piece)
     const Input *input = job->input;
     int32_t answer = DS_OK;
     size_t from = (size_t)job->next, length = (size_t)input->length;
-    size_t end = length - from <= PIECE ? length : end_after(input->bytes, length, job->of_lines, from + PIECE);
+    size_t end = piece_end(input->bytes, length, job->what, from);
     job->next = end;
     pthread_mutex_unlock(&job->turn);
     *piece = (Piece){input->bytes + from, end - from, from};
@@ -129,13 +130,13 @@ static int32_t read_to_end(Job *job, uint64_t at, Buffer *buffer)
 {
     const Input *input = job->input;
     int32_t answer = DS_OK;
-    bool found = is_end(buffer->bytes[buffer->length - 1], job->of_lines);
+    bool found = is_end(buffer->bytes[buffer->length - 1], job->what->of_lines);
     for (size_t more = LITTLE; !found && answer >= 0; more = buffer->length) {
         size_t length = buffer->length, count = at_most(input->length - at - length, more);
         answer = read_at(input, at + length, count, buffer);
         if (buffer->length == length) break;
-        size_t end = end_after(buffer->bytes, buffer->length, job->of_lines, length);
-        found = is_end(buffer->bytes[end - 1], job->of_lines);
+        size_t end = end_after(buffer->bytes, buffer->length, job->what->of_lines, length);
+        found = is_end(buffer->bytes[end - 1], job->what->of_lines);
         buffer->length = end;
     }
     return answer;
@@ -154,7 +155,7 @@ static int32_t file_piece(Job *job, Buffer *buffer, Piece *piece)
     size_t wanted = before + at_most(input->length - from, PIECE), begin = 0;
     buffer->length = 0;
     int32_t answer = read_at(input, at, wanted, buffer);
-    if (answer >= 0 && before > 0) begin = end_after(buffer->bytes, buffer->length, job->of_lines, 0);
+    if (answer >= 0 && before > 0) begin = end_after(buffer->bytes, buffer->length, job->what->of_lines, 0);
     if (answer >= 0 && begin < buffer->length && buffer->length == wanted) answer = read_to_end(job, at, buffer);
     *piece = (Piece){buffer->bytes + begin, buffer->length - begin, at + begin};
     return answer;
@@ -195,8 +196,8 @@ static int32_t read_piece(Job *job, Buffer *buffer, size_t *used)
         if (atomic_load(&job->stopped)) return DS_OK;
         if (job->at_end) *used = buffer->length;
         else if (answer >= 0)
-            *used =
-                job->of_lines ? ds_finished_lines(buffer->bytes, buffer->length) : ds_finished_words(buffer->bytes, buffer->length);
+            *used = job->what->of_lines ? ds_finished_lines(buffer->bytes, buffer->length)
+                                        : ds_finished_words(buffer->bytes, buffer->length);
         if (job->at_end) break;
     }
     return answer >= 0 ? append(&job->rest, buffer->bytes + *used, buffer->length - *used) : answer;
@@ -239,12 +240,18 @@ static bool next_piece(Job *job, Buffer *buffer, Piece *piece, int32_t *answer)
     return true;
 }
 
+/* Returns whether an error has a place: an item that is not UTF-8, or a record without a weight. */
+static bool has_place(int32_t answer)
+{
+    return answer == DS_INVALID_UTF8 || answer == DS_BAD_WEIGHT;
+}
+
 /* Stores the error of a piece if it is the first by its place, and lets all threads end after the pieces that they have. */
-static void stop(Job *job, int32_t answer, const Piece *piece)
+static void stop(Job *job, int32_t answer, const Piece *piece, const ds_fields_read *read)
 {
     int reason = errno;
     uint64_t byte = piece->at;
-    if (answer == DS_INVALID_UTF8) byte += ds_valid_utf8(piece->bytes, piece->length);
+    if (has_place(answer)) byte += job->what->fields != NULL ? read->offset : ds_valid_utf8(piece->bytes, piece->length);
     pthread_mutex_lock(&job->state);
     if (job->answer >= 0 || byte < job->byte) {
         job->answer = answer;
@@ -269,13 +276,15 @@ static int32_t part_new(Job *job, ds_sketch *part)
 }
 
 /* Takes a piece. The thread gets its sketch with the first one that is not empty. */
-static int32_t take_piece(Job *job, ds_sketch *part, const Piece *piece)
+static int32_t take_piece(Job *job, ds_sketch *part, const Piece *piece, ds_fields_read *read)
 {
     int32_t answer = DS_OK;
     if (piece->length == 0) return DS_OK;
     if (part->sketch == NULL) answer = part_new(job, part);
-    if (answer >= 0) answer = take_bytes(part, job->kind, piece->bytes, piece->length, job->of_lines);
+    if (answer >= 0) answer = take_bytes(part, job->kind, piece->bytes, piece->length, job->what, read);
     if (answer >= 0) atomic_fetch_add(&job->taken, piece->length);
+    if (answer >= 0) atomic_fetch_add(&job->records, read->num_records);
+    if (answer >= 0) atomic_fetch_add(&job->items, read->num_items);
     return answer;
 }
 
@@ -287,8 +296,9 @@ static void *work(void *given)
     ds_sketch part = DS_NONE;
     int32_t answer;
     while (next_piece(job, &buffer, &piece, &answer)) {
-        if (answer >= 0) answer = take_piece(job, &part, &piece);
-        if (answer < 0) stop(job, answer, &piece);
+        ds_fields_read read = {0, 0, 0};
+        if (answer >= 0) answer = take_piece(job, &part, &piece, &read);
+        if (answer < 0) stop(job, answer, &piece, &read);
     }
     PyMem_RawFree(buffer.bytes);
     pthread_mutex_lock(&job->state);
@@ -401,7 +411,7 @@ static bool all_taken(const Job *job)
     if (job->answer >= 0) return true;
     errno = job->reason;
     if (job->answer == NOT_READ) PyErr_SetFromErrno(PyExc_OSError);
-    else if (job->answer == DS_INVALID_UTF8) refuse_at(job->answer, (size_t)job->byte);
+    else if (has_place(job->answer)) refuse_at(job->answer, (size_t)job->byte);
     else refuse(job->answer);
     return false;
 }
@@ -429,16 +439,14 @@ static void init_ended(pthread_cond_t *ended)
     pthread_condattr_destroy(&attributes);
 }
 
-bool take_by_threads(Sketch *self, const Input *input, bool of_lines, size_t threads, PyObject *progress)
+bool take_by_threads(Sketch *self, const Input *input, const Taken *taken, size_t threads, PyObject *progress, ds_fields_read *read)
 {
-    Job job = {.input = input,
-               .of_lines = of_lines,
-               .kind = self->kind,
-               .turn = PTHREAD_MUTEX_INITIALIZER,
-               .state = PTHREAD_MUTEX_INITIALIZER};
+    Job job = {
+        .input = input, .what = taken, .kind = self->kind, .turn = PTHREAD_MUTEX_INITIALIZER, .state = PTHREAD_MUTEX_INITIALIZER};
     if (input->origin != FROM_STREAM) threads = at_most(input->length / PIECE + 1, threads);
     init_ended(&job.ended);
     bool done = prepare(&job, self, threads) && run(&job, threads, progress) && all_taken(&job) && merge(&job, self);
+    *read = (ds_fields_read){atomic_load(&job.records), atomic_load(&job.items), 0};
     release(&job, threads);
     return done;
 }

@@ -1,14 +1,14 @@
-/* The words and the lines of a string or of a buffer. */
+/* The words, the lines and the fields of records of a string or of a buffer. */
 #include "items.h"
 #include "texts.h"
 
-/* A method that takes words, or lines if `of_lines`. */
+/* A method that takes words, lines or fields. */
 typedef struct {
     const char *name;
-    bool of_lines;
+    Taken taken;
 } Method;
 
-/* The bytes whose words or lines are taken: those of a string or of a buffer. */
+/* The bytes whose words, lines or fields are taken: those of a string or of a buffer. */
 typedef struct {
     const uint8_t *bytes;
     size_t length;
@@ -45,21 +45,8 @@ static void text_release(Text *text)
     if (text->view.obj != NULL) PyBuffer_Release(&text->view);
 }
 
-/* Returns the end of the piece that begins at `from`: no word or line goes on after it. */
-static size_t piece_end(const Text *text, bool of_lines, size_t from)
-{
-    if (text->length - from <= PIECE) return text->length;
-    size_t end = from + PIECE;
-    if (of_lines) {
-        const uint8_t *last = memchr(text->bytes + end, '\n', text->length - end);
-        return last != NULL ? (size_t)(last - text->bytes) + 1 : text->length;
-    }
-    while (end < text->length && !is_end(text->bytes[end], false)) end++;
-    return end;
-}
-
-/* Takes the words or lines of a piece. Runs without the interpreter's lock. */
-static int32_t take_piece(Sketch *self, Text *text, bool of_lines, size_t from, size_t end)
+/* Takes the words, lines or fields of a piece. Runs without the interpreter's lock. */
+static int32_t take_piece(Sketch *self, Text *text, const Taken *taken, size_t from, size_t end, ds_fields_read *read)
 {
     const uint8_t *piece = text->bytes + from;
     uint64_t before = sketch_total(self);
@@ -70,7 +57,7 @@ static int32_t take_piece(Sketch *self, Text *text, bool of_lines, size_t from, 
         memcpy(copy, piece, end - from);
         piece = copy;
     }
-    int32_t answer = take_bytes(&self->handle, self->kind, piece, end - from, of_lines);
+    int32_t answer = take_bytes(&self->handle, self->kind, piece, end - from, taken, read);
     text->done += sketch_total(self) - before;
     return answer;
 }
@@ -86,12 +73,13 @@ static void refuse_utf8(const Text *text, size_t from, size_t end)
 static void refuse_piece(Sketch *self, Text *text, const Method *method, int32_t answer, size_t from, size_t end)
 {
     if (answer == DS_NO_MEMORY) {
-        PyErr_Format(PyExc_MemoryError, "memory ended when %zu %s were counted", text->done, method->of_lines ? "lines" : "words");
+        PyErr_Format(PyExc_MemoryError, "memory ended when %zu %s were counted", text->done,
+                     method->taken.of_lines ? "lines" : "words");
         return;
     }
     if (answer == DS_INVALID_UTF8) refuse_utf8(text, from, end);
     else if (answer < 0) refuse(answer);
-    ds_items front = items_in(text->bytes, answer < 0 ? from : end, method->of_lines);
+    ds_items front = items_in(text->bytes, answer < 0 ? from : end, method->taken.of_lines);
     if (self->kind == DS_BLOOM) ds_num_items(&front, &text->done); /* a filter has no total weight */
     if (text->done > 0) note_taken(text->done);
 }
@@ -101,12 +89,13 @@ static void refuse_piece(Sketch *self, Text *text, const Method *method, int32_t
 static bool take_text(Sketch *self, Text *text, const Method *method)
 {
     Use use = {.sketch = self, .changes = true};
+    ds_fields_read read;
     for (size_t from = 0, end; from < text->length; from = end) {
         int32_t answer;
-        end = piece_end(text, method->of_lines, from);
+        end = piece_end(text->bytes, text->length, &method->taken, from);
         if (!use_begin(&use)) return false;
         Py_BEGIN_ALLOW_THREADS
-        answer = take_piece(self, text, method->of_lines, from, end);
+        answer = take_piece(self, text, &method->taken, from, end, &read);
         Py_END_ALLOW_THREADS
         use_end(&use);
         if (answer < 0 || (end < text->length && PyErr_CheckSignals() < 0)) {
@@ -130,10 +119,10 @@ static PyObject *used_of(PyObject *given, const Text *text, size_t whole)
 }
 
 /* Does the same by several threads. Then an error leaves the sketch as it was. */
-static bool take_at_once(Sketch *self, const Text *text, const Method *method, size_t threads)
+static bool take_at_once(Sketch *self, const Text *text, const Method *method, size_t threads, ds_fields_read *read)
 {
     const Input input = {.bytes = text->bytes, .may_change = text->may_change, .length = text->length};
-    return take_by_threads(self, &input, method->of_lines, threads, NULL);
+    return take_by_threads(self, &input, &method->taken, threads, NULL, read);
 }
 
 static PyObject *take(PyObject *object, PyObject *args, PyObject *keywords, const Method *method)
@@ -143,6 +132,7 @@ static PyObject *take(PyObject *object, PyObject *args, PyObject *keywords, cons
     PyObject *given, *given_threads = NULL, *used = NULL;
     int final = 1;
     size_t threads = 1;
+    ds_fields_read read;
     Text text = {0};
     if (!PyArg_ParseTupleAndKeywords(args, keywords, "O|$pO", names, &given, &final, &given_threads) || !sketch_ready(self))
         return NULL;
@@ -151,10 +141,11 @@ static PyObject *take(PyObject *object, PyObject *args, PyObject *keywords, cons
     if (given_threads != NULL && !threads_of(self, given_threads, &threads)) return NULL;
     if (text_open(given, method, &text)) {
         size_t whole = text.length;
-        if (!final) text.length = method->of_lines ? ds_finished_lines(text.bytes, whole) : ds_finished_words(text.bytes, whole);
+        if (!final)
+            text.length = method->taken.of_lines ? ds_finished_lines(text.bytes, whole) : ds_finished_words(text.bytes, whole);
         used = used_of(given, &text, whole);
         bool at_once = threads > 1 || given_threads == Py_None; /* so that None means the same on a machine with one processor */
-        if (used != NULL && !(at_once ? take_at_once(self, &text, method, threads) : take_text(self, &text, method)))
+        if (used != NULL && !(at_once ? take_at_once(self, &text, method, threads, &read) : take_text(self, &text, method)))
             Py_CLEAR(used);
     }
     text_release(&text);
@@ -219,12 +210,126 @@ const char frequent_words_doc[] = PyDoc_STR(UPDATE_WORDS_DOC("words", "ds.Freque
 
 PyObject *sketch_words(PyObject *self, PyObject *args, PyObject *keywords)
 {
-    const Method method = {((Sketch *)self)->kind == DS_BLOOM ? "insert_words" : "update_words", false};
+    const Method method = {((Sketch *)self)->kind == DS_BLOOM ? "insert_words" : "update_words", {.of_lines = false}};
     return take(self, args, keywords, &method);
 }
 
 PyObject *sketch_lines(PyObject *self, PyObject *args, PyObject *keywords)
 {
-    const Method method = {((Sketch *)self)->kind == DS_BLOOM ? "insert_lines" : "update_lines", true};
+    const Method method = {((Sketch *)self)->kind == DS_BLOOM ? "insert_lines" : "update_lines", {.of_lines = true}};
     return take(self, args, keywords, &method);
+}
+
+/* --- Fields --- */
+
+/* Takes the fields of all records in one call, without the interpreter's lock. Returns false, with an error set, if a record is
+ * rejected. */
+static bool take_records(Sketch *self, Text *text, const Method *method, ds_fields_read *read)
+{
+    Use use = {.sketch = self, .changes = true};
+    int32_t answer;
+    if (!use_begin(&use)) return false;
+    Py_BEGIN_ALLOW_THREADS
+    answer = take_piece(self, text, &method->taken, 0, text->length, read);
+    Py_END_ALLOW_THREADS
+    use_end(&use);
+    if (answer >= 0) return true;
+    return (answer == DS_INVALID_UTF8 || answer == DS_BAD_WEIGHT ? refuse_at(answer, read->offset) : refuse(answer)) != NULL;
+}
+
+/* Reads the index of a field, or None. */
+static bool index_of(PyObject *object, const char *name, uint32_t *index)
+{
+    uint64_t number;
+    *index = DS_NO_FIELD;
+    if (object == NULL || object == Py_None) return true;
+    if (!natural_of(object, name, &number)) return false;
+    if (number >= DS_NO_FIELD) return PyErr_Format(PyExc_ValueError, "%s is an index below 2**32 - 1", name) != NULL;
+    *index = (uint32_t)number;
+    return true;
+}
+
+/* Reads a delimiter: one character of ASCII, or None for white space, or for the comma of CSV. */
+static bool delimiter_of(PyObject *object, bool csv, ds_fields *fields)
+{
+    fields->format = csv ? DS_FIELDS_CSV : DS_FIELDS_WORDS;
+    fields->delimiter = csv ? ',' : 0;
+    if (object == NULL || object == Py_None) return true;
+    if (!PyUnicode_Check(object)) {
+        PyErr_Format(PyExc_TypeError, "delimiter is a str or None, not %.200s", Py_TYPE(object)->tp_name);
+        return false;
+    }
+    Py_UCS4 character = PyUnicode_GET_LENGTH(object) == 1 ? PyUnicode_READ_CHAR(object, 0) : 128;
+    bool ends = character == '\n' || character == '\r' || (csv && character == '"');
+    if (character >= 128 || ends)
+        return PyErr_Format(PyExc_ValueError, "delimiter is one character of ASCII that ends no line%s",
+                            csv ? ", and no quote" : "") != NULL;
+    if (!csv) fields->format = DS_FIELDS_DELIMITED;
+    fields->delimiter = (uint8_t)character;
+    return true;
+}
+
+#define FIELDS_DOC(method, does, weight, adds, example) \
+    method \
+        "($self, text, item, /, *, " weight "delimiter=None, csv=False, threads=1)\n--\n\n" does \
+        " field `item`, counted from 0, of each line of a str or of a buffer of bytes. `None` is the whole line.\n" \
+        "Fields stand between `delimiter`, or between runs of white space without one, as in `sketches -f` and `-d`. With\n" \
+        "`csv=True` records are those of RFC 4180, read leniently, with `delimiter` or ',' between fields: fields in quotes may\n" \
+        "have delimiters and line ends.\n\n" adds \
+        "Return the number of records, and of those without the field, which are left out. Raise 'InvalidUtf8' if a field that is taken is not\n" \
+        "UTF-8, with the offset of its record as `byte`. An error leaves the sketch as it was, unless it is MemoryError. The call\n" \
+        "takes memory for all fields at once.\n\n" \
+        "`threads` is as in `" method "`'s sister for lines: above 1 or None, parts of the text are taken at once and merged.\n\n" \
+        ">>> import datasketches_rattle as ds\n" example
+
+#define UPDATE_FIELDS_DOC(name, sketch) \
+    FIELDS_DOC( \
+        "update_fields", "Add 1 to the weight of", "weight=None, ", \
+        "`weight` is the field with the weight to add instead, in decimal digits. Raise 'BadWeight' if a record with the field\n" \
+        "`item` has no such number, with its offset as `byte`.\n\n", \
+        ">>> " name " = " sketch "\n>>> table = b'5,apple\\n7,\"pear, green\"\\n2,apple\\n'\n" \
+        ">>> " name ".update_fields(table, 1, weight=0, csv=True)\n(3, 0)\n" \
+        ">>> " name "['apple'], " name "['pear, green'], " name ".total_weight\n(7, 7, 14)\n" \
+        ">>> " name ".update_fields('GET /a\\nGET /b\\nbad\\n', 1)\n(3, 1)\n")
+
+const char filter_fields_doc[] = PyDoc_STR(FIELDS_DOC("insert_fields", "Insert", "", "",
+">>> seen = ds.BloomFilter(num_bits=1024, num_hashes=5)\n"
+">>> seen.insert_fields('GET /a\\nGET /b\\nbad\\n', 1)\n"
+"(3, 1)\n"
+">>> '/a' in seen, 'GET' in seen\n"
+"(True, False)\n"));
+const char count_fields_doc[] = PyDoc_STR(UPDATE_FIELDS_DOC("load", "ds.CountMinSketch(num_hashes=4, num_buckets=1 << 10)"));
+const char frequent_fields_doc[] = PyDoc_STR(UPDATE_FIELDS_DOC("heavy", "ds.FrequentItemsSketch(64, item=str)"));
+
+PyObject *sketch_fields(PyObject *object, PyObject *args, PyObject *keywords)
+{
+    Sketch *self = (Sketch *)object;
+    bool inserts = self->kind == DS_BLOOM;
+    static char *names_of_filter[] = {"", "", "delimiter", "csv", "threads", NULL};
+    static char *names[] = {"", "", "delimiter", "csv", "threads", "weight", NULL};
+    PyObject *given, *item, *weight = NULL, *delimiter = NULL, *given_threads = NULL;
+    int csv = false;
+    size_t threads = 1;
+    ds_fields_read read = {0, 0, 0};
+    ds_fields fields;
+    Method method = {inserts ? "insert_fields" : "update_fields", {.of_lines = true, .fields = &fields}};
+    Text text = {0};
+    if (!(inserts ? PyArg_ParseTupleAndKeywords(args, keywords, "OO|$OpO", names_of_filter, &given, &item, &delimiter, &csv,
+                                                &given_threads)
+                  : PyArg_ParseTupleAndKeywords(args, keywords, "OO|$OpOO", names, &given, &item, &delimiter, &csv, &given_threads,
+                                                &weight)) ||
+        !sketch_ready(self))
+        return NULL;
+    if (!takes_texts(self))
+        return PyErr_Format(PyExc_TypeError, "%s takes a sketch of strings: FrequentItemsSketch(.., item=str)", method.name);
+    if (!delimiter_of(delimiter, csv, &fields) || !index_of(item, "item", &fields.item) ||
+        !index_of(weight, "weight", &fields.weight))
+        return NULL;
+    if (csv && fields.item == DS_NO_FIELD) return PyErr_Format(PyExc_ValueError, "item is the index of a field if csv is true");
+    if (given_threads != NULL && !threads_of(self, given_threads, &threads)) return NULL;
+    bool at_once = threads > 1 || given_threads == Py_None, done = false;
+    if (text_open(given, &method, &text))
+        done = at_once ? take_at_once(self, &text, &method, threads, &read) : take_records(self, &text, &method, &read);
+    text_release(&text);
+    return done ? Py_BuildValue("nn", (Py_ssize_t)read.num_records, (Py_ssize_t)(read.num_records - read.num_items)) : NULL;
 }

@@ -2,6 +2,7 @@ pub mod AnswerLemmas
 pub mod BoundsLemmas
 pub mod CountCallLemmas
 pub mod EqualityLemmas
+pub mod FieldLemmas
 pub mod FilterLemmas
 pub mod GhostStrings
 pub mod Handles

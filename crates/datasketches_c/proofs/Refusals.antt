@@ -67,6 +67,7 @@ below_zero fault.NoMemory P = tt
 below_zero fault.BadSampleSize P = tt
 below_zero fault.BadWindows P = tt
 below_zero fault.BadOffsets P = tt
+below_zero fault.BadWeight P = tt
 
 -- so nothing has to hold where it is handed on
 pub refused_not_done : (of : Fault) (answer : ℤ) (P : Type 0) → mag answer < 2147483648 → answer ≡ refusal_number of → OnDone (to_z w32 (of_z w32 answer)) P

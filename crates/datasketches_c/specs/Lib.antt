@@ -9,6 +9,7 @@ pub mod CountJoins
 pub mod CountSteps
 pub mod Equality
 pub mod Estimates
+pub mod FieldUpdates
 pub mod FilterCalls
 pub mod FilterImages
 pub mod FrequentBatches

@@ -86,6 +86,7 @@ refusal_number fault.NoMemory = negsuc 41
 refusal_number fault.BadSampleSize = negsuc 42
 refusal_number fault.BadWindows = negsuc 43
 refusal_number fault.BadOffsets = bad_offsets
+refusal_number fault.BadWeight = negsuc 44
 
 -- the maximum of `i64`, and of `u64`
 abbrev pub max_i64 : ℕ

@@ -73,7 +73,11 @@ pub extern "C" fn ds_update_all(
 }
 
 /// Adds a weight to each given item's in a sketch, in order. Returns the result's number.
-fn update_weighted_with(sketch: &mut AnySketch, items: GivenItems<'_>, weights: &[u64]) -> i32
+pub(crate) fn update_weighted_with(
+    sketch: &mut AnySketch,
+    items: GivenItems<'_>,
+    weights: &[u64],
+) -> i32
     requires { length weights.now ≡ num_items (many items) }
     ensures { WeighsWith sketch.old sketch.new (many items.entry) weights.now result }
 {

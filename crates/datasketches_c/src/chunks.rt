@@ -3,10 +3,12 @@ ghost use Rattle.std.specs.Prelude.{◌≡◌, ◌≤◌, length};
 ghost use Rattle.std.specs.Str.{IsUtf8};
 ghost use Rattle.core.specs.Str.{IsValidUpTo};
 ghost use Rattle.std.specs.Str.Lines.{lines};
+ghost use Rattle.sketch_base.specs.Csv.{IsBehindLastEnd};
 ghost use Rattle.sketch_base.specs.Split.{CutsUtf8, IsBehindLast, SplitsAt, separates, words_by};
+ghost use Rattle.sketch_base.specs.declared.place.Place.TheVariants.{Start};
 ghost use Rattle.sketch_base.specs.declared.separator.Separator.TheVariants.{AsciiWhitespace, LineFeed};
 
-use sketch_base::{Separator, finished_lines, finished_words};
+use sketch_base::{Place, Separator, finished_csv_records, finished_lines, finished_words};
 
 /// Returns the number of bytes through the last byte of ASCII white space, or 0 if there is none. The words of these
 /// bytes are finished, whatever comes after them.
@@ -30,6 +32,19 @@ pub extern "C" fn ds_finished_lines(text: &[u8]) -> usize
     ensures utf8 { CutsUtf8 text.now result }
 {
     finished_lines(text)
+}
+
+/// Returns the number of bytes through the last end of a record of CSV, or 0 if there is none.
+///
+/// The bytes begin with a record. A record ends at a line feed outside of quotes. Those after the last end may go on in what follows
+/// these bytes.
+#[unsafe(no_mangle)]
+pub extern "C" fn ds_finished_csv_records(bytes: &[u8], delimiter: u8) -> usize
+    ensures bound { result ≤ length bytes.now }
+    ensures last { IsBehindLastEnd delimiter Start bytes.now result }
+{
+    let (end, _) = finished_csv_records(delimiter, Place::Start, bytes);
+    end
 }
 
 /// Returns the number of bytes before the first that is not part of valid UTF-8. It is the number of all bytes if they

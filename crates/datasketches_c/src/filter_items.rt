@@ -27,7 +27,7 @@ fn insert_each(filter: &mut BloomFilter, items: GivenItems<'_>)
 }
 
 /// Inserts given items, as one after another.
-fn insert_given(alloc: Global, handle: &mut SketchHandle, items: GivenItems<'_>) -> i32
+pub(crate) fn insert_given(alloc: Global, handle: &mut SketchHandle, items: GivenItems<'_>) -> i32
     ensures call { InsertsAll handle.old.value handle.new.value result (fed_items (many items.entry)) }
     ensures refused { OnRefused result (handle.new.value ≡ handle.old.value) }
 {

@@ -16,6 +16,8 @@ mod count_sketches;
 mod count_update;
 mod equality;
 mod fed_item;
+mod field_updates;
+pub mod fields_argument;
 mod filter;
 mod filter_items;
 mod filter_joins;

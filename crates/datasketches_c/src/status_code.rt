@@ -68,6 +68,7 @@ pub(crate) fn refusal_number(fault: Fault) -> i32
         Fault::BadSampleSize => -43,
         Fault::BadWindows => -44,
         Fault::BadOffsets => -6,
+        Fault::BadWeight => -45,
     }
 }
 

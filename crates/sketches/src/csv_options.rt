@@ -3,8 +3,8 @@ use crate::item_weigher::WeighedRecord;
 use crate::options::field_between;
 use crate::selection::Selection;
 use crate::weighing::{WeighedPart, Weighing};
-use sketch_base::records::{Part, RecordPart, number_of};
 use clap::{Arg, ArgAction, ArgMatches, Command};
+use sketch_base::records::{Part, RecordPart, number_of};
 use std::alloc::{AllocError, Global};
 
 /// The message of a delimiter that is not allowed.

@@ -12,8 +12,8 @@ use crate::record_options::weighed_record;
 use crate::state_file::{load_state, save_state};
 use crate::uniq::{UniqOptions, uniq, uniq_after};
 use crate::{ERROR, STANDARD_INPUT, end, fail, max_line_of, message_of, number_of};
-use sketch_base::records::RecordPart;
 use clap::ArgMatches;
+use sketch_base::records::RecordPart;
 use sketch_bloom::BloomFilter;
 
 /// Runs `sketches uniq`. Returns the status.

@@ -9,8 +9,8 @@ use crate::failure::Failure;
 use crate::line_sink::LineSink;
 use crate::raw_item::RawItem;
 use crate::weighed_lines::bad_field;
-use sketch_base::records::{RecordPart, Records, next_record, number_of, record_part_of};
 use sketch_base::from_utf8;
+use sketch_base::records::{RecordPart, Records, next_record, number_of, record_part_of};
 use sketch_countmin::CountMinSketch;
 use std::alloc::{AllocError, Global};
 

@@ -8,8 +8,8 @@ use crate::batches::take_batches;
 use crate::failure::Failure;
 use crate::line_items::insert_record;
 use crate::line_sink::LineSink;
-use sketch_base::records::{RecordPart, Records};
 use sketch_base::Strs;
+use sketch_base::records::{RecordPart, Records};
 use sketch_bloom::BloomFilter;
 use std::alloc::Global;
 

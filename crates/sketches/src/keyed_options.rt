@@ -4,8 +4,8 @@ use crate::files::{Files, Opened};
 use crate::inputs::Inputs;
 use crate::record_options::record_at;
 use crate::{ERROR, fail, max_line_of};
-use sketch_base::records::RecordPart;
 use clap::{Arg, ArgMatches, Command};
+use sketch_base::records::RecordPart;
 use std::alloc::{AllocError, Global};
 
 /// Adds the file of keys, and the option that chooses the part of a record of keys.

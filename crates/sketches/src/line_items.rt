@@ -5,8 +5,8 @@ ghost use Rattle.sketch_base.specs.Records.{part_in};
 ghost use Rattle.sketches.specs.Unseen.{hashed, is_seen, with_items};
 
 use crate::raw_item::RawItem;
-use sketch_base::records::{RecordPart, record_part_of};
 use sketch_base::from_utf8;
+use sketch_base::records::{RecordPart, record_part_of};
 use sketch_bloom::BloomFilter;
 use std::alloc::{AllocError, Global};
 

@@ -7,8 +7,8 @@ use crate::percent::percent_of;
 use crate::shared_options::{above, escape, exact, json, key, no_header, rows, save};
 use crate::table_size::size_for;
 use crate::weigh_options::weigh_command;
-use sketch_base::records::Field;
 use clap::{Arg, ArgAction, ArgMatches, Command, value_parser};
+use sketch_base::records::Field;
 use std::alloc::{AllocError, Global};
 
 /// The message of an error that is not allowed.

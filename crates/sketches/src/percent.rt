@@ -1,5 +1,6 @@
 //! Percentages.
 ghost use Rattle.std.specs.Prelude.{◌<◌, ◌≤◌, IfSome};
+
 use sketch_base::records::number_of;
 
 /// The number of millionths of a percent in 100 percent.

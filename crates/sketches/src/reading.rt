@@ -6,8 +6,8 @@ ghost use Rattle.sketches.specs.Reading.{FailsInput, FailsWithin, Fills, IsInOne
 use crate::failure::Failure;
 use crate::line_sink::LineSink;
 use crate::records::finished_records;
-use sketch_base::records::Records;
 use sketch_base::Place;
+use sketch_base::records::Records;
 use std::alloc::Global;
 use std::io;
 use std::io::{ErrorKind, Read};

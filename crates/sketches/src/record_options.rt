@@ -3,8 +3,8 @@ use crate::csv_options::{csv_options, weighed_line};
 use crate::files::Files;
 use crate::item_weigher::WeighedRecord;
 use crate::{ERROR, fail, max_line_of};
-use sketch_base::records::{CsvField, RecordPart};
 use clap::ArgMatches;
+use sketch_base::records::{CsvField, RecordPart};
 
 /// Returns the part of a record of files that is its item and the part with its weight, as the options choose. With names of CSV,
 /// reads the header of the first file. Returns the status after a message if the options are wrong or do not fit the file.

@@ -2,8 +2,8 @@
 use crate::layout::{Layout, Style};
 use crate::percent::percent_of;
 use crate::threshold::Threshold;
-use sketch_base::records::number_of;
 use clap::{Arg, ArgAction, ArgMatches, value_parser};
+use sketch_base::records::number_of;
 use std::alloc::Global;
 
 /// The maximum number of rows if no option chooses them.
