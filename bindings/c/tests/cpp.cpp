@@ -447,7 +447,27 @@ static void text()
     CHECK(ds::keyed_hash("ab", KEY) == ds_keyed_hash(bytes, 2, KEY.k0, KEY.k1));
     CHECK(ds::keyed_hash("ab", KEY) != ds::keyed_hash("ab", {KEY.k1, KEY.k0}) && ds::keyed_hash({}, KEY) == 0xabac0158050fc4dc);
     CHECK(ds::finished_words("to be") == 3 && ds::finished_lines("to\nbe\nor") == 6 && ds::finished_words({}) == 0);
+    CHECK(ds::finished_csv_records("a,\"b\nc\"\nd") == 8 && ds::finished_csv_records("\"a\nb", ';') == 0);
     CHECK(ds::valid_utf8("to\xff") == 2 && ds::valid_utf8("to") == 2 && ds::finished_lines("to be") == 0);
+}
+
+static void fields()
+{
+    const ds_fields columns = {DS_FIELDS_CSV, ',', 1, 0}, words = {DS_FIELDS_WORDS, 0, 0, DS_NO_FIELD};
+    ds_fields_read read = {};
+    strings heavy = take(strings::create(64));
+    DONE(heavy.update_fields("5,\"a, b\"\n7,c\n", columns, read));
+    CHECK(read.num_records == 2 && read.num_items == 2 && take(heavy.bounds("a, b")).estimate == 5);
+    FAILS(DS_BAD_WEIGHT, heavy.update_fields("5,c\nx,c\n", columns, read));
+    CHECK(read.offset == 4 && take(heavy.bounds("c")).estimate == 7);
+    signed_counts signs = take(signed_counts::create(3, 64));
+    DONE(signs.update_fields("-3,a\n", columns, read));
+    CHECK(take(signs.estimate("a")) == -3);
+    filter seen = new_filter();
+    DONE(seen.insert_fields("a 1\n\nb\n", words, read));
+    CHECK(read.num_records == 3 && read.num_items == 2 && take(seen.contains("b")) && !take(seen.contains("1")));
+    DONE(seen.insert_fields({}, words, read));
+    FAILS(DS_WRONG_KIND, take(numbers::create(64)).update_fields("1 2", words, read));
 }
 
 /* --- Errors. --- */
@@ -543,6 +563,7 @@ int main()
     frequent<std::int64_t>();
     frequent_strings();
     text();
+    fields();
     errors();
     return report();
 }

@@ -291,8 +291,9 @@ class Tests:
         of_kinds = [(KINDS.get(name), number) for number, name in kinds]
         kinds = re.findall(r"^ +(\d) => Some\(ItemsKind::(\w+)\),$", read(f"{CRATE}/src/items_argument.rt"), re.MULTILINE)
         of_kinds += [(f"ITEMS_{name.upper()}", number) for number, name in kinds]
-        self.check("the kinds", of_kinds == constants[-14:], (of_kinds, constants))
-        self.check("the other results", set(others) == set(constants[:-14]) - of_c, constants)
+        of_kinds += [("FIELDS_WORDS", "0"), ("FIELDS_DELIMITED", "1"), ("FIELDS_CSV", "2")]
+        self.check("the kinds", of_kinds == constants[-17:], (of_kinds, constants))
+        self.check("the other results", set(others) == set(constants[:-17]) - of_c, constants)
         self.check("the members of ds_items", items_in_c() == items_in_header(), (items_in_c(), items_in_header()))
 
     def calls(self, source):

@@ -279,7 +279,8 @@ static bool delimiter_of(PyObject *object, bool csv, ds_fields *fields)
         "Return the number of records, and of those without the field, which are left out. Raise 'InvalidUtf8' if a field that is taken is not\n" \
         "UTF-8, with the offset of its record as `byte`. An error leaves the sketch as it was, unless it is MemoryError. The call\n" \
         "takes memory for all fields at once.\n\n" \
-        "`threads` is as in `" method "`'s sister for lines: above 1 or None, parts of the text are taken at once and merged.\n\n" \
+        "`threads` above 1, or None for one for each processor, takes parts of the text at once, each into a sketch of the same\n" \
+        "sizes, seed and key. They are merged into this sketch at the end, or none.\n\n" \
         ">>> import datasketches_rattle as ds\n" example
 
 #define UPDATE_FIELDS_DOC(name, sketch) \

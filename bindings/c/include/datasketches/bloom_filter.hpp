@@ -52,6 +52,13 @@ public:
         return detail::done(on_items(ds_bloom_insert_all, items));
     }
 
+    /* Inserts the item of each record: `ds_bloom_insert_fields`. Writes what was read, and where the first record with an error
+     * begins. */
+    outcome<> insert_fields(std::string_view bytes, const ds_fields &fields, ds_fields_read &read)
+    {
+        return detail::done(ds_check_fields(ds_bloom_insert_fields, &handle_, detail::bytes_of(bytes).bytes, bytes.size(), &fields, &read));
+    }
+
     /* Returns whether the filter contains the item: `ds_bloom_contains_u64` and `_string`. */
     template <class Item> outcome<bool> contains(const Item &item)
     {

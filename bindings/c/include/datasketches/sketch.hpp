@@ -220,6 +220,13 @@ public:
         else
             return done(this->on_items(ds_update_all_weighted, items, plain));
     }
+
+    /* Adds the weight of each record to that of the record's item: `ds_update_fields`. Writes what was read, and where the first record
+     * with an error begins. */
+    outcome<> update_fields(std::string_view bytes, const ds_fields &fields, ds_fields_read &read)
+    {
+        return done(ds_check_fields(ds_update_fields, &this->handle_, bytes_of(bytes).bytes, bytes.size(), &fields, &read));
+    }
 };
 
 /* What filters and Count-Min sketches have too. */
