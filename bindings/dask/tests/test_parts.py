@@ -379,16 +379,12 @@ class Compressed(InFolder):
 
 
 class Bytes(unittest.TestCase):
-    """The lines and the columns that a sketch splits itself are those that Python's csv reads."""
+    """The lines, columns and fields that the library splits itself are those that Python splits."""
 
-    def test_random_blocks(self):
-        chance, plain = random.Random(3), 0
-        for attempt in range(5000):
-            delimiter = chance.choice([",", ";", "\t"])
-            pieces = ["a", "b", "ä", delimiter, delimiter, "\n", "\n", "\r\n", " ", "x" * 5]
-            if attempt % 5 == 0:
-                pieces += ['"', "\r"]
-            data = "".join(chance.choices(pieces, k=chance.randrange(40))).encode()
+    def test_random_lines(self):
+        chance = random.Random(3)
+        for attempt in range(1000):
+            data = "".join(chance.choices(["a", "b", "ä", "\n", "\n", "\r\n", " ", "x" * 5, "\r"], k=chance.randrange(40))).encode()
             lines = sketch_parts.full_lines(data)
             wanted = sketch_parts.lines_of("block", 0, data)
             one, other = sketch_parts.Heavy(1024).empty(), sketch_parts.Heavy(1024).empty()
@@ -396,13 +392,53 @@ class Bytes(unittest.TestCase):
             other.update(wanted)
             self.assertEqual(one.rows(), other.rows(), data)
             self.assertEqual(lines.count(b"\n") + (lines != b"" and not lines.endswith(b"\n")), len(wanted))
-            columns = Columns(chance.randrange(3), None, delimiter)
-            fields = sketch_parts.column_lines(columns, data)
-            if fields is not None:
-                part = sketch_parts.Part("block", 0, len(data), None, columns=columns)
-                self.assertEqual(fields.decode().split("\n")[:-1], sketch_parts.batch_of(part, 0, data, 0, 9).items, data)
-                plain += 1
-        self.assertTrue(plain > 1000 or sketch_parts.numpy is None)
+
+    def taken(self, shape, part, data, add):
+        """What a sketch has after the items of a block, or the error."""
+        sketch = shape.empty()
+        try:
+            add(shape, sketch, part, data)
+        except BadInput as error:
+            return error.args
+        return sketch.rows() if isinstance(shape, sketch_parts.Heavy) else bytes(sketch)
+
+    def by_python(self, shape, sketch, part, data):
+        shape.add(sketch, sketch_parts.batch_of(part, 0, data, shape.least, shape.most))
+
+    def by_library(self, shape, sketch, part, data):
+        sketch_parts.add_records(shape, sketch, part, 0, data)
+
+    def test_random_records(self):
+        chance, plain, errors = random.Random(4), 0, 0
+        for attempt in range(6000):
+            delimiter = chance.choice([",", ";", "\t"])
+            pieces = ["a", "ä", "7", "12", delimiter, delimiter, "\n", "\n", "\r\n"]
+            if attempt % 3 == 0:
+                pieces += ['"', '"', f'"a{delimiter}b"', '""']
+            if attempt % 5 == 0:
+                pieces += ["\r", "\0", " ", "\x0b", "-3"]
+            data = "".join(chance.choices(pieces, k=chance.randrange(30))).encode()
+            item, weight = chance.randrange(3), chance.choice([None, None, 0, 1])
+            parts = [{"columns": Columns(item, weight, delimiter)},
+                     {"field": sketch_parts.Field(chance.choice([item, None]), chance.choice([delimiter.encode(), None]), weight)}]
+            for chosen in parts:
+                part = sketch_parts.Part("block", 0, len(data), None, **chosen)
+                shapes = [sketch_parts.Heavy(1024), sketch_parts.Traffic(3, 100), sketch_parts.Traffic(3, 100, signed=True)]
+                if weight is None:
+                    shapes.append(sketch_parts.Seen(1024, 3))
+                for shape in shapes:
+                    found = self.taken(shape, part, data, self.by_library)
+                    self.assertEqual(found, self.taken(shape, part, data, self.by_python), (data, part, shape))
+                errors += isinstance(found, tuple)
+                plain += part.columns is not None and sketch_parts.takes_fields(part.columns, sketch_parts.full_lines(data))
+        self.assertGreater(plain, 3000)
+        self.assertGreater(errors, 1000)
+
+    def test_quotes_in_place(self):
+        columns = Columns(0, None, ",")
+        for data, takes in ((b'"a",b\n', True), (b'"a,""b""",c\n', True), (b'a,"b"\r\n"c","d"', True), (b"a,b\n", True),
+                            (b'"a"b,c\n', False), (b'a"b,c\n', False), (b'"a\n', False), (b'a,b "c"\n', False), (b"a\rb\n", False)):
+            self.assertEqual(sketch_parts.takes_fields(columns, data), takes, data)
 
     def test_another_column_is_checked_too(self):
         with tempfile.TemporaryDirectory() as folder:

@@ -61,6 +61,7 @@ pub mod bloom;
 pub mod countmin;
 pub mod error;
 mod fed;
+pub mod fields;
 pub mod frequencies;
 mod handle;
 pub mod items;

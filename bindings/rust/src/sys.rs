@@ -42,6 +42,23 @@ pub struct ds_key {
     pub k1: u64,
 }
 
+#[derive(Clone, Copy)]
+#[repr(C)]
+pub struct ds_fields {
+    pub format: i32,
+    pub delimiter: u8,
+    pub item: u32,
+    pub weight: u32,
+}
+
+#[derive(Clone, Copy, Default)]
+#[repr(C)]
+pub struct ds_fields_read {
+    pub num_records: usize,
+    pub num_items: usize,
+    pub offset: usize,
+}
+
 #[repr(C)]
 pub struct ds_image_options {
     pub max_bytes: usize,
@@ -181,6 +198,21 @@ extern "C" {
         items: *const ds_items,
         weights: *const u64,
         num_weights: usize,
+    ) -> i32;
+
+    pub fn ds_update_fields(
+        handle: *mut ds_sketch,
+        bytes: *const u8,
+        length: usize,
+        fields: *const ds_fields,
+        read: *mut ds_fields_read,
+    ) -> i32;
+    pub fn ds_bloom_insert_fields(
+        handle: *mut ds_sketch,
+        bytes: *const u8,
+        length: usize,
+        fields: *const ds_fields,
+        read: *mut ds_fields_read,
     ) -> i32;
 
     pub fn ds_count_min_new(

@@ -25,6 +25,10 @@ use std::ops::{BitAndAssign, BitOrAssign, SubAssign};
 pub struct BloomFilter(pub(super) Handle);
 
 impl BloomFilter {
+    pub(crate) fn handle_mut(&mut self) -> &mut Handle {
+        &mut self.0
+    }
+
     /// Returns whether the filter contains an item: `true` if all the item's positions are set.
     #[inline]
     pub fn contains<T: Hash + ?Sized>(&self, item: &T) -> bool {

@@ -37,6 +37,10 @@ pub struct CountMinSketch<T: CountMinValue> {
 }
 
 impl<T: CountMinValue> CountMinSketch<T> {
+    pub(crate) fn handle_mut(&mut self) -> &mut Handle {
+        &mut self.handle
+    }
+
     /// Creates an empty sketch under the seed 9001.
     ///
     /// # Errors

@@ -34,6 +34,10 @@ pub struct FrequentItemsSketch<T: FrequentItemValue> {
 }
 
 impl<T: FrequentItemValue> FrequentItemsSketch<T> {
+    pub(crate) fn handle_mut(&mut self) -> &mut Handle {
+        &mut self.handle
+    }
+
     /// Creates an empty sketch, whose table grows to at most `max_map_size` slots. Three quarters of them
     /// have counters.
     ///

@@ -16,6 +16,7 @@
 //! 6. A `bool` of Rust is 0 or 1.
 
 mod count_min;
+mod fields;
 mod filter;
 mod frequent;
 mod items;
