@@ -37,8 +37,8 @@ def add_engine_words(parser: argparse.ArgumentParser) -> None:
     """Adds the options for workers and for the output."""
     group = parser.add_argument_group("workers")
     group.add_argument("--workers", type=positive, metavar="N",
-                       help="start N workers on this machine, which take nothing but this command's tasks: threads for lines "
-                            "and words (one for each processor), processes for columns, fields and filters (at most 4)")
+                       help="start N workers on this machine, which take nothing but this command's tasks: threads that count "
+                            "(one for each processor), and processes that look up in a filter (at most 4)")
     group.add_argument("--scheduler", metavar="ADDRESS", help="use the workers of this Dask scheduler, as tcp://HOST:8786")
     group.add_argument("--parts", type=positive, metavar="N",
                        help="cut the files into about N parts, at least one a file (one for each 16 MiB); a compressed file is one")

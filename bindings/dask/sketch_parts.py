@@ -22,6 +22,11 @@ from typing import Any, BinaryIO, Callable, Iterable, Iterator, NamedTuple, Sequ
 
 import datasketches_rattle as ds
 
+try:
+    import numpy
+except ImportError:  # then Python's csv reads columns with quotes
+    numpy = None
+
 BLOCK = 1 << 20
 LONGEST_LINE = 1 << 24
 PACKED_STEP = 512  # this number of bytes of a .gz or .zst unpacks to at most some 16 MiB
@@ -511,20 +516,34 @@ Shape = Heavy | Traffic | Seen
 Sketch = ds.FrequentItemsSketch | ds.CountMinSketch | ds.BloomFilter
 
 
+def has_long_line(data: bytes, most: int) -> bool:
+    """Returns whether a line has more than `most` bytes."""
+    begin = 0
+    while len(data) - begin > most:
+        end = data.rfind(b"\n", begin, begin + most + 1)
+        if end < 0:
+            return True
+        begin = end + 1
+    return False
+
+
 def takes_fields(columns: Columns, data: bytes) -> bool:
-    """Returns whether the library reads the records of a block as Python's csv does: it takes more, as text after a quoted field.
-    Then CR stands before LF alone, and each quote begins a field, ends it, or is one of two for one."""
+    """Returns whether the library reads the records of a block, if they are its lines, as Python's csv does: it also takes text after
+    a quoted field. CR stands before LF alone, and each quote begins a quoted field, ends it, or is one of two for one."""
     delimiter = columns.delimiter.encode()
     if len(delimiter) != 1 or b"\0" in data or data.count(b"\r") != data.count(b"\r\n"):
         return False
-    if max(map(len, data.split(b"\n"))) > csv.field_size_limit():
+    if has_long_line(data, csv.field_size_limit()):
         return False
     if b'"' not in data:
         return True
-    quotes = b"\n" + data.replace(b'""', b"").replace(b"\r\n", b"\n") + b"\n"
-    begin = quotes.count(delimiter + b'"') + quotes.count(b'\n"')
-    end = quotes.count(b'"' + delimiter) + quotes.count(b'"\n')
-    return begin == end and begin + end == quotes.count(b'"')
+    if numpy is None:
+        return False
+    text = numpy.frombuffer(b"\n" + data.replace(b"\r\n", b"\n") + b"\n", numpy.uint8)
+    quotes = numpy.flatnonzero(text == ord('"'))
+    ends = numpy.zeros(256, bool)  # what stands before a quote that begins or goes on, and after one that ends or goes on
+    ends[[ord("\n"), ord('"'), delimiter[0]]] = True
+    return len(quotes) % 2 == 0 and bool(ends[text[quotes[::2] - 1]].all() and ends[text[quotes[1::2] + 1]].all())
 
 
 def add_records(shape: Shape, sketch: Sketch, part: Part, at: int, data: bytes) -> None:

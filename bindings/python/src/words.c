@@ -260,10 +260,10 @@ static bool delimiter_of(PyObject *object, bool csv, ds_fields *fields)
         return false;
     }
     Py_UCS4 character = PyUnicode_GET_LENGTH(object) == 1 ? PyUnicode_READ_CHAR(object, 0) : 128;
-    bool ends = character == '\n' || character == '\r' || (csv && character == '"');
+    bool ends = csv && (character == '\n' || character == '\r' || character == '"');
     if (character >= 128 || ends)
-        return PyErr_Format(PyExc_ValueError, "delimiter is one character of ASCII that ends no line%s",
-                            csv ? ", and no quote" : "") != NULL;
+        return PyErr_Format(PyExc_ValueError, "delimiter is one character of ASCII%s", csv ? ", and no quote or line end" : "") !=
+               NULL;
     if (!csv) fields->format = DS_FIELDS_DELIMITED;
     fields->delimiter = (uint8_t)character;
     return true;

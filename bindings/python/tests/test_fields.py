@@ -99,7 +99,7 @@ class Formats(unittest.TestCase):
                 self.taken(out.getvalue().encode(), wanted, numbers, item, 0, delimiter=delimiter, csv=True)
 
     def test_pieces_of_threads(self):
-        rows = [[str(number % 7), f'a\n"{number % 1000}"' if number % 3 else f"b{number % 500}"] for number in range(300_000)]
+        rows = [[str(number % 7), f'a\n"{number % 1000}"' if number % 3 else f"b{number % 500}"] for number in range(500_000)]
         out = io.StringIO()
         csv.writer(out, lineterminator="\n").writerows(rows)
         data = out.getvalue().encode()
@@ -153,8 +153,8 @@ class Errors(unittest.TestCase):
             (TypeError, lambda: sketch.update_fields("a", 0, delimiter=b",")), (TypeError, lambda: sketch.update_fields("a", 0, weight="x")),
             (ValueError, lambda: sketch.update_fields("a", -1)), (ValueError, lambda: sketch.update_fields("a", 2**32 - 1)),
             (ValueError, lambda: sketch.update_fields("a", 0, weight=2**32 - 1)),
-            *((ValueError, lambda text=text: sketch.update_fields("a", 0, delimiter=text)) for text in ("", "ab", "ä", "\n", "\r")),
-            *((ValueError, lambda text=text: sketch.update_fields("a", 0, delimiter=text, csv=True)) for text in ('"', "ä", "\n")),
+            *((ValueError, lambda text=text: sketch.update_fields("a", 0, delimiter=text)) for text in ("", "ab", "ä")),
+            *((ValueError, lambda text=text: sketch.update_fields("a", 0, delimiter=text, csv=True)) for text in ('"', "ä", "\n", "\r")),
             (ValueError, lambda: sketch.update_fields("a", None, csv=True)), (ValueError, lambda: sketch.update_fields("a", 0, threads=0)),
             (TypeError, lambda: seen.insert_fields("a", 0, weight=1)), (TypeError, lambda: ds.FrequentItemsSketch(64).update_fields("a", 0)),
         ]:
