@@ -125,12 +125,12 @@ static int32_t add(Call *call, const Items *items, const uint64_t *weights)
 {
     Sketch *sketch = call->sketch;
     ds_status before = status_of(sketch);
-    uint64_t total = before.total_weight;
+    uint64_t room = INT64_MAX - before.total_weight; /* for weights */
     int32_t result;
-    for (size_t i = 0; i < items->count; i++) {
-        uint64_t weight = weights != NULL ? weights[i] : 1;
-        if (weight > INT64_MAX - total) return DS_WEIGHT_OVERFLOW;
-        total += weight;
+    if (weights == NULL && items->count > room) return DS_WEIGHT_OVERFLOW;
+    for (size_t i = 0; i < items->count && weights != NULL; i++) {
+        if (weights[i] > room) return DS_WEIGHT_OVERFLOW;
+        room -= weights[i];
     }
     if (!begin_reserve(bytes_for(&before, items))) return DS_NO_MEMORY;
     result = weights != NULL ? ds_update_all_weighted(&sketch->handle, &items->rows, weights, items->count)
