@@ -48,8 +48,8 @@ def wrong_lines(tests):
 
 
 def wrong_builds(tests):
-    """A state without the key of its table, an addition that is not replicated, a kind that is mistaken for another, lines that keep
-    a carriage return, and lines that are taken for other items."""
+    """A state without the key of its table, an addition that is not replicated, a kind that is mistaken for another, lines that
+    keep a carriage return, and lines that are taken for other items."""
     for macro, group in [
         ("PLANT_STATE_WITHOUT_KEY", without_key),
         ("PLANT_ADD_NOT_REPLICATED", not_replicated),
