@@ -2,6 +2,7 @@
 import datetime
 import os
 import random
+import re
 import subprocess
 import sys
 import tempfile
@@ -30,7 +31,15 @@ ROWS = [
     ("BF.MADD, 100 items, filter for 100,000", ["BF.RESERVE", "h", "0.01", 100000], ["BF.MADD", "h", *[ITEM] * 100], 100),
     ("FREQ.ADD, 100 items", ["FREQ.RESERVE", "s", 1024], ["FREQ.ADD", "s", *[ITEM] * 100], 100),
     ("FREQ.ADD, 100 items of 500", ["FREQ.RESERVE", "t", 1024], ["FREQ.ADD", "t", *[ITEM] * 100], 100),
+    ("BF.ADDLINES, 100 items", ["BF.RESERVE", "i", "0.01", RANGE], ["BF.ADDLINES", "i", "\n".join([ITEM] * 100)], 100),
+    ("CMS.ADDLINES, 100 items", ["CMS.INITBYPROB", "d", "0.001", "0.01"], ["CMS.ADDLINES", "d", "\n".join([ITEM] * 100)], 100),
+    ("FREQ.ADDLINES, 100 items", ["FREQ.RESERVE", "u", 1024], ["FREQ.ADDLINES", "u", "\n".join([ITEM] * 100)], 100),
+    ("FREQ.ADDLINES, 100 items of 500", ["FREQ.RESERVE", "v", 1024], ["FREQ.ADDLINES", "v", "\n".join([ITEM] * 100)], 100),
 ]
+
+
+def values_of(name):
+    return 500 if name.endswith("of 500") else RANGE
 
 
 def build(work, archive):
@@ -67,7 +76,7 @@ def rate(on, command, requests, values):
 
 
 def rates(on, requests):
-    """Returns the median rate of each row, by turns."""
+    """Returns the best rate of each row, by turns."""
     with on.client() as client:
         for _, make, _, _ in ROWS:
             if make:
@@ -75,9 +84,46 @@ def rates(on, requests):
     found = {name: [] for name, _, _, _ in ROWS}
     for _ in range(RUNS):
         for name, _, command, items in ROWS:
-            values = 500 if name.endswith("of 500") else RANGE
-            found[name].append(rate(on, command, requests if items == 1 else requests // 20, values))
-    return {name: sorted(each)[RUNS // 2] for name, each in found.items()}
+            found[name].append(rate(on, command, requests if items == 1 else requests // 20, values_of(name)))
+    return {name: max(each) for name, each in found.items()}
+
+
+def counted(work, module):
+    """Returns the server's instructions for an item of each row, as callgrind counts them. A command with too many arguments is an
+    error: so the last row is what the server does with any argument."""
+    folder = f"{work}/counted"
+    on = Server(folder, module, hz=1)
+    on.before = ["valgrind", "-q", "--tool=callgrind", "--instr-atstart=no", f"--callgrind-out-file={folder}/counts"]
+    numbers, found = random.Random(3), {}
+
+    def filled(word, values):
+        return re.sub("__rand_int__", lambda _: f"{numbers.randrange(values):012d}", str(word))
+
+    def send(client, command, values):
+        for _ in range(25):
+            client.socket.sendall(b"".join(packed([filled(word, values) for word in command]) for _ in range(16)))
+            for _ in range(16):
+                client.read()
+
+    def control(*words):
+        subprocess.run(["callgrind_control", *words, str(on.process.pid)], check=True, capture_output=True)
+
+    with on, on.client() as client:
+        for _, make, _, _ in ROWS:
+            if make:
+                client.done(*make)
+        rows = ROWS + [("any 100 arguments", None, ["GET", "key", *[ITEM] * 100], 100)]
+        for at, (name, _, command, items) in enumerate(rows, 1):
+            values = values_of(name)
+            send(client, command, values)
+            control("-i", "on")
+            send(client, command, values)
+            control("-i", "off")
+            control("-d")
+            with open(f"{folder}/counts.{at}", encoding="utf-8") as file:
+                total = int(next(line for line in file if line.startswith("totals:")).split()[1])
+            found[name] = total / 400 / items
+    return found
 
 
 def used(client):
@@ -202,15 +248,19 @@ def main():
     loads = os.getloadavg()
     print(
         f"{datetime.date.today()}, {os.cpu_count()} processors, load at the start {loads[0]:.1f}, {requests} requests, "
-        f"median of {RUNS} runs\n"
+        f"best of {RUNS} runs\n"
     )
     with tempfile.TemporaryDirectory() as work:
         module = build(work, archive)
         with Server(f"{work}/rates", module) as on:
             found = rates(on, requests)
-        print("| command, one connection, pipelines of 16 | requests a second | of SET | items a second |\n|---|---|---|---|")
+        counts = counted(work, module)
+        print("| command, one connection, pipelines of 16 | requests a second | of SET | items a second | instructions an item |")
+        print("|---|---|---|---|---|")
         for name, _, _, items in ROWS:
-            print(f"| `{name}` | {found[name]:,.0f} | {found[name] / found['SET']:.2f} | {found[name] * items:,.0f} |")
+            rates_of = f"{found[name]:,.0f} | {found[name] / found['SET']:.2f} | {found[name] * items:,.0f}"
+            print(f"| `{name}` | {rates_of} | {counts[name]:,.0f} |")
+        print(f"\nThe server alone, with any of 100 arguments: {counts['any 100 arguments']:.0f} instructions.")
         rows = memories(work, module)
         print("\n| for | exact | MB | sketch | MB |\n|---|---|---|---|---|")
         for name, exact, its, sketch, own in rows:

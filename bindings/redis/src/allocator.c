@@ -5,7 +5,10 @@
  *
  * A command on many frequent items allocates for each new one. So that it never ends halfway, it sets a reserve aside first, from
  * which the library gets what the server cannot give. A block from a reserve may live as long as its sketch, and is freed by any
- * thread that frees the sketch. The reserve is freed with its last block. */
+ * thread that frees the sketch. The reserve is freed with its last block.
+ *
+ * A purge frees the strings of many items, and the next items take as many blocks of their sizes. So the main thread keeps some
+ * small blocks that it frees, and takes them before it asks the server. The server counts them as used: 64 KB at most. */
 #include "module.h"
 
 #include <pthread.h>
@@ -138,10 +141,48 @@ static bool give_back(const void *block)
     return reserve != NULL;
 }
 
+/* Blocks that are kept, by their size in 16 bytes. The first bytes of one point to the next. */
+enum { MOST_PARTS = 4, MOST_KEPT_PARTS = 4096 };
+static void *kept[MOST_PARTS + 1];
+static size_t kept_parts;
+static pthread_t main_thread;
+
+static bool is_main_thread(void)
+{
+    return pthread_equal(pthread_self(), main_thread) != 0;
+}
+
+/* Returns a kept block, or null if there is none. */
+static void *take_kept(size_t size)
+{
+    size_t parts = (size + 15) / 16;
+    void *block;
+    if (parts > MOST_PARTS || kept[parts] == NULL || !is_main_thread()) return NULL;
+    block = kept[parts];
+    memcpy(&kept[parts], block, sizeof block);
+    kept_parts -= parts;
+    return block;
+}
+
+/* Keeps a block of the server. Returns false if it is to be freed. */
+static bool keep(void *block)
+{
+    size_t parts = RedisModule_MallocSize(block) / 16;
+    if (parts == 0 || parts > MOST_PARTS || !is_main_thread() || kept_parts + parts > MOST_KEPT_PARTS) return false;
+    memcpy(block, &kept[parts], sizeof block);
+    kept[parts] = block;
+    kept_parts += parts;
+    return true;
+}
+
 static void *allocate(void *unused, size_t size)
 {
-    void *block = try_block(size);
+    void *block = NULL;
     (void)unused;
+    if (!fails_now()) {
+        block = take_kept(size);
+        if (block == NULL) block = RedisModule_TryAlloc(size);
+    }
     return block != NULL ? block : take_reserved(size);
 }
 
@@ -149,7 +190,7 @@ static void deallocate(void *unused, void *block)
 {
     (void)unused;
     if (atomic_load_explicit(&reserves, memory_order_acquire) != NULL && give_back(block)) return;
-    RedisModule_Free(block);
+    if (!keep(block)) RedisModule_Free(block);
 }
 
 static void *reallocate(void *unused, void *block, size_t kept, size_t size)
@@ -165,5 +206,6 @@ static void *reallocate(void *unused, void *block, size_t kept, size_t size)
 bool set_allocator(void)
 {
     ds_allocator own = {allocate, reallocate, deallocate, NULL};
+    main_thread = pthread_self();
     return ds_set_allocator(&own) == DS_OK;
 }

@@ -25,6 +25,7 @@ typedef RedisModuleCommandArg Argument;
 static Argument just_key[] = {KEY("key", 0), END};
 static Argument one_item[] = {KEY("key", 0), STRING("item"), END};
 static Argument many_items[] = {KEY("key", 0), ITEMS, END};
+static Argument of_lines[] = {KEY("key", 0), STRING("lines"), END};
 static Argument pair[] = {STRING("item"), NUMBER("increment"), END};
 static Argument pairs[] = {KEY("key", 0), ARGUMENT("item_and_increment", BLOCK, .flags = MANY, .subargs = pair), END};
 static Argument after_items[] = {ITEMS, END};
@@ -83,6 +84,8 @@ static Argument of_state[] = {KEY("key", 0), NUMBER("position"), STRING("bytes")
       "Adds an item to a Bloom filter, which is created if there is none") \
     X(bf_madd, "BF.MADD", DS_BLOOM, WRITES_ANY, "write deny-oom fast", WRITE_KEY, -3, many_items, "O(items)", \
       "Adds items to a Bloom filter, which is created if there is none") \
+    X(bf_addlines, "BF.ADDLINES", DS_BLOOM, WRITES_ANY, "write deny-oom fast", WRITE_KEY, 3, of_lines, "O(bytes of the lines)", \
+      "Adds the lines of a string to a Bloom filter, which is created if there is none") \
     X(bf_insert, "BF.INSERT", DS_BLOOM, WRITES_ANY, "write deny-oom", WRITE_KEY, -4, of_bf_insert, "O(items)", \
       "Adds items to a Bloom filter, which is created with these sizes if there is none") \
     X(bf_exists, "BF.EXISTS", DS_BLOOM, READS_ANY, "readonly fast", READ_KEY, 3, one_item, "O(1)", \
@@ -103,6 +106,8 @@ static Argument of_state[] = {KEY("key", 0), NUMBER("position"), STRING("bytes")
       "O(width * depth)", "Creates a Count-Min sketch for an error and its probability") \
     X(cms_incrby, "CMS.INCRBY", DS_COUNT_MIN_U64, WRITES, "write deny-oom fast", COUNT_KEY, -4, pairs, "O(items)", \
       "Adds to the counts of items in a Count-Min sketch") \
+    X(cms_addlines, "CMS.ADDLINES", DS_COUNT_MIN_U64, WRITES, "write deny-oom fast", WRITE_KEY, 3, of_lines, \
+      "O(bytes of the lines)", "Adds 1 to the count of each line of a string in a Count-Min sketch") \
     X(cms_query, "CMS.QUERY", DS_COUNT_MIN_U64, READS, "readonly fast", READ_KEY, -3, many_items, "O(items)", \
       "Returns estimates of the counts of items, never below them") \
     X(cms_info, "CMS.INFO", DS_COUNT_MIN_U64, READS, "readonly fast", READ_KEY, 2, just_key, "O(1)", \
@@ -131,6 +136,8 @@ static Argument of_state[] = {KEY("key", 0), NUMBER("position"), STRING("bytes")
       "Creates a sketch of frequent items, whose table grows to a size") \
     X(freq_add, "FREQ.ADD", DS_FREQUENT_ITEMS_STRING, WRITES, "write deny-oom fast", WRITE_KEY, -3, many_items, \
       "O(items) amortized", "Adds 1 to the weight of each item") \
+    X(freq_addlines, "FREQ.ADDLINES", DS_FREQUENT_ITEMS_STRING, WRITES, "write deny-oom fast", WRITE_KEY, 3, of_lines, \
+      "O(bytes of the lines) amortized", "Adds 1 to the weight of each line of a string") \
     X(freq_incrby, "FREQ.INCRBY", DS_FREQUENT_ITEMS_STRING, WRITES, "write deny-oom fast", WRITE_KEY, -4, pairs, \
       "O(items) amortized", "Adds to the weight of each item") \
     X(freq_bounds, "FREQ.BOUNDS", DS_FREQUENT_ITEMS_STRING, READS, "readonly fast", READ_KEY, -3, many_items, "O(items)", \
@@ -186,7 +193,7 @@ static bool create_command(RedisModuleCtx *ctx, const Command *row)
     RedisModuleCommandInfo info = {.version = REDISMODULE_COMMAND_INFO_VERSION,
                                    .summary = row->summary,
                                    .complexity = row->complexity,
-                                   .since = "0.3.0",
+                                   .since = row->arguments == of_lines ? "0.4.0" : "0.3.0",
                                    .arity = row->arity,
                                    .key_specs = keys,
                                    .args = row->arguments};

@@ -58,13 +58,6 @@ int cms_initbyprob(Call *call)
     return create(call, num_hashes, num_buckets, 4);
 }
 
-/* Writes the estimates of items. */
-static int32_t estimates_of(Sketch *sketch, const ds_string *items, size_t count, uint64_t *estimates)
-{
-    ds_items rows = ds_items_fed(items, count);
-    return ds_count_min_u64_estimate_all(&sketch->handle, &rows, estimates, count);
-}
-
 int cms_incrby(Call *call)
 {
     Items items;
@@ -82,17 +75,35 @@ int cms_incrby(Call *call)
     /* All weights fit, and no call below allocates. So none returns an error, and the reply of an item is its estimate then. */
     RedisModule_ReplyWithArray(call->ctx, (long)items.count);
     for (size_t i = 0; i < items.count; i++) {
-        ds_items one = ds_items_fed(items.strings + i, 1);
-        uint64_t estimate = 0, added;
+        const ds_string *item = items.strings + i;
+        uint64_t estimate = 0;
         RedisModule_StringToLongLong(call->argv[3 + 2 * i], &weight);
-        added = (uint64_t)weight;
-        ds_update_all_weighted(&call->sketch->handle, &one, &added, 1);
-        estimates_of(call->sketch, items.strings + i, 1, &estimate);
+        ds_count_min_u64_update_fed(&call->sketch->handle, item->bytes, item->length, (uint64_t)weight);
+        ds_count_min_u64_estimate_fed(&call->sketch->handle, item->bytes, item->length, &estimate);
         RedisModule_ReplyWithLongLong(call->ctx, (long long)estimate);
     }
     replicate_call(call);
     free_items(&items);
     return REDISMODULE_OK;
+}
+
+int cms_addlines(Call *call)
+{
+    Lines lines;
+    ds_items rows;
+    uint64_t total = status_of(call->sketch).total_weight;
+    size_t length, count;
+    long long added = 0;
+    RedisModule_StringPtrLen(call->argv[2], &length); /* no fewer than its lines */
+    if (length > INT64_MAX - total && count_lines(call, 2) > INT64_MAX - total) return reply_error(call, "CMS: ADDLINES overflow");
+    if (!begin_lines(call, 2, &lines)) return REDISMODULE_OK;
+    while ((count = next_lines(&lines, &rows)) > 0) { /* no call allocates, so none returns an error */
+        ds_update_all(&call->sketch->handle, &rows);
+        added += (long long)count;
+    }
+    end_lines(&lines);
+    replicate_call(call);
+    return RedisModule_ReplyWithLongLong(call->ctx, added);
 }
 
 int cms_query(Call *call)
@@ -102,7 +113,8 @@ int cms_query(Call *call)
     int32_t result;
     if (!hashed_items(call, 2, 1, &items)) return REDISMODULE_OK;
     estimates = items.count <= 128 ? room : try_block(items.count * sizeof *estimates);
-    result = estimates != NULL ? estimates_of(call->sketch, items.strings, items.count, estimates) : DS_NO_MEMORY;
+    result = DS_NO_MEMORY;
+    if (estimates != NULL) result = ds_count_min_u64_estimate_all(&call->sketch->handle, &items.rows, estimates, items.count);
     if (result < 0) {
         reply_result(call, result);
     } else {

@@ -118,7 +118,6 @@ static int insert(Call *call, int first, bool as_array, const Sizes *sizes)
     Items items;
     bool room[256], *results;
     Sketch *created = NULL;
-    ds_items rows;
     int32_t result;
     uint64_t fresh = 0;
     if (!hashed_items(call, first, 1, &items)) return REDISMODULE_OK;
@@ -127,8 +126,7 @@ static int insert(Call *call, int first, bool as_array, const Sizes *sizes)
     if (call->sketch == NULL) created = new_filter(call, sizes);
     if (call->sketch != NULL || created != NULL) {
         if (created != NULL) create_value(call, created);
-        rows = ds_items_fed(items.strings, items.count);
-        result = ds_bloom_contains_and_insert_all(&call->sketch->handle, &rows, results, items.count);
+        result = ds_bloom_contains_and_insert_all(&call->sketch->handle, &items.rows, results, items.count);
         if (result < 0) {
             reply_result(call, result);
         } else {
@@ -153,6 +151,31 @@ int bf_madd(Call *call)
 {
     Sizes sizes = default_sizes();
     return insert(call, 2, true, &sizes);
+}
+
+int bf_addlines(Call *call)
+{
+    Sizes sizes = default_sizes();
+    Sketch *created = NULL;
+    Lines lines;
+    ds_items rows;
+    uint64_t fresh = 0;
+    if (!begin_lines(call, 2, &lines)) return REDISMODULE_OK;
+    if (call->sketch == NULL) created = new_filter(call, &sizes);
+    if (created != NULL) create_value(call, created);
+    if (call->sketch != NULL) {
+        bool results[MOST_LINES];
+        size_t count;
+        while ((count = next_lines(&lines, &rows)) > 0) { /* no call allocates, so none returns an error */
+            ds_bloom_contains_and_insert_all(&call->sketch->handle, &rows, results, count);
+            for (size_t i = 0; i < count; i++) fresh += !results[i];
+        }
+        call->sketch->inserted += fresh;
+        if (fresh > 0) replicate_call(call);
+        RedisModule_ReplyWithLongLong(call->ctx, (long long)fresh);
+    }
+    end_lines(&lines);
+    return REDISMODULE_OK;
 }
 
 int bf_insert(Call *call)
@@ -185,14 +208,12 @@ static int contains(Call *call, bool as_array)
 {
     Items items;
     bool room[256], *results;
-    ds_items rows;
     int32_t result = DS_OK;
     if (!hashed_items(call, 2, 1, &items)) return REDISMODULE_OK;
     results = room_for_results(call, &items, room, sizeof room);
     if (results == NULL) return REDISMODULE_OK;
     memset(results, 0, items.count);
-    rows = ds_items_fed(items.strings, items.count);
-    if (call->sketch != NULL) result = ds_bloom_contains_all(&call->sketch->handle, &rows, results, items.count);
+    if (call->sketch != NULL) result = ds_bloom_contains_all(&call->sketch->handle, &items.rows, results, items.count);
     if (result < 0) reply_result(call, result);
     else reply_booleans(call, results, items.count, as_array, true);
     if (results != room) free_block(results);

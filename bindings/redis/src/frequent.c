@@ -124,18 +124,17 @@ static size_t bytes_for(const ds_status *status, const Items *items)
 static int32_t add(Call *call, const Items *items, const uint64_t *weights)
 {
     Sketch *sketch = call->sketch;
-    ds_items rows = ds_items_strings(items->strings, items->count);
     ds_status before = status_of(sketch);
-    uint64_t total = before.total_weight;
+    uint64_t room = INT64_MAX - before.total_weight; /* for weights */
     int32_t result;
-    for (size_t i = 0; i < items->count; i++) {
-        uint64_t weight = weights != NULL ? weights[i] : 1;
-        if (weight > INT64_MAX - total) return DS_WEIGHT_OVERFLOW;
-        total += weight;
+    if (weights == NULL && items->count > room) return DS_WEIGHT_OVERFLOW;
+    for (size_t i = 0; i < items->count && weights != NULL; i++) {
+        if (weights[i] > room) return DS_WEIGHT_OVERFLOW;
+        room -= weights[i];
     }
     if (!begin_reserve(bytes_for(&before, items))) return DS_NO_MEMORY;
-    result = weights != NULL ? ds_update_all_weighted(&sketch->handle, &rows, weights, items->count)
-                             : ds_update_all(&sketch->handle, &rows);
+    result = weights != NULL ? ds_update_all_weighted(&sketch->handle, &items->rows, weights, items->count)
+                             : ds_update_all(&sketch->handle, &items->rows);
     end_reserve();
     if (result < 0) return result;
     sketch->string_bytes += items->bytes;
@@ -145,43 +144,69 @@ static int32_t add(Call *call, const Items *items, const uint64_t *weights)
     return result;
 }
 
-/* Adds the items of a call: from an argument on, or pairs of an item and its weight. Returns false after an error. */
-static bool add_items(Call *call, bool has_weights)
+/* Adds items if the sketch stays within its limit then. Returns false after an error. */
+static bool add_within(Call *call, const Items *items, const uint64_t *weights)
+{
+    int32_t result;
+    if (!check_strings(call, items)) return false;
+    result = add(call, items, weights);
+    if (result < 0) reply_result(call, result);
+    return result >= 0;
+}
+
+/* Adds the items of a call. Returns false after an error. */
+static bool add_items(Call *call)
 {
     Items items;
-    uint64_t room[128], *weights = NULL;
-    int32_t result = DS_NO_MEMORY;
-    if (has_weights && call->argc % 2 != 0) {
+    bool is_done;
+    if (!string_items(call, 2, 1, &items)) return false;
+    is_done = add_within(call, &items, NULL);
+    free_items(&items);
+    return is_done;
+}
+
+/* Adds the pairs of an item and its weight of a call. Returns false after an error. */
+static bool add_pairs(Call *call)
+{
+    Items items;
+    uint64_t room[128], *weights;
+    bool is_done;
+    if (call->argc % 2 != 0) {
         RedisModule_WrongArity(call->ctx);
         return false;
     }
-    if (!string_items(call, 2, has_weights ? 2 : 1, &items)) return false;
-    if (has_weights) weights = items.count <= 128 ? room : try_block(items.count * sizeof *weights);
-    for (size_t i = 0; i < items.count && weights != NULL; i++) {
-        long long weight;
-        if (!number_argument(call, 3 + 2 * (int)i, 0, INT64_MAX, bad_number, &weight)) goto end;
+    if (!string_items(call, 2, 2, &items)) return false;
+    weights = items.count <= 128 ? room : try_block(items.count * sizeof *weights);
+    is_done = weights != NULL;
+    if (!is_done) reply_error(call, no_memory);
+    for (size_t i = 0; i < items.count && is_done; i++) {
+        long long weight = 0;
+        is_done = number_argument(call, 3 + 2 * (int)i, 0, INT64_MAX, bad_number, &weight);
         weights[i] = (uint64_t)weight;
     }
-    if (!check_strings(call, &items)) goto end;
-    if (weights != NULL || !has_weights) result = add(call, &items, weights);
-    if (result < 0) reply_result(call, result);
+    is_done = is_done && add_within(call, &items, weights);
     if (weights != room) free_block(weights);
     free_items(&items);
-    return result >= 0;
-end:
-    if (weights != room) free_block(weights);
-    free_items(&items);
-    return false;
+    return is_done;
 }
 
 int freq_add(Call *call)
 {
-    return add_items(call, false) ? RedisModule_ReplyWithSimpleString(call->ctx, "OK") : REDISMODULE_OK;
+    return add_items(call) ? RedisModule_ReplyWithSimpleString(call->ctx, "OK") : REDISMODULE_OK;
+}
+
+int freq_addlines(Call *call)
+{
+    Items items;
+    if (!string_lines(call, 2, &items)) return REDISMODULE_OK;
+    if (add_within(call, &items, NULL)) RedisModule_ReplyWithLongLong(call->ctx, (long long)items.count);
+    free_items(&items);
+    return REDISMODULE_OK;
 }
 
 int freq_incrby(Call *call)
 {
-    return add_items(call, true) ? RedisModule_ReplyWithSimpleString(call->ctx, "OK") : REDISMODULE_OK;
+    return add_pairs(call) ? RedisModule_ReplyWithSimpleString(call->ctx, "OK") : REDISMODULE_OK;
 }
 
 /* Returns null for each added item: none is known to have left the first k. */
@@ -194,12 +219,12 @@ static int reply_nulls(Call *call, int count)
 
 int topk_add(Call *call)
 {
-    return add_items(call, false) ? reply_nulls(call, call->argc - 2) : REDISMODULE_OK;
+    return add_items(call) ? reply_nulls(call, call->argc - 2) : REDISMODULE_OK;
 }
 
 int topk_incrby(Call *call)
 {
-    return add_items(call, true) ? reply_nulls(call, call->argc / 2 - 1) : REDISMODULE_OK;
+    return add_pairs(call) ? reply_nulls(call, call->argc / 2 - 1) : REDISMODULE_OK;
 }
 
 /* --- Bounds of items. --- */
@@ -213,8 +238,7 @@ static ds_frequent_items_bounds *bounds_of(Call *call, size_t *count)
     if (!string_items(call, 2, 1, &items)) return NULL;
     bounds = try_block(items.count * sizeof *bounds);
     if (bounds != NULL) {
-        ds_items rows = ds_items_strings(items.strings, items.count);
-        result = ds_frequent_items_bounds_all(&call->sketch->handle, &rows, bounds, items.count);
+        result = ds_frequent_items_bounds_all(&call->sketch->handle, &items.rows, bounds, items.count);
     }
     *count = items.count;
     free_items(&items);

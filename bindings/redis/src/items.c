@@ -46,6 +46,7 @@ static bool take_arguments(Call *call, int first, int step, Items *items)
         string->bytes = (const uint8_t *)RedisModule_StringPtrLen(call->argv[first + (int)i * step], &string->length);
         items->bytes += string->length;
     }
+    items->rows = ds_items_strings(items->strings, items->count);
     return true;
 }
 
@@ -67,6 +68,7 @@ bool hashed_items(Call *call, int first, int step, Items *items)
         *to++ = 0xff;
         string->length++;
     }
+    items->rows = ds_items_fed(items->strings, items->count);
     return true;
 }
 
@@ -111,6 +113,63 @@ bool string_items(Call *call, int first, int step, Items *items)
         }
         items->bytes += string->length;
     }
+    return true;
+}
+
+/* Returns whether a line begins with the mark. */
+static bool has_marked_line(const uint8_t *text, size_t length)
+{
+    const uint8_t *at = text, *end = text + length;
+#ifdef PLANT_MARKED_LINES_MISSED
+    at = end;
+#endif
+    while ((at = memchr(at, mark[0], (size_t)(end - at))) != NULL) {
+        if ((at == text || at[-1] == '\n') && has_mark(at, (size_t)(end - at))) return true;
+        at++;
+    }
+    return false;
+}
+
+/* Writes the strings that the lines are kept as, with the ends of lines as they are, and returns the number of bytes. Returns at
+ * least this number if `out` is null. */
+static size_t marked_lines(const uint8_t *text, size_t length, uint8_t *out)
+{
+    const uint8_t *end = text + length;
+    size_t bytes = 0;
+    while (text < end) {
+        const uint8_t *feed = memchr(text, '\n', (size_t)(end - text));
+        size_t line = (size_t)((feed != NULL ? feed : end) - text);
+        bool is_kept = !is_marked(text, line);
+        if (out == NULL) {
+            bytes += is_kept ? line : sizeof mark + 2 * line;
+        } else if (is_kept) {
+            memcpy(out + bytes, text, line);
+            bytes += line;
+        } else {
+            bytes += marked(text, line, out + bytes);
+        }
+        if (feed != NULL && out != NULL) out[bytes] = '\n';
+        bytes += feed != NULL;
+        text += line + (feed != NULL);
+    }
+    return bytes;
+}
+
+bool string_lines(Call *call, int at, Items *items)
+{
+    size_t length;
+    const uint8_t *text = (const uint8_t *)RedisModule_StringPtrLen(call->argv[at], &length);
+    uint8_t *to;
+    items->used = 0;
+    items->block = items->more = NULL;
+    items->rows = ds_items_lines(text, length);
+    items->bytes = length;
+    if (!has_marked_line(text, length) && ds_num_items(&items->rows, &items->count) == DS_OK) return true;
+    to = room_for(call, items, marked_lines(text, length, NULL), &items->more);
+    if (to == NULL) return false;
+    items->bytes = marked_lines(text, length, to);
+    items->rows = ds_items_lines(to, items->bytes);
+    ds_num_items(&items->rows, &items->count);
     return true;
 }
 

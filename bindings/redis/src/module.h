@@ -190,6 +190,7 @@ int reply_exists(Call *call);
 
 /* The items of a call, with the memory that they take: of their own up to a number of bytes, and then blocks. */
 typedef struct Items {
+    ds_items rows;
     size_t count;
     size_t bytes; /* of all items */
     ds_string *strings;
@@ -205,10 +206,37 @@ bool hashed_items(Call *call, int first, int step, Items *items);
 /* Takes them as items of frequent items: as strings in UTF-8. Returns false after an error. */
 bool string_items(Call *call, int first, int step, Items *items);
 
+/* Takes the lines of an argument as items of frequent items. Returns false after an error. */
+bool string_lines(Call *call, int at, Items *items);
+
 void free_items(Items *items);
 
 /* Returns a string of frequent items to the client, as the bytes that the item had. Overwrites the string. */
 void reply_item(Call *call, uint8_t *bytes, size_t length);
+
+/* --- lines.c: the lines of an argument as items of filters and Count-Min sketches. --- */
+
+/* The most lines that one call of the library takes. */
+#define MOST_LINES 256
+
+/* The lines of an argument, copied: those of up to a number of bytes take no other memory. */
+typedef struct Lines {
+    uint8_t *next, *end; /* the bytes of lines that were not taken yet */
+    void *block;
+    ds_string strings[MOST_LINES];
+    uint8_t room[8192];
+} Lines;
+
+/* Copies the lines of an argument. Returns false after an error. */
+bool begin_lines(Call *call, int at, Lines *lines);
+
+/* Takes the next lines as items, and returns their number: 0 at the end. */
+size_t next_lines(Lines *lines, ds_items *rows);
+
+void end_lines(Lines *lines);
+
+/* Returns the number of lines of an argument. */
+uint64_t count_lines(Call *call, int at);
 
 /* --- states.c: a value as bytes, for files and replicas. --- */
 
@@ -235,14 +263,15 @@ bool create_types(RedisModuleCtx *ctx);
 
 /* --- The commands. Each function gets a call whose key is open. --- */
 
-int bf_reserve(Call *call), bf_add(Call *call), bf_madd(Call *call), bf_insert(Call *call), bf_exists(Call *call),
-    bf_mexists(Call *call), bf_card(Call *call), bf_info(Call *call), bf_scandump(Call *call), bf_loadchunk(Call *call);
-int cms_initbydim(Call *call), cms_initbyprob(Call *call), cms_incrby(Call *call), cms_query(Call *call), cms_merge(Call *call),
-    cms_info(Call *call), cms_decay(Call *call), cms_halve(Call *call);
+int bf_reserve(Call *call), bf_add(Call *call), bf_madd(Call *call), bf_addlines(Call *call), bf_insert(Call *call),
+    bf_exists(Call *call), bf_mexists(Call *call), bf_card(Call *call), bf_info(Call *call), bf_scandump(Call *call),
+    bf_loadchunk(Call *call);
+int cms_initbydim(Call *call), cms_initbyprob(Call *call), cms_incrby(Call *call), cms_addlines(Call *call), cms_query(Call *call),
+    cms_merge(Call *call), cms_info(Call *call), cms_decay(Call *call), cms_halve(Call *call);
 int topk_reserve(Call *call), topk_add(Call *call), topk_incrby(Call *call), topk_query(Call *call), topk_count(Call *call),
     topk_list(Call *call), topk_info(Call *call);
-int freq_reserve(Call *call), freq_add(Call *call), freq_incrby(Call *call), freq_bounds(Call *call), freq_rows(Call *call),
-    freq_info(Call *call), freq_merge(Call *call);
+int freq_reserve(Call *call), freq_add(Call *call), freq_addlines(Call *call), freq_incrby(Call *call), freq_bounds(Call *call),
+    freq_rows(Call *call), freq_info(Call *call), freq_merge(Call *call);
 int sketch_image(Call *call), sketch_load(Call *call), sketch_seed(Call *call), sketch_state(Call *call);
 
 /* Creates the commands. Returns whether it did. */

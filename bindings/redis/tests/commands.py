@@ -1,5 +1,6 @@
 """Every command: its replies in both versions of the protocol, by redis-cli and by python3-redis, its errors, and what the server
 knows of it."""
+import collections
 import os
 import random
 import subprocess
@@ -57,6 +58,10 @@ REPLIES = [
     ("BF.RESERVE big 0.000001 1000000000", Error("ERR a sketch of this command takes more bytes than the module's max-bytes")),
     ("BF.RESERVE big 0.1 9223372036854775807", Error("ERR num_bits out of range")),
     ("BF.ADD f", Error("ERR wrong number of arguments for 'BF.ADD' command")),
+    ("BF.ADDLINES f line", 1),
+    ("BF.ADDLINES f line", 0),
+    ("BF.CARD f", 4),
+    ("BF.ADDLINES f a b", Error("ERR wrong number of arguments for 'BF.ADDLINES' command")),
     ("BF.INSERT f ITEMS", Error("ERR wrong number of arguments for 'BF.INSERT' command")),
     ("CMS.INITBYDIM c 2000 5", OK),
     ("CMS.INITBYDIM c 2000 5", Error("CMS: key already exists")),
@@ -105,6 +110,9 @@ REPLIES = [
     ("CMS.MERGE none 1 c", Error("CMS: key does not exist")),
     ("CMS.INITBYDIM s 2000 5 SEED 7", OK),
     ("CMS.MERGE d 1 s", Error("CMS: seeds differ: sketches to merge are created by one server, or with one SEED")),
+    ("CMS.ADDLINES none a", Error("CMS: key does not exist")),
+    ("CMS.ADDLINES s a", 1),
+    ("CMS.QUERY s a", [1]),
     ("CMS.HALVE c", OK),
     ("CMS.QUERY c a b", [3, 1]),
     ("CMS.INFO c", {"width": 2000, "depth": 5, "count": 5}),
@@ -146,6 +154,7 @@ REPLIES = [
     ("FREQ.ROWS r ABOVE -1", Error("ERR value is not an integer or out of range")),
     ("FREQ.ROWS r 4", Error("ERR syntax error")),
     ("FREQ.INFO r", {"size": 64, "counters": 48, "items": 3, "total": 10, "error": 0}),
+    ("FREQ.ADDLINES none a", Error("ERR no such key")),
     ("FREQ.INCRBY r a 9223372036854775797 b 1", Error("ERR total weight overflow")),
     ("FREQ.BOUNDS r a b", [[5, 5], [1, 1]]),
     ("FREQ.INCRBY r a", Error("ERR wrong number of arguments for 'FREQ.INCRBY' command")),
@@ -164,6 +173,8 @@ REPLIES = [
     ("TOPK.LIST r", [b"a", b"c", b"b"]),
     ("FREQ.ADD t d", OK),
     ("TOPK.COUNT t d", [1]),
+    ("FREQ.ADDLINES t d", 1),
+    ("FREQ.BOUNDS t d", [[2, 2]]),
     ("SKETCH.IMAGE none", Error("ERR no such key")),
     ("SKETCH.SEED r", Error("ERR frequent items have no seed")),
     ("SKETCH.SEED s", b"7"),
@@ -185,6 +196,7 @@ OF_KINDS = {
     "f": [
         "BF.ADD K a",
         "BF.MADD K a",
+        "BF.ADDLINES K a",
         "BF.INSERT K ITEMS a",
         "BF.EXISTS K a",
         "BF.MEXISTS K a",
@@ -195,6 +207,7 @@ OF_KINDS = {
     ],
     "c": [
         "CMS.INCRBY K a 1",
+        "CMS.ADDLINES K a",
         "CMS.QUERY K a",
         "CMS.INFO K",
         "CMS.MERGE K 1 c",
@@ -213,6 +226,7 @@ OF_KINDS = {
         "TOPK.INFO K",
         "TOPK.RESERVE K 3",
         "FREQ.ADD K a",
+        "FREQ.ADDLINES K a",
         "FREQ.INCRBY K a 1",
         "FREQ.BOUNDS K a",
         "FREQ.ROWS K",
@@ -315,6 +329,88 @@ def binary(tests):
         tests.check("a list of any bytes", sorted(client.done("TOPK.LIST", "t")) == sorted(BINARY))
         tests.check("counts of any bytes", client.done("CMS.QUERY", "c", *BINARY) == list(range(1, len(BINARY) + 1)))
         tests.check("all of any bytes", client.done("BF.MEXISTS", "f", *BINARY) == [1] * len(BINARY))
+
+
+def lines_of(text):
+    """Returns the lines of a string: without the line feed, and without a carriage return before it."""
+    *ended, last = text.split(b"\n")
+    return [line[:-1] if line.endswith(b"\r") else line for line in ended] + ([last] if last else [])
+
+
+TEXTS = [
+    b"",
+    b"\n",
+    b"\r\n",
+    b"\r",
+    b"a",
+    b"a\n",
+    b"a\nb",
+    b"a\r\nb\r",
+    b"a\r\r\nb",
+    b"\n\na\n\n",
+    b"\xff\na\xff\r\nb",
+    b"\xf4\x8f\xbf\xbf\na\n\xf4\x8f\xbf\xbfa\r\r\n\xf4\x8f\xbf\xbf\r",
+    b"a\xf4\x8f\xbf\xbf\n\xf4\x8f\xbf\n",
+    b"\xc3\n\xa9",
+    "é\nü".encode(),
+    b"\n".join(item for item in BINARY if b"\n" not in item),
+    b"\n" * 1000,
+    b"\r\n".join(b"line %d" % i for i in range(255)),
+    b"\n".join(b"line %d" % i for i in range(256)),
+    b"\n".join(b"line %d" % i for i in range(257)) + b"\n",
+    b"\n".join(b"line %d" % (i % 700) for i in range(3000)),
+    b"x" * 8190 + b"\n",
+    b"x" * 8191 + b"\n",
+    b"x" * 8191,
+    b"x" * 8192,
+    b"y" * 20000 + b"\n" + b"\xff" * 20000,
+]
+
+
+def lines(tests):
+    """The lines of a string are the items that commands with an argument for each take: one image, and the right reply."""
+    with tests.main.client() as client:
+        for text in TEXTS:
+            client.done("FLUSHALL")
+            for name in ["one", "other"]:
+                client.done("BF.RESERVE", f"{name} f", "0.0001", 5000)
+                client.done("CMS.INITBYDIM", f"{name} c", 5000, 3)
+                client.done("FREQ.RESERVE", f"{name} r", 2048)
+            items = lines_of(text)
+            got = [client.done(command, f"one {key}", text) for command, key in OF_LINES]
+            new = sum(client.done("BF.MADD", "other f", *items)) if items else 0
+            for item in items:
+                client.done("CMS.INCRBY", "other c", item, 1)
+            if items:
+                client.done("FREQ.ADD", "other r", *items)
+            tests.check(f"replies of {text[:30]!r}", got == [new, len(items), len(items)], (got, new, len(items)))
+            for key in ["f", "c", "r"]:
+                images = [client.done("SKETCH.IMAGE", f"{name} {key}") for name in ["one", "other"]]
+                tests.check(f"the image of {key} after {text[:30]!r}", images[0] == images[1])
+            rows = client.done("FREQ.ROWS", "one r")
+            wanted = collections.Counter(items)
+            tests.check(f"rows of {text[:30]!r}", {item: low for item, low, _ in rows} == wanted, rows[:5])
+        client.done("FLUSHALL")
+        tests.check("a filter is made", client.done("BF.ADDLINES", "new", "a\nb") == 2 and client.done("BF.CARD", "new") == 2)
+        client.done("CMS.INITBYDIM", "c", 100, 3)
+        client.done("CMS.INCRBY", "c", "a", 2**63 - 4)
+        tests.check(
+            "a total that fits",
+            client("CMS.ADDLINES", "c", "a\nb\nc\nd") == Error("CMS: ADDLINES overflow")
+            and client.done("CMS.ADDLINES", "c", "b\nb\nb") == 3
+            and client.done("CMS.QUERY", "c", "a", "b") == [2**63 - 4, 3],
+        )
+        client.done("FREQ.RESERVE", "r", 64)
+        client.done("FREQ.INCRBY", "r", "a", 2**63 - 4)
+        tests.check(
+            "a total of frequent items that fits",
+            client("FREQ.ADDLINES", "r", "a\nb\nc\nd") == Error("ERR total weight overflow")
+            and client.done("FREQ.ADDLINES", "r", "b\nb\nb") == 3
+            and client.done("FREQ.BOUNDS", "r", "a", "b") == [[2**63 - 4, 2**63 - 4], [3, 3]],
+        )
+
+
+OF_LINES = [("BF.ADDLINES", "f"), ("CMS.ADDLINES", "c"), ("FREQ.ADDLINES", "r")]
 
 
 def command_line(tests):
@@ -422,6 +518,7 @@ def python(tests):
     for i in range(100):
         pipe.execute_command("FREQ.ADD", "t", f"item {i % 7}")
     check("python: a pipeline", set(pipe.execute()) == {b"OK"} and client.execute_command("FREQ.INFO", "t")[7] == 114)
+    check("python: lines", client.execute_command("BF.ADDLINES", "f", "\n".join(["a", "c", "d"])) == 2 and bf.exists("f", "d") == 1)
     client.close()
 
 
@@ -433,7 +530,7 @@ def documented(tests):
         infos = {
             info[0].decode() if isinstance(info[0], bytes) else info[0]: info for info in client.done("COMMAND", "INFO", *names)
         }
-        tests.check("the number of commands", len(names) == 36, names)
+        tests.check("the number of commands", len(names) == 39, names)
         modules = {module["name"]: module["ver"] for module in client.done("MODULE", "LIST")}
         with open(f"{TOP}/VERSION", encoding="utf-8") as file:
             major, minor, patch = [int(number) for number in file.read().split(".")]
@@ -444,7 +541,7 @@ def documented(tests):
                 f"COMMAND DOCS {name}",
                 doc["summary"]
                 and doc["complexity"].startswith(b"O(")
-                and doc["since"] == b"0.3.0"
+                and doc["since"] == (b"0.4.0" if name.endswith(".ADDLINES") else b"0.3.0")
                 and {word if isinstance(word, str) else word.decode() for word in doc["arguments"][0]} >= {"name", "type"},
                 doc,
             )
@@ -522,6 +619,8 @@ WORDS = [
     "x",
     "\x00",
     b"\xff",
+    "a\nb\r\n\nc",
+    b"\xff\na\n\xf4\x8f\xbf\xbf\n",
     "ITEMS",
     "CAPACITY",
     "ERROR",

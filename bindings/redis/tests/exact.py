@@ -23,6 +23,9 @@ def filters(tests):
             batch = [f"key {numbers.randrange(10000)}" for _ in range(100)]
             got = client.done("BF.MADD", "f", *batch)
             tests.check("BF.MADD beside C", got == [1 - oracle.insert(own, item) for item in batch])
+            batch = [f"key {numbers.randrange(10000)}" for _ in range(100)]
+            got = client.done("BF.ADDLINES", "f", "\n".join(batch))
+            tests.check("BF.ADDLINES beside C", got == sum(1 - oracle.insert(own, item) for item in batch))
         tests.check("the image of the filter", client.done("SKETCH.IMAGE", "f") == own.image())
         asked = [f"key {i}" for i in range(20000)]
         got = client.done("BF.MEXISTS", "f", *asked)
@@ -56,6 +59,11 @@ def counts(tests):
                 oracle.add(own, item, weight)
                 wanted.append(oracle.estimate(own, item))
             tests.check("CMS.INCRBY beside C", got == wanted)
+            lines = words(numbers, 50)
+            true.update(lines)
+            for item in lines:
+                oracle.add(own, item)
+            tests.check("CMS.ADDLINES", client.done("CMS.ADDLINES", "c", "\n".join(lines)) == len(lines))
             if step % 20 == 19:
                 client.done("CMS.HALVE", "c")
                 own.call("ds_count_min_u64_halve")
@@ -92,6 +100,10 @@ def frequent(tests):
             for item, weight in batch:
                 true[item] += weight
             client.done("FREQ.INCRBY", "r", *[part for pair in batch for part in pair])
+            lines = words(numbers, 50)
+            true.update(lines)
+            for key in ["r", "t"]:
+                tests.check("FREQ.ADDLINES", client.done("FREQ.ADDLINES", key, "\n".join(lines)) == len(lines))
             client.done("TOPK.INCRBY", "t", *[part for pair in batch for part in pair])
         total, info = sum(true.values()), client.done("FREQ.INFO", "r")
         tests.check("the total", info[7] == total and info[9] > 0, info)

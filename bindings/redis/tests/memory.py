@@ -12,6 +12,8 @@ COMMANDS = [
     ("BF.ADD", "new", "x"),
     ("BF.MADD", "filter", *range(1000)),
     ("BF.INSERT", "new", "ITEMS", *range(500)),
+    ("BF.ADDLINES", "filter", "\n".join(map(str, range(3000)))),
+    ("BF.ADDLINES", "new", "\n".join(map(str, range(3000)))),
     ("BF.EXISTS", "filter", "a"),
     ("BF.MEXISTS", "filter", *range(1000)),
     ("BF.CARD", "filter"),
@@ -20,6 +22,7 @@ COMMANDS = [
     ("CMS.INITBYDIM", "new", 100, 3),
     ("CMS.INITBYPROB", "new", "0.01", "0.01"),
     ("CMS.INCRBY", "count", *[word for i in range(300) for word in (f"item {i}", i)]),
+    ("CMS.ADDLINES", "count", "\n".join(map(str, range(3000)))),
     ("CMS.QUERY", "count", *range(500)),
     ("CMS.INFO", "count"),
     ("CMS.DECAY", "count", 1, 2),
@@ -36,6 +39,8 @@ COMMANDS = [
     ("FREQ.RESERVE", "new", 64),
     ("FREQ.ADD", "items", "item 1", "one more"),
     ("FREQ.ADD", "items", b"\xff" * 100, "x" * 5000, ""),
+    ("FREQ.ADDLINES", "empty", "\n".join(map(str, range(700)))),
+    ("FREQ.ADDLINES", "items", b"\xff" * 100 + b"\n" + b"x" * 5000 + b"\n\n" + b"\xfe"),
     ("FREQ.INCRBY", "empty", *[word for i in range(600) for word in (f"w {i}", i)]),
     ("FREQ.BOUNDS", "items", *range(200)),
     ("FREQ.ROWS", "items"),
@@ -163,6 +168,8 @@ def limits(tests):
         client.done("FREQ.ADD", "r", *[f"item {i}" for i in range(500)])
         before = client.done("DEBUG", "DIGEST")
         tests.check("strings count", client("FREQ.ADD", "r", "x" * 60000) == too_much and client.done("DEBUG", "DIGEST") == before)
+        lines = "\n" * 60000
+        tests.check("lines count", client("FREQ.ADDLINES", "r", lines) == too_much and client.done("DEBUG", "DIGEST") == before)
         tests.check("short ones fit", client("FREQ.ADD", "r", "x" * 10000) == "OK")
         for i in range(30):
             client("FREQ.ADD", "r", f"{i}" + "y" * 7000)
@@ -214,6 +221,7 @@ def full(tests):
             ("CMS.INCRBY", "count", "x", 1),
             ("CMS.MERGE", "count", 1, "count"),
             ("FREQ.ADD", "items", "x"),
+            ("FREQ.ADDLINES", "items", "x"),
             ("FREQ.MERGE", "items", "top"),
             ("TOPK.ADD", "top", "x"),
             ("SKETCH.LOAD", "l", "bloom_filter", "x"),

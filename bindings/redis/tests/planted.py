@@ -1,4 +1,5 @@
 """Wrong builds: each has a mistake that the tests must find."""
+import commands
 import damage
 import replicas
 import stored
@@ -41,12 +42,20 @@ def mistaken(tests):
         tests.check("a kind", "WRONGTYPE" in str(client("BF.ADD", "count", "a")))
 
 
+def wrong_lines(tests):
+    with tests.server("lines") as tests.main:
+        commands.lines(tests)
+
+
 def wrong_builds(tests):
-    """A state without the key of its table, an addition that is not replicated, a kind that is mistaken for another."""
+    """A state without the key of its table, an addition that is not replicated, a kind that is mistaken for another, lines that
+    keep a carriage return, and lines that are taken for other items."""
     for macro, group in [
         ("PLANT_STATE_WITHOUT_KEY", without_key),
         ("PLANT_ADD_NOT_REPLICATED", not_replicated),
         ("PLANT_KIND_MISTAKEN", mistaken),
+        ("PLANT_CARRIAGE_RETURN_KEPT", wrong_lines),
+        ("PLANT_MARKED_LINES_MISSED", wrong_lines),
     ]:
         wrong = Silent(tests, tests.build(macro.lower(), f"-O1 -D{macro}"))
         try:

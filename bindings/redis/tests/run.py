@@ -72,6 +72,7 @@ GROUPS = [
     commands.replies,
     commands.kinds,
     commands.binary,
+    commands.lines,
     commands.command_line,
     commands.python,
     commands.documented,

@@ -32,6 +32,9 @@ def change(client, salt, count=3000):
                 ("FREQ.ADD", "items", *part),
                 ("TOPK.ADD", "top", b"\xff" + part[0].encode(), *part),
                 ("FREQ.ADD", "large", *part),
+                ("BF.ADDLINES", "filter", "\n".join(part)),
+                ("CMS.ADDLINES", "count", "\r\n".join(part)),
+                ("FREQ.ADDLINES", "large", b"\xff\n" + "\n".join(part).encode()),
             ]
         )
 
