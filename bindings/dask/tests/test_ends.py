@@ -8,7 +8,7 @@ import sys
 import unittest
 from unittest import mock
 
-import heavy
+import seen
 import sketch_engine
 from common import said
 
@@ -36,9 +36,9 @@ class Ends(unittest.TestCase):
 
     def test_a_package_that_is_not_there(self):
         with mock.patch.dict(sys.modules, {"cryptography": None}):
-            status, out, errors = said(heavy.main, sketch_engine.__file__, "--column", "1", "--no-header")
+            status, out, errors = said(seen.main, __file__, sketch_engine.__file__)
         self.assertEqual((status, out), (1, ""))
-        self.assertRegex(errors, "^heavy.py: not installed here or on a worker: .*`cryptography`.*\n$")
+        self.assertRegex(errors, "^seen.py: not installed here or on a worker: .*`cryptography`.*\n$")
 
     def test_a_scheduler_that_does_not_answer(self):
         class Older(Exception):
