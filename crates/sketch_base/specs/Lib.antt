@@ -14,6 +14,7 @@ pub mod PowersOfTwo
 pub mod Reciprocal
 pub mod ShortBytes
 pub mod SipHash
+pub mod SipHashLanes
 pub mod SipHashState
 pub mod Split
 pub mod Strings
