@@ -216,6 +216,10 @@ impl<T: Eq + Hash + Drop> FrequentItemsSketch<T> {
         ensures bound { AllZip (λ names answer. (x : T) → IsTrue (names x) → BoundWeight T.eq self.now x answer)
             (K.names keys) bounds.new }
     {
+        if let TableKey::Keyed(secret) = self.map.key() {
+            self.bounds_all_keyed(keys, secret, bounds);
+            return;
+        }
         // The label names the loop for its proof.
         'each: for i in 0..bounds.len() {
             let Some(key) = keys.next_key() else {

@@ -5,7 +5,7 @@ ghost use Rattle.sketch_base.specs.Errors.{invalid_argument, no_memory};
 ghost use Rattle.counter_table.specs.TableHashes.{hash_of};
 ghost use Rattle.counter_table.specs.Tables.{is_tracked_by_key};
 ghost use Rattle.counter_table.specs.declared.table_key.TableKey.TheVariants.{Keyed};
-ghost use Rattle.sketch_frequencies.specs.Bounds.{bounds_by_key};
+ghost use Rattle.sketch_frequencies.specs.Bounds.{bounds_by_key, BoundWeight};
 ghost use Rattle.sketch_frequencies.specs.History.FrequentHistory.{Update};
 ghost use Rattle.sketch_frequencies.specs.KeyedBatches.{UpdatesKeys, StopsAtKey};
 ghost use Rattle.sketch_frequencies.specs.KeysAhead.{AreHashed, names_ahead};
@@ -155,6 +155,8 @@ impl<T: Eq + Hash + Drop> FrequentItemsSketch<T> {
         requires keyed { self.now.key ≡ Keyed secret }
         requires same { length bounds.old ≡ length (K.names keys) }
         ensures value { bounds.new ≡ map (λ names. bounds_by_key names self.now) (K.names keys) }
+        ensures bound { AllZip (λ names answer. (x : T) → IsTrue (names x) → BoundWeight T.eq self.now x answer)
+            (K.names keys) bounds.new }
     {
         let mut now = keys_ahead::<T, K>(&mut keys, secret);
         let mut i = 0;

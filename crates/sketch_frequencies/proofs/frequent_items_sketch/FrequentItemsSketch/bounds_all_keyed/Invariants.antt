@@ -1,6 +1,8 @@
 use Rattle.std.proofs.Common.{◌≡◌, ◌++◌, length, map, take, drop}
+use Rattle.std.specs.List.{AllZip}
+use Rattle.std.specs.Prelude.{IsTrue}
 use Rattle.counter_table.specs.declared.table_key.TableKey.TheVariants.{Keyed}
-use Rattle.sketch_frequencies.specs.Bounds.{bounds_by_key}
+use Rattle.sketch_frequencies.specs.Bounds.{bounds_by_key, BoundWeight}
 use Rattle.sketch_frequencies.specs.KeysAhead.{AreHashed, names_ahead}
 use Rattle.sketch_frequencies.proofs.frequent_items_sketch.FrequentItemsSketch.bounds_all_keyed.Given as goal
 
@@ -9,6 +11,7 @@ abbrev pub invariant-each : goal.invariant-each
 invariant-each g l = record {
   left : names_ahead g.K.Key.ItemKey.names l.now ++ g.K.Keys.names l.keys ≡ drop l.i (g.K.Keys.names l.fn.keys);
   value : take l.i l.bounds ≡ map (λ names. bounds_by_key names l.self) (take l.i (g.K.Keys.names l.fn.keys));
+  holds : AllZip (λ names answer. (x : g.row.T.Denot) → IsTrue (names x) → BoundWeight g.T.PartialEq.eq l.self x answer) (take l.i (g.K.Keys.names l.fn.keys)) (take l.i l.bounds);
   hashed : AreHashed g.K.Key.Item.bytes (Keyed l.fn.secret) l.now (g.K.Keys.names l.keys);
 }
 
