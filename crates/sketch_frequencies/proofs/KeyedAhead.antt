@@ -11,7 +11,8 @@ use Rattle.counter_table.specs.Keys.{count_by_key_of}
 use Rattle.counter_table.specs.Tables.{is_tracked_by_key}
 use Rattle.sketch_frequencies.specs.Bounds.{bounds_by_key, BoundWeight}
 use Rattle.sketch_frequencies.specs.KeyedBatches.{StopsAtKey}
-use Rattle.sketch_frequencies.specs.State.{FrequentState, Overflows, TotalHasRoom}
+use Rattle.sketch_frequencies.specs.State.{FrequentState, Overflows, TotalHasRoom, estimate_by_key}
+use Rattle.sketch_frequencies.specs.Stands.{IsExactOfFew}
 use Rattle.sketch_frequencies.proofs.KeyedBatches.{HasAdded, added_until, key_at, left_after, none_left, answered_more}
 use Rattle.sketch_frequencies.proofs.Estimates.{estimate_exact, estimate_item}
 use Rattle.sketch_frequencies.specs.declared.item_bounds.ItemBounds.{ItemBounds}
@@ -86,3 +87,8 @@ bounds_hold eq names alike s b value x is = rw value (record {
   at_most = λ h encloses. omega (arith, count_by_key_of names alike s.counters x is, encloses.at_most x);
   exact = estimate_exact eq s x _ (estimate_item names alike s x is);
 })
+
+-- and the estimate
+
+pub estimate_holds : {T : Type 0} (eq : T → T → Bool) (names : T → Bool) → ((x y : T) → IsTrue (names x) → names y ≡ eq x y) → (s : FrequentState T) (n : ℕ) → n ≡ estimate_by_key names s → (x : T) → IsTrue (names x) → IsExactOfFew eq s x n
+estimate_holds eq names alike s n value x is = estimate_exact eq s x n (value ∙ estimate_item names alike s x is)

@@ -185,6 +185,10 @@ impl<T: Eq + Hash + Drop> FrequentItemsSketch<T> {
         ensures exact { AllZip (λ names answer. (x : T) → IsTrue (names x) → IsExactOfFew T.eq self.now x answer)
             (K.names keys) estimates.new }
     {
+        if let TableKey::Keyed(secret) = self.map.key() {
+            self.estimate_all_keyed(keys, secret, estimates);
+            return;
+        }
         // The label names the loop for its proof.
         'each: for i in 0..estimates.len() {
             let Some(key) = keys.next_key() else {

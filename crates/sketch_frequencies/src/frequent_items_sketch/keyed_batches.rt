@@ -9,8 +9,8 @@ ghost use Rattle.sketch_frequencies.specs.Bounds.{bounds_by_key, BoundWeight};
 ghost use Rattle.sketch_frequencies.specs.History.FrequentHistory.{Update};
 ghost use Rattle.sketch_frequencies.specs.KeyedBatches.{UpdatesKeys, StopsAtKey};
 ghost use Rattle.sketch_frequencies.specs.KeysAhead.{AreHashed, names_ahead};
-ghost use Rattle.sketch_frequencies.specs.Stands.{Extends, ExtendsBudget};
-ghost use Rattle.sketch_frequencies.specs.State.{IsState, Overflows, TotalHasRoom, capacity};
+ghost use Rattle.sketch_frequencies.specs.Stands.{Extends, ExtendsBudget, IsExactOfFew};
+ghost use Rattle.sketch_frequencies.specs.State.{IsState, Overflows, TotalHasRoom, capacity, estimate_by_key};
 ghost use Rattle.sketch_frequencies.specs.Steps.{StepsByKey};
 
 use crate::frequent_items_sketch::FrequentItemsSketch;
@@ -205,6 +205,60 @@ impl<T: Eq + Hash + Drop> FrequentItemsSketch<T> {
                 estimate: 0,
                 upper_bound: self.error,
             },
+        }
+    }
+
+    /// Does what [`estimate_all`](Self::estimate_all) does, for a sketch with this secret key.
+    #[inline(never)]
+    pub(crate) fn estimate_all_keyed<K: Keys<T>>(
+        &self,
+        mut keys: K,
+        secret: HashKey,
+        estimates: &mut [u64],
+    )
+        requires keyed { self.now.key ≡ Keyed secret }
+        requires same { length estimates.old ≡ length (K.names keys) }
+        ensures value { estimates.new ≡ map (λ names. estimate_by_key names self.now) (K.names keys) }
+        ensures exact { AllZip (λ names answer. (x : T) → IsTrue (names x) → IsExactOfFew T.eq self.now x answer)
+            (K.names keys) estimates.new }
+    {
+        let mut now = keys_ahead::<T, K>(&mut keys, secret);
+        let mut i = 0;
+        // The label names the loop for its proof.
+        'each: loop {
+            match now {
+                KeysAhead::End => return,
+                KeysAhead::One { key, hash } => {
+                    estimates[i] = self.estimate_hashed(key, hash);
+                    return;
+                }
+                KeysAhead::Two {
+                    first,
+                    first_hash,
+                    second,
+                    second_hash,
+                } => {
+                    now = keys_ahead::<T, K>(&mut keys, secret);
+                    estimates[i] = self.estimate_hashed(first, first_hash);
+                    estimates[i + 1] = self.estimate_hashed(second, second_hash);
+                    i += 2;
+                }
+            }
+        }
+    }
+
+    /// Returns the estimate of the item that the key names, as [`estimate_item`](Self::estimate_item) does, where `hash` is the
+    /// key's.
+    #[inline(always)]
+    fn estimate_hashed<K: ItemKey<T>>(&self, key: K, hash: u64) -> u64
+        requires { hash ≡ hash_of self.now.key (K.bytes key) }
+        ensures { result ≡ estimate_by_key (K.names key) self.now }
+    {
+        // The sum is at most the total, so it fits. Reading the total brings this into the proof.
+        let _total = self.total;
+        match self.map.look_up_hashed(key, hash) {
+            Some(count) => count + self.error,
+            None => 0,
         }
     }
 }

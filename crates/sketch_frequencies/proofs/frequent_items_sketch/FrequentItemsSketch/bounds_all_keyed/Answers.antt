@@ -65,6 +65,6 @@ each-preserved g c =
     let first = c.bounds_hashed-in-Two.ensures in
     let second = c.bounds_hashed-in-Two-2.ensures in
     let two = two_more f R all left later c.each.bounds c.each.i (names c.in-Two.first) (names c.in-Two.second) c.bounds_hashed-in-Two.result c.bounds_hashed-in-Two-2.result long i.left (ap (λ a. names_ahead names a ++ later) c.in-Two.is) first second
-        (bounds_hold g.T.PartialEq.eq (names c.in-Two.first) (g.met.K.Key.ItemKey.respects_eq c.in-Two.first) s _ first) (bounds_hold g.T.PartialEq.eq (names c.in-Two.second) (g.met.K.Key.ItemKey.respects_eq c.in-Two.second) s _ second) i.value i.holds in
+    (bounds_hold g.T.PartialEq.eq (names c.in-Two.first) (g.met.K.Key.ItemKey.respects_eq c.in-Two.first) s _ first) (bounds_hold g.T.PartialEq.eq (names c.in-Two.second) (g.met.K.Key.ItemKey.respects_eq c.in-Two.second) s _ second) i.value i.holds in
     let next = c.keys_ahead-now-in-Two.ensures in
     record { left = sym next.parts ∙ two.left; value = two.value; holds = two.holds; hashed = next.hashed }
