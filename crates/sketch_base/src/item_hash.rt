@@ -79,8 +79,8 @@ pub fn keyed_hash_of<T: Hash>(key: HashKey, item: &T) -> u64
 #[inline(always)]
 pub fn keyed_hashes_of<T: Hash>(key: HashKey, first: &T, second: &T) -> (u64, u64)
     ensures { result ≡ (
-        sip_hash_1_3 key (fed_bytes T.hash_input first.now),
-        sip_hash_1_3 key (fed_bytes T.hash_input second.now),
+      sip_hash_1_3 key (fed_bytes T.hash_input first.now),
+      sip_hash_1_3 key (fed_bytes T.hash_input second.now),
     ) }
 {
     RehashableItem::new(first).keyed_hashes(&RehashableItem::new(second), key)

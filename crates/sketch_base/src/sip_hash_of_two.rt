@@ -90,8 +90,8 @@ fn initialization_of_two(key: HashKey) -> Lanes
 #[inline(always)]
 pub(crate) fn hashes_of_two_words(key: HashKey, firsts: (u64, u64), lasts: (u64, u64)) -> (u64, u64)
     ensures { result ≡ (
-        spec.finalization 3 (spec.compression 1 (spec.compression 1 (spec.initialization key) firsts.0) lasts.0),
-        spec.finalization 3 (spec.compression 1 (spec.compression 1 (spec.initialization key) firsts.1) lasts.1),
+      spec.finalization 3 (spec.compression 1 (spec.compression 1 (spec.initialization key) firsts.0) lasts.0),
+      spec.finalization 3 (spec.compression 1 (spec.compression 1 (spec.initialization key) firsts.1) lasts.1),
     ) }
 {
     let start = initialization_of_two(key);

@@ -1,5 +1,5 @@
 use Rattle.std.proofs.Common.{ap, ℕ, List, bit_xor}
-use Rattle.sketch_base.specs.SipHash.{State, compression, sip_round, sip_rounds}
+use Rattle.sketch_base.specs.SipHash.{State, compression, sip_rounds}
 use Rattle.sketch_base.proofs.sip_hash_of_two.compression.Goals as goal
 
 pub returns : goal.returns

@@ -1,5 +1,5 @@
 use Rattle.std.proofs.Common.{ap, ℕ, List, bit_xor, refl}
-use Rattle.sketch_base.specs.SipHash.{State, finalization, sip_round, sip_rounds}
+use Rattle.sketch_base.specs.SipHash.{State, finalization, sip_rounds}
 use Rattle.sketch_base.proofs.sip_hash_of_two.finalization.Goals as goal
 
 pub returns : goal.returns

@@ -1,5 +1,4 @@
-use Rattle.std.proofs.Common.{ap, ◌∙◌, ◌<◌, arith, length, rules, sym}
-use Rattle.std.proofs.lemmas.List.{length-take-le}
+use Rattle.std.proofs.Common.{◌∙◌, arith, rules, sym}
 use Rattle.sketch_base.proofs.SipStrings.{begun_zeros, one_word}
 use Rattle.sketch_base.proofs.short_bytes.ShortBytes.keyed_hash.Goals as goal
 

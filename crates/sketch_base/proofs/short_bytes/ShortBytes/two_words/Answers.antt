@@ -1,7 +1,6 @@
 use Rattle.std.proofs.Common.{◌<◌, ◌≤◌, ap, arith, length, rules, sym}
 use Rattle.std.proofs.lemmas.List.{length-take-le}
 use Rattle.sketch_base.proofs.SipStrings.{ended_zeros, two_words}
-use Rattle.sketch_base.proofs.short_bytes.ShortBytes.two_words.Given as given
 use Rattle.sketch_base.proofs.short_bytes.ShortBytes.two_words.Goals as goal
 
 pub begun_word-requires-clause-zeros : goal.begun_word-requires-clause-zeros
