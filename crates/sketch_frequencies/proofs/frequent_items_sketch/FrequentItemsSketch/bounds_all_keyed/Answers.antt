@@ -1,4 +1,4 @@
-use Rattle.std.proofs.Common.{◌≡◌, ◌<◌, ◌++◌, Bool, List, [], ◌+◌, length, set, ap, sym, ◌∙◌, subst, arith}
+use Rattle.std.proofs.Common.{◌≡◌, ◌++◌, Bool, List, [], ◌+◌, length, set, ap, sym, ◌∙◌, subst, arith}
 use Rattle.std.specs.Prelude.{IsTrue}
 use Rattle.counter_table.specs.declared.table_key.TableKey.TheVariants.{Keyed}
 use Rattle.sketch_frequencies.specs.Bounds.{bounds_by_key, BoundWeight}
