@@ -23,5 +23,6 @@ fn main() {
     rows::filters::rows(&table);
     rows::count_min::rows(&table);
     rows::frequent::rows(&table);
+    rows::keyed::rows(&table);
     rows::program::rows(&table);
 }

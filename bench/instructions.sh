@@ -11,7 +11,7 @@ count() { # prints the number of instructions of a command
 
 # the loops and the functions that they call
 loops=()
-for part in murmur3 xxh64 filter count frequent; do
+for part in murmur3 xxh64 filter count frequent keyed; do
     loops+=(--toggle-collect="rattle_${part}_*")
 done
 

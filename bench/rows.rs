@@ -4,4 +4,5 @@ pub mod count_min;
 pub mod filters;
 pub mod frequent;
 pub mod hashes;
+pub mod keyed;
 pub mod program;

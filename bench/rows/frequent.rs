@@ -154,7 +154,7 @@ fn read_texts(shape: &Shape, _: &[i64], _: &[i64], turns: u64) -> u64 {
 }
 
 /// Returns a stream of `len` items. The frequency of the item of rank r is proportional to 1 over r to the power 1.1.
-fn zipf(len: usize) -> Vec<i64> {
+pub fn zipf(len: usize) -> Vec<i64> {
     let mut sums = Vec::new();
     let mut sum = 0.0;
     for rank in 1..=len {

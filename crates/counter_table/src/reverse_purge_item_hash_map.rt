@@ -7,7 +7,7 @@ ghost use Rattle.sketch_base.specs.Errors.{no_memory};
 ghost use Rattle.counter_table.specs.Bytes.{table_bytes};
 ghost use Rattle.counter_table.specs.Homes.{home_in, IsReach, IsShortOfReach};
 ghost use Rattle.counter_table.specs.Slots.{entries_of};
-ghost use Rattle.counter_table.specs.TableHashes.{hash_in};
+ghost use Rattle.counter_table.specs.TableHashes.{hash_in, hash_of};
 ghost use Rattle.counter_table.specs.Tables.{count_by_key, count_of, is_tracked_by_key, is_tracked, put, purged, IsSampleMiddle, IsSameMap, PutsEqual, PutsByKey};
 ghost use Rattle.counter_table.specs.Walk.{entry_of};
 ghost use Rattle.counter_table.specs.declared.table_key.TableKey.TheVariants.{Plain};
@@ -239,6 +239,41 @@ impl<T: Eq + Hash + Drop> ReversePurgeItemHashMap<T> {
         Ok(())
     }
 
+    /// Does what [`adjust_or_put_by_key`](Self::adjust_or_put_by_key) does, and takes the key's hash.
+    ///
+    /// The hash is that of the table: SipHash-1-3 under its secret key, or MurmurHash3 under the seed 9001. A caller that knows it before the
+    /// look-up saves time.
+    ///
+    /// # Errors
+    ///
+    /// Returns `NoMemory` if the item cannot be allocated. The table is then unchanged.
+    #[inline(always)]
+    pub fn adjust_or_put_hashed<K: OwnedKey<T>>(
+        &mut self,
+        key: K,
+        hash: u64,
+        adjust_amount: u64,
+    ) -> Result<(), Error>
+        requires hash { hash ≡ hash_of self.old.key (K.bytes key) }
+        requires room { is_tracked_by_key (K.names key) self.old.entries ≡ false
+            → length self.old.entries + 1 < self.old.size }
+        requires fits { is_tracked_by_key (K.names key) self.old.entries ≡ true
+            → count_by_key (K.names key) self.old.entries + adjust_amount < 2 ^ 64 }
+        ensures entries { OnOk result (PutsByKey T.eq (K.names key) self.old.entries adjust_amount self.new.entries) }
+        ensures size { self.new.size ≡ self.old.size }
+        ensures key { self.new.key ≡ self.old.key }
+        ensures distinct { IsDistinct T.eq (keys_of self.new.entries) }
+        ensures err { OnErr result (self.new ≡ self.old) }
+        ensures memory { IfErr result (λ e. e ≡ no_memory) }
+        ensures succeeds { is_tracked_by_key (K.names key) self.old.entries ≡ true → IsOk result }
+        ensures infallible { K.needs_no_memory key → IsOk result }
+    {
+        if self.table.put_hashed(key, hash, adjust_amount)? {
+            self.active += 1;
+        }
+        Ok(())
+    }
+
     /// Subtracts a middle count m of a sample from every count, drops the entries at or below m, and returns m.
     ///
     /// The sample has `min(sample_size, active, 1024)` entries, and m is the count at half its length in ascending order. Which
@@ -377,6 +412,17 @@ impl<T: Eq + Hash + Drop> ReversePurgeItemHashMap<T> {
         ensures { result ≡ lookup (K.names key) self.now.entries }
     {
         self.table.find(key).found
+    }
+
+    /// Returns the count of the item that the key names, if it has an entry, where `hash` is the key's hash in this table.
+    ///
+    /// It is what [`look_up_by_key`](Self::look_up_by_key) returns. It does not allocate.
+    #[inline(always)]
+    pub fn look_up_hashed<K: ItemKey<T>>(&self, key: K, hash: u64) -> Option<u64>
+        requires { hash ≡ hash_of self.now.key (K.bytes key) }
+        ensures { result ≡ lookup (K.names key) self.now.entries }
+    {
+        self.table.find_hashed(key, hash).found
     }
 
     /// Adds to the item's count if it has an entry, and returns whether it has one.

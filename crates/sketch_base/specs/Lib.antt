@@ -17,6 +17,7 @@ pub mod RecordItems
 pub mod Records
 pub mod ShortBytes
 pub mod SipHash
+pub mod SipHashLanes
 pub mod SipHashState
 pub mod Split
 pub mod Strings

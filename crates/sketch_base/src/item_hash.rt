@@ -62,6 +62,30 @@ pub fn keyed_hash_of<T: Hash>(key: HashKey, item: &T) -> u64
     RehashableItem::new(item).keyed_hash(key)
 }
 
+/// Returns the [`keyed_hash_of`] of each of two items. Does not allocate.
+///
+/// It takes less time than both hashes if the items have from 8 to 15 bytes, as numbers have.
+///
+/// # Examples
+///
+/// ```
+/// use sketch_base::{HashKey, keyed_hashes_of};
+///
+/// fn are_in_one_shard(key: HashKey, users: (u64, u64)) -> bool {
+///     let hashes = keyed_hashes_of(key, &users.0, &users.1);
+///     hashes.0 % 100 == hashes.1 % 100
+/// }
+/// ```
+#[inline(always)]
+pub fn keyed_hashes_of<T: Hash>(key: HashKey, first: &T, second: &T) -> (u64, u64)
+    ensures { result ≡ (
+      sip_hash_1_3 key (fed_bytes T.hash_input first.now),
+      sip_hash_1_3 key (fed_bytes T.hash_input second.now),
+    ) }
+{
+    RehashableItem::new(first).keyed_hashes(&RehashableItem::new(second), key)
+}
+
 /// Returns SipHash-1-3 under a key of all bytes that the `Hash` of `item` feeds, which may be many.
 #[inline(never)]
 pub(crate) fn keyed_hash_of_many<T: Hash>(key: HashKey, item: &T) -> u64

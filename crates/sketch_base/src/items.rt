@@ -6,7 +6,7 @@ ghost use Rattle.sketch_base.specs.Murmur3.{murmur3_x64_128};
 ghost use Rattle.sketch_base.specs.SipHash.{sip_hash_1_3};
 ghost use Rattle.sketch_base.specs.Xxh64.{xxh64};
 
-use crate::item_hash::{keyed_hash_of, murmur3_of, xxh64_of};
+use crate::item_hash::{keyed_hash_of, keyed_hashes_of, murmur3_of, xxh64_of};
 use crate::sip_hash::HashKey;
 use crate::str_hash::{keyed_hash_of_str, murmur3_of_str, xxh64_of_str};
 use std::hash::Hash;
@@ -40,6 +40,14 @@ pub trait Item {
     /// Returns SipHash-1-3 of the bytes, under a secret key. Does not allocate.
     fn keyed_hash(&self, key: HashKey) -> u64
         ensures { result ≡ sip_hash_1_3 key (bytes self.now) };
+
+    /// Returns the [`keyed_hash`](Self::keyed_hash) of each of two items. For numbers it takes less time than both hashes.
+    #[inline(always)]
+    fn keyed_hashes(&self, other: &Self, key: HashKey) -> (u64, u64)
+        ensures { result ≡ (sip_hash_1_3 key (bytes self.now), sip_hash_1_3 key (bytes other.now)) }
+    {
+        (self.keyed_hash(key), other.keyed_hash(key))
+    }
 }
 
 impl<'a, T: Hash> Item for &'a T {
@@ -58,6 +66,11 @@ impl<'a, T: Hash> Item for &'a T {
     #[inline(always)]
     fn keyed_hash(&self, key: HashKey) -> u64 {
         keyed_hash_of(key, *self)
+    }
+
+    #[inline(always)]
+    fn keyed_hashes(&self, other: &Self, key: HashKey) -> (u64, u64) {
+        keyed_hashes_of(key, *self, *other)
     }
 }
 

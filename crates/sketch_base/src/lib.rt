@@ -6,7 +6,7 @@
 //! - [`xxh64_of`], [`murmur3_of`] and [`murmur3_of_u64`] hash a whole item or number. [`xxh64_of_str`] and
 //!   [`murmur3_of_str`] hash a string without a buffer.
 //! - [`keyed_hash`] hashes bytes under a secret [`HashKey`], for items that others choose. [`keyed_hash_of`] and
-//!   [`keyed_hash_of_str`] hash a whole item and a string. [`MapState`] hashes the keys of a map.
+//!   [`keyed_hash_of_str`] hash a whole item and a string, [`keyed_hashes_of`] two items. [`MapState`] hashes the keys of a map.
 //! - [`RehashableItem`] hashes one item under several seeds. It feeds an item of few bytes once, and keeps them as
 //!   [`ShortBytes`]. [`RehashableStr`] and [`RehashableBytes`] do so for a string and for bytes. All three are [`Rehashable`].
 //! - [`from_utf8`] returns the string of bytes, fast for short ones.
@@ -64,6 +64,7 @@ mod separator;
 mod short_bytes;
 mod short_copy;
 mod sip_hash;
+mod sip_hash_of_two;
 mod sip_hasher;
 mod sketch_bytes;
 mod sketch_slice;
@@ -87,7 +88,7 @@ pub use family::Family;
 pub use fault::Fault;
 pub use fed_items::{FedBytes, FedItems};
 pub use fields::{nth_field, nth_field_of_bytes};
-pub use item_hash::{keyed_hash_of, murmur3_of, murmur3_of_u64, xxh64_of};
+pub use item_hash::{keyed_hash_of, keyed_hashes_of, murmur3_of, murmur3_of_u64, xxh64_of};
 pub use items::{Item, Items};
 pub use lines::Lines;
 pub use map_state::{MapHasher, MapState};

@@ -116,6 +116,7 @@ impl<'a, T: Hash> RehashableItem<'a, T> {
             murmur3_of(self.item, seed)
         }
     }
+
     /// Returns SipHash-1-3 under a key of all bytes that the item's `Hash` feeds.
     #[inline(always)]
     pub fn keyed_hash(&self, key: HashKey) -> u64
@@ -125,6 +126,18 @@ impl<'a, T: Hash> RehashableItem<'a, T> {
             self.short.keyed_hash(key)
         } else {
             keyed_hash_of_many(key, self.item)
+        }
+    }
+
+    /// Returns SipHash-1-3 under a key of all bytes that each item's `Hash` feeds.
+    #[inline(always)]
+    pub(crate) fn keyed_hashes(&self, other: &Self, key: HashKey) -> (u64, u64)
+        ensures { result ≡ (sip_hash_1_3 key self.now, sip_hash_1_3 key other.now) }
+    {
+        if self.short.len() < 16 && other.short.len() < 16 {
+            self.short.keyed_hashes(&other.short, key)
+        } else {
+            (self.keyed_hash(key), other.keyed_hash(key))
         }
     }
 }

@@ -1,13 +1,15 @@
 //! The bytes of an item, kept while there are fewer than a block of MurmurHash3.
-ghost use Rattle.std.specs.Prelude.{◌≡◌, ◌^◌, ◌<◌, [], length, ℕ};
+ghost use Rattle.std.specs.Prelude.{◌≡◌, ◌^◌, ◌<◌, ◌≤◌, [], length, ℕ};
 ghost use Rattle.sketch_base.specs.Murmur3.{murmur3_x64_128};
 ghost use Rattle.sketch_base.specs.ShortBytes as short;
+ghost use Rattle.sketch_base.specs.SipHash as sip;
 ghost use Rattle.sketch_base.specs.SipHash.{sip_hash_1_3};
 
 use crate::machine_words::word_at;
 use crate::murmurhash::finalization;
 use crate::short_copy::copy_short;
 use crate::sip_hash::{HashKey, begun_word, hash_of_two_words, hash_of_word};
+use crate::sip_hash_of_two::hashes_of_two_words;
 use std::hash::Hasher;
 use std::marker::Model;
 
@@ -79,13 +81,41 @@ impl ShortBytes {
         requires { length self.now < 16 }
         ensures { result ≡ sip_hash_1_3 key self.now }
     {
-        let size = (self.len as u64) << 56;
         if self.len < 8 {
+            let size = (self.len as u64) << 56;
             hash_of_word(key, begun_word(&self.buffer[..8], self.len) + size)
         } else {
-            let last = begun_word(&self.buffer[8..], self.len - 8) + size;
-            hash_of_two_words(key, word_at(&self.buffer, 0), last)
+            let (first, last) = self.two_words();
+            hash_of_two_words(key, first, last)
         }
+    }
+
+    /// Returns the two words of SipHash of the bytes, which are from 8 to 15.
+    #[inline(always)]
+    fn two_words(&self) -> (u64, u64)
+        requires many { 8 ≤ length self.now }
+        requires few { length self.now < 16 }
+        ensures { (key : ℕ × ℕ) → sip.finalization 3 (sip.compression 1 (sip.compression 1 (sip.initialization key) result.0) result.1)
+            ≡ sip_hash_1_3 key self.now }
+    {
+        let size = (self.len as u64) << 56;
+        let last = begun_word(&self.buffer[8..], self.len - 8) + size;
+        (word_at(&self.buffer, 0), last)
+    }
+
+    /// Returns SipHash-1-3 of both lists of bytes, which are fewer than 16, under a key. It takes less time than both hashes if both
+    /// have at least 8 bytes.
+    #[inline(always)]
+    pub(crate) fn keyed_hashes(&self, other: &ShortBytes, key: HashKey) -> (u64, u64)
+        requires here { length self.now < 16 }
+        requires there { length other.now < 16 }
+        ensures { result ≡ (sip_hash_1_3 key self.now, sip_hash_1_3 key other.now) }
+    {
+        if self.len < 8 || other.len < 8 {
+            return (self.keyed_hash(key), other.keyed_hash(key));
+        }
+        let (here, there) = (self.two_words(), other.two_words());
+        hashes_of_two_words(key, (here.0, there.0), (here.1, there.1))
     }
 }
 

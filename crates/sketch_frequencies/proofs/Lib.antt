@@ -13,6 +13,7 @@ pub mod ImageSizes
 pub mod ImageWeights
 pub mod Images
 pub mod Joins
+pub mod KeyedAhead
 pub mod KeyedBatches
 pub mod Lookups
 pub mod ManyBounds

@@ -7,6 +7,7 @@ pub mod Image
 pub mod ItemLaws
 pub mod Items
 pub mod KeyedBatches
+pub mod KeysAhead
 pub mod Laws
 pub mod ManyMerges
 pub mod Memory

@@ -12,6 +12,7 @@ ghost use Rattle.sketch_frequencies.specs.Steps.{IsSameState};
 
 mod batches;
 mod images;
+mod keyed_batches;
 mod merging;
 mod reports;
 mod updates;

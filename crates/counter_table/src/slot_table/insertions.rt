@@ -1,9 +1,10 @@
 //! Insertions, and additions to counts.
-ghost use Rattle.std.specs.Prelude.{◌≡◌, ◌+◌, ◌<◌, ◌^◌, true, false, not, length, IfOk, IfErr, OnOk, OnErr, IsOk, IsTrue, IsPermutation};
+ghost use Rattle.std.specs.Prelude.{◌≡◌, ◌+◌, ◌<◌, ◌^◌, ◌%◌, true, false, not, length, IfOk, IfErr, OnOk, OnErr, IsOk, IsTrue, IsPermutation};
 ghost use Rattle.sketch_base.specs.Errors.{no_memory};
 ghost use Rattle.counter_table.specs.Homes.{home_in};
-ghost use Rattle.counter_table.specs.Probes.{IsFreeSlot};
+ghost use Rattle.counter_table.specs.Probes.{IsProbe, IsFreeSlot};
 ghost use Rattle.counter_table.specs.Slots.{IsSlots, CountHasRoom, AddsAt, entries_of};
+ghost use Rattle.counter_table.specs.TableHashes as hashes;
 ghost use Rattle.counter_table.specs.TableHashes.{hash_in};
 ghost use Rattle.counter_table.specs.Tables.{count_by_key, count_of, is_tracked_by_key, is_tracked, put, PutsByKey};
 
@@ -11,6 +12,7 @@ use crate::fingerprints::{fingerprint, hash_of};
 use crate::item_key::{ItemKey, OwnedKey};
 use crate::slot::Slot;
 use crate::slot_table::SlotTable;
+use crate::slot_table::look_ups::Probe;
 use sketch_base::Error;
 use std::hash::Hash;
 
@@ -107,6 +109,58 @@ impl<T: Eq + Hash + Drop> SlotTable<T> {
         ensures infallible { K.needs_no_memory key → IsOk result }
     {
         let probe = self.find(key);
+        self.put_at(key, probe, amount)
+    }
+
+    /// Does what `put_by_key` does, where `hash` is the key's hash.
+    #[inline(always)]
+    pub(crate) fn put_hashed<K: OwnedKey<T>>(
+        &mut self,
+        key: K,
+        hash: u64,
+        amount: u64,
+    ) -> Result<bool, Error>
+        requires hash { hash ≡ hashes.hash_of self.old.key (K.bytes key) }
+        requires slots { IsSlots T.eq (hash_in self.old.key T.hash_input) self.old.slots }
+        requires room { is_tracked_by_key (K.names key) (entries_of self.old.slots) ≡ false
+            → length (entries_of self.old.slots) + 1 < length self.old.slots }
+        requires fits { is_tracked_by_key (K.names key) (entries_of self.old.slots) ≡ true
+            → count_by_key (K.names key) (entries_of self.old.slots) + amount < 2 ^ 64 }
+        ensures tracked { IfOk result (λ put. is_tracked_by_key (K.names key) (entries_of self.old.slots) ≡ not put) }
+        ensures slots { IsSlots T.eq (hash_in self.new.key T.hash_input) self.new.slots }
+        ensures entries { OnOk result (PutsByKey T.eq (K.names key) (entries_of self.old.slots) amount (entries_of self.new.slots)) }
+        ensures size { length self.new.slots ≡ length self.old.slots }
+        ensures key { self.new.key ≡ self.old.key }
+        ensures err { OnErr result (self.new ≡ self.old) }
+        ensures memory { IfErr result (λ e. e ≡ no_memory) }
+        ensures succeeds { is_tracked_by_key (K.names key) (entries_of self.old.slots) ≡ true → IsOk result }
+        ensures infallible { K.needs_no_memory key → IsOk result }
+    {
+        let probe = self.find_hashed(key, hash);
+        self.put_at(key, probe, amount)
+    }
+
+    /// Does what `put_by_key` does, where `probe` is the end of the key's look-up.
+    #[inline(always)]
+    fn put_at<K: OwnedKey<T>>(&mut self, key: K, probe: Probe, amount: u64) -> Result<bool, Error>
+        requires probe { IsProbe (K.names key) (hashes.hash_of self.old.key (K.bytes key) % length self.old.slots)
+            self.old.slots probe.index probe.found probe.probed }
+        requires hash { probe.hash ≡ hashes.hash_of self.old.key (K.bytes key) }
+        requires slots { IsSlots T.eq (hash_in self.old.key T.hash_input) self.old.slots }
+        requires room { is_tracked_by_key (K.names key) (entries_of self.old.slots) ≡ false
+            → length (entries_of self.old.slots) + 1 < length self.old.slots }
+        requires fits { is_tracked_by_key (K.names key) (entries_of self.old.slots) ≡ true
+            → count_by_key (K.names key) (entries_of self.old.slots) + amount < 2 ^ 64 }
+        ensures tracked { IfOk result (λ put. is_tracked_by_key (K.names key) (entries_of self.old.slots) ≡ not put) }
+        ensures slots { IsSlots T.eq (hash_in self.new.key T.hash_input) self.new.slots }
+        ensures entries { OnOk result (PutsByKey T.eq (K.names key) (entries_of self.old.slots) amount (entries_of self.new.slots)) }
+        ensures size { length self.new.slots ≡ length self.old.slots }
+        ensures key { self.new.key ≡ self.old.key }
+        ensures err { OnErr result (self.new ≡ self.old) }
+        ensures memory { IfErr result (λ e. e ≡ no_memory) }
+        ensures succeeds { is_tracked_by_key (K.names key) (entries_of self.old.slots) ≡ true → IsOk result }
+        ensures infallible { K.needs_no_memory key → IsOk result }
+    {
         match probe.found {
             Some(_) => {
                 self.add_at(probe.index, amount);

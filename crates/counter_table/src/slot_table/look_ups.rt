@@ -174,6 +174,18 @@ impl<T: Eq + Hash + Drop> SlotTable<T> {
         }
     }
 
+    /// Looks up the item that the key names, from its home slot on, with the key's hash.
+    #[inline(always)]
+    pub(crate) fn find_hashed<K: ItemKey<T>>(&self, key: K, hash: u64) -> Probe
+        requires slots { IsSlots T.eq (hash_in self.now.key T.hash_input) self.now.slots }
+        requires hash { hash ≡ hashes.hash_of self.now.key (K.bytes key) }
+        ensures probe { IsProbe (K.names key) (hashes.hash_of self.now.key (K.bytes key) % length self.now.slots)
+            self.now.slots result.index result.found result.probed }
+        ensures hash { result.hash ≡ hashes.hash_of self.now.key (K.bytes key) }
+    {
+        self.as_slices().find_from(key, hash)
+    }
+
     /// Writes the count of each item to `counts`, 0 if it is absent. Each kind of hash has a loop of its own.
     ///
     /// It is not inlined, so that its loops have the processor's registers to themselves.

@@ -11,7 +11,7 @@ ghost use Rattle.sketch_frequencies.specs.WeightedBatches.{weighed};
 
 use crate::frequent_items_sketch::FrequentItemsSketch;
 use crate::item_bounds::ItemBounds;
-use counter_table::{Keys, OwnedKey};
+use counter_table::{Keys, OwnedKey, TableKey};
 use sketch_base::{Error, Fault};
 use std::hash::Hash;
 
@@ -55,8 +55,9 @@ impl<T: Eq + Hash + Drop> FrequentItemsSketch<T> {
         ensures state { IsState T.eq self.new }
         ensures err { IfErr result (λ e. StopsAtKey T.eq self.old (K.names keys) e self.new) }
     {
-        // Borrows a field, which brings the invariant of the sketch into the proof.
-        let _ = &self.map;
+        if let TableKey::Keyed(secret) = self.map.key() {
+            return self.update_all_keyed(keys, secret);
+        }
         // The label names the loop for its proof.
         'each: loop {
             let Some(key) = keys.next_key() else {
@@ -184,6 +185,10 @@ impl<T: Eq + Hash + Drop> FrequentItemsSketch<T> {
         ensures exact { AllZip (λ names answer. (x : T) → IsTrue (names x) → IsExactOfFew T.eq self.now x answer)
             (K.names keys) estimates.new }
     {
+        if let TableKey::Keyed(secret) = self.map.key() {
+            self.estimate_all_keyed(keys, secret, estimates);
+            return;
+        }
         // The label names the loop for its proof.
         'each: for i in 0..estimates.len() {
             let Some(key) = keys.next_key() else {
@@ -215,6 +220,10 @@ impl<T: Eq + Hash + Drop> FrequentItemsSketch<T> {
         ensures bound { AllZip (λ names answer. (x : T) → IsTrue (names x) → BoundWeight T.eq self.now x answer)
             (K.names keys) bounds.new }
     {
+        if let TableKey::Keyed(secret) = self.map.key() {
+            self.bounds_all_keyed(keys, secret, bounds);
+            return;
+        }
         // The label names the loop for its proof.
         'each: for i in 0..bounds.len() {
             let Some(key) = keys.next_key() else {

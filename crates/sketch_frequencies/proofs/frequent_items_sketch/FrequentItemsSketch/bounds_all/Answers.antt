@@ -12,14 +12,14 @@ use Rattle.sketch_frequencies.proofs.frequent_items_sketch.FrequentItemsSketch.b
 -- there is a key for each answer
 no_end : (g : given.Over) (c : After-drop-keys g) → ⊥
 no_end g c =
-    let ends : length (g.K.Keys.names c.args.keys) ≤ c.each.i = none_left (g.K.Keys.names c.args.keys) (g.K.Keys.names c.each.keys) c.each.i c.each.invariant.left c.in_default.ensures.0 in
+    let ends : length (g.K.Keys.names c.args.keys) ≤ c.each.i = none_left (g.K.Keys.names c.args.keys) (g.K.Keys.names c.each.keys) c.each.i c.each.invariant.left c.in_default-next_key.ensures.0 in
     omega (arith, ends, c.requires, c.each-test.true)
 
-pub returns-in_default-clause-value : goal.returns-in_default-clause-value
-returns-in_default-clause-value g c = absurd (no_end g c)
+pub returns-in_default-next_key-clause-value : goal.returns-in_default-next_key-clause-value
+returns-in_default-next_key-clause-value g c = absurd (no_end g c)
 
-pub returns-in_default-clause-bound : goal.returns-in_default-clause-bound
-returns-in_default-clause-bound g c = absurd (no_end g c)
+pub returns-in_default-next_key-clause-bound : goal.returns-in_default-next_key-clause-bound
+returns-in_default-next_key-clause-bound g c = absurd (no_end g c)
 
 pub each-preserved : goal.each-preserved
 each-preserved g c =
