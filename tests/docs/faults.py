@@ -1,5 +1,4 @@
-"""Checks the faults of docs/faults.txt and docs/lines.txt against those of the header: each name, and their number in docs/FORMATS.md. Also
-checks that docs/DECISIONS.md has at most twenty decisions."""
+"""Checks the faults of docs/faults.txt and docs/lines.txt against those of the header: each name, and their number in docs/FORMATS.md."""
 import os
 import re
 
@@ -27,5 +26,3 @@ def check(tests):
     tests.check("docs/faults.txt names faults of the header alone", of_images <= listed, of_images - listed)
     tests.check("docs/lines.txt names faults of the header and of sessions", of_lines <= listed | OF_SESSIONS, of_lines - listed)
     tests.check("both lists name most faults", len((of_images | of_lines) & listed) > 30, len((of_images | of_lines) & listed))
-    decisions = re.findall(r"^- \*\*", read("docs/DECISIONS.md").partition("\n## ")[0], re.MULTILINE)
-    tests.check("docs/DECISIONS.md has at most twenty decisions", 0 < len(decisions) <= 20, len(decisions))
