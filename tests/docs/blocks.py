@@ -2,7 +2,6 @@
 import re
 
 BLOCK = re.compile(r"^```(?P<kind>\w*)\n(?P<fenced>.*?)^```$|^(?P<indented>(?: {4}[^\n]*\n)+)", re.DOTALL | re.MULTILINE)
-NAME = re.compile(r"(?:#|//|/\*) (\S+\.\w+)(?: \*/)?\n")
 
 
 def blocks(text):
@@ -31,9 +30,3 @@ def transcripts(text):
 
 def is_transcript(kind, block):
     return kind == "console" or kind == "indented" and block.startswith("$ sketches ")
-
-
-def file_name(block):
-    """Returns the name of a file, which its first line has as a comment, or None."""
-    found = NAME.match(block)
-    return found and found[1]

@@ -1,5 +1,5 @@
 """Checks that each Rust block of a README and of docs/CALLING.md, and each example in a library's docs, is in `crates/examples`.
-CI proves and runs that crate. Also checks that each word which docs/CALLING.md lists is defined in `specs/`."""
+CI proves and runs that crate. Also checks that each word which docs/words.txt lists is defined in `specs/`."""
 import glob
 import os
 import re
@@ -42,11 +42,10 @@ def blocks():
 
 
 def words():
-    """Yields the words that docs/CALLING.md lists, each with its crate and its file in `specs/`."""
-    for crate, listed in re.findall(r"^\| `(\w+)` \| (.*) \|$", read(CALLING), re.MULTILINE):
-        for module, several, one in re.findall(r"`(\w+)\.(?:\{([^}]*)\}|(\w+))`", listed):
-            for word in (several or one).split(", "):
-                yield crate, module, word
+    """Yields the words that docs/words.txt lists, each with its crate and its file in `specs/`. `all` is each word of a file."""
+    for crate, module, listed in re.findall(r"^(\w+) (\w+): (.*)$", read(f"{TOP}/docs/words.txt"), re.MULTILINE):
+        for word in listed.split(", "):
+            yield crate, module, word
 
 
 def check(tests):
@@ -54,8 +53,9 @@ def check(tests):
     listed = list(words())
     for crate, module, word in listed:
         path = f"{TOP}/crates/{crate}/specs/{module}.antt"
-        stands = re.search(rf"\bpub (?:data |record |rec )?{word}\b", read(path)) if os.path.exists(path) else None
-        tests.check(f"{word} stands in {module} of {crate}, as docs/CALLING.md says", stands)
+        name = r"\w+" if word == "all" else word
+        stands = re.search(rf"\bpub (?:data |record |rec )?{name}\b", read(path)) if os.path.exists(path) else None
+        tests.check(f"{word} stands in {module} of {crate}, as docs/words.txt says", stands)
     tests.check("there are words to be cited", len(listed) > 50)
     texts = [read(it) for it in glob.glob(f"{TOP}/crates/examples/src/*.rt")]
     proved = [(functions(it), imports(it)) for it in texts]

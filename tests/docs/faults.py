@@ -1,5 +1,4 @@
-"""Checks the faults of docs/FORMATS.md against those of the header: their number, and each name. Also checks that docs/DECISIONS.md has at
-most twenty decisions."""
+"""Checks the faults of docs/faults.txt and docs/lines.txt against those of the header: each name, and their number in docs/FORMATS.md."""
 import os
 import re
 
@@ -13,10 +12,9 @@ def read(path):
 
 
 def named(text):
-    """Returns the names of faults in the tables of a page: alone at the end of a line, or at its beginning before a condition."""
-    blocks = re.findall(r"^```text\n(.*?)^```$", text, re.DOTALL | re.MULTILINE)
-    found = [re.findall(r"^.* {2,}([A-Z]\w+)$|^([A-Z]\w+[a-z]\w*) {2,}", block, re.MULTILINE) for block in blocks]
-    return {name for pairs in found for pair in pairs for name in pair if name}
+    """Returns the names of faults in the tables of a text: alone at the end of a line, or at its beginning before a condition."""
+    found = re.findall(r"^.* {2,}([A-Z]\w+)$|^([A-Z]\w+[a-z]\w*) {2,}", text, re.MULTILINE)
+    return {name for pair in found for name in pair if name}
 
 
 def check(tests):
@@ -24,8 +22,7 @@ def check(tests):
     listed = set(re.findall(r'X\(-\d+, DS_\w+, "(\w+)"', read("bindings/c/include/datasketches.h")))
     number = re.search(r"one of (\d+) faults", page)
     tests.check("docs/FORMATS.md has the number of faults", number and int(number[1]) == len(listed), len(listed))
-    found = named(page) - {"String"}
-    tests.check("docs/FORMATS.md names faults of the header alone", found - OF_SESSIONS <= listed, found - OF_SESSIONS - listed)
-    tests.check("docs/FORMATS.md names most faults", len(found & listed) > 30, len(found & listed))
-    decisions = re.findall(r"^- \*\*", read("docs/DECISIONS.md").partition("\n## ")[0], re.MULTILINE)
-    tests.check("docs/DECISIONS.md has at most twenty decisions", 0 < len(decisions) <= 20, len(decisions))
+    of_images, of_lines = named(read("docs/faults.txt")), named(read("docs/lines.txt"))
+    tests.check("docs/faults.txt names faults of the header alone", of_images <= listed, of_images - listed)
+    tests.check("docs/lines.txt names faults of the header and of sessions", of_lines <= listed | OF_SESSIONS, of_lines - listed)
+    tests.check("both lists name most faults", len((of_images | of_lines) & listed) > 30, len((of_images | of_lines) & listed))

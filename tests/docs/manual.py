@@ -1,6 +1,5 @@
-"""Checks that the manual page of the program has each command, look-up and rejection that docs/FORMATS.md lists."""
+"""Checks that the manual page of the program has each command, look-up and rejection that docs/lines.txt lists."""
 import os
-import re
 
 TOP = os.path.dirname(os.path.dirname(os.path.dirname(os.path.abspath(__file__))))
 
@@ -12,8 +11,7 @@ def read(path):
 
 def check(tests):
     page = read("release/datasketches_cli.1").replace("\\-", "-").replace("\\e", "\\").replace("\\&", "")
-    blocks = re.findall(r"^```text\n(.*?)^```$", read("docs/FORMATS.md"), re.DOTALL | re.MULTILINE)[:3]
+    blocks = [it for it in read("docs/lines.txt").split("\n\n") if it.startswith(("frequent NAME", "ask NAME", "NoSuchName "))]
     for block in blocks:
-        tests.check(f"the manual page has what docs/FORMATS.md has from '{block[:30]}' on", block in page)
-    tests.check("docs/FORMATS.md has commands, look-ups and rejections",
-                [block.split(" ")[0] for block in blocks] == ["frequent", "ask", "NoSuchName"])
+        tests.check(f"the manual page has what docs/lines.txt has from '{block[:30]}' on", block.rstrip("\n") + "\n.fi\n" in page)
+    tests.check("docs/lines.txt has commands, look-ups and rejections", len(blocks) == 3, len(blocks))

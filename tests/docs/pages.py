@@ -6,15 +6,14 @@ SKETCHES is the built program, and ARCHIVE what `rt lib` builds in crates/datask
 a folder of its own, the Python package, and the extension for PostgreSQL. Its server listens on a unix socket alone. The script prints the
 blocks that failed and then 'N passed, M failed'.
 
-The blocks of a page run in order, in one folder, which has only the licence of the repository at first:
+The blocks of a page run in order, in one folder, which has only the licence of the repository and the files of docs/recipes at first:
 
     ```console              commands of bash; the output of each is that of both streams
     indented `$ sketches`   the same
     ```python               examples as those of doctest, by a process of their own
     ```sql                  queries for psql; the block ```text after them is their output
-    ```c, ```rust, ```toml  a file, whose name is in the first line
 
-Other blocks are not run. Of these, one in Java needs the words 'is not run' in the page.
+Other blocks are not run. Each of them but an indented one needs the words 'is not run' in the page.
 """
 import filecmp
 import os
@@ -83,7 +82,8 @@ class Tests:
         before = self.ran
         database = re.sub(r"\W+", "_", page).lower()
         folder = f"{self.work}/{database}"
-        os.makedirs(f"{folder}/datasketches")
+        shutil.copytree(f"{TOP}/docs/recipes", folder)
+        os.mkdir(f"{folder}/datasketches")
         os.symlink(f"{TOP}/bindings/rust", f"{folder}/datasketches/rust")
         shutil.copy(f"{TOP}/LICENSE", folder)
         found = blocks.blocks(text)
@@ -103,13 +103,8 @@ class Tests:
                 status, got = self.run(["psql", "-X", "-q", "-v", "ON_ERROR_STOP=1", "-d", database], folder, text=block)
                 wanted = found[at + 1][1] if at + 1 < len(found) and found[at + 1][0] == "text" else ""
                 self.check(f"{page}: {block}", status == 0 and trimmed(got) == trimmed(wanted), got)
-            elif blocks.file_name(block) and kind != "java":
-                path = f"{folder}/{blocks.file_name(block)}"
-                os.makedirs(os.path.dirname(path), exist_ok=True)
-                with open(path, "w", encoding="utf-8") as file:
-                    file.write(block)
-            else:
-                self.check(f"{page}: a block of {kind} is run, or the page says that it is not", kind != "java" or "is not run" in text)
+            elif kind not in ("indented", "text"):
+                self.check(f"{page}: a block of {kind} is run, or the page says that it is not", "is not run" in text)
         self.check(f"{page}: has blocks that run", self.ran > before)
 
     def pictures(self):

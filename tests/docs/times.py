@@ -4,7 +4,7 @@ import os
 import re
 
 TOP = os.path.dirname(os.path.dirname(os.path.dirname(os.path.abspath(__file__))))
-PAGES = ["README.md", "bench/README.md"]
+PAGES = ["README.md"]
 TABLE = re.compile(r"^\| operation \| here \| plain \| ratio \|\n\|[-|]+\|\n((?:\|.*\n)+)", re.MULTILINE)
 
 

@@ -24,6 +24,7 @@ import links  # noqa: E402
 import loads  # noqa: E402
 import manual  # noqa: E402
 import sessions  # noqa: E402
+import sizes  # noqa: E402
 import streams  # noqa: E402
 import times  # noqa: E402
 import trials  # noqa: E402
@@ -621,6 +622,7 @@ def main():
         faults.check(tests)
         links.check(tests)
         manual.check(tests)
+        sizes.check(tests)
         times.check(tests)
         print(f"requests refused in turn: {worked} and {many} of the program, {run} of a run of a session")
         print(f"{tests.passed} passed, {tests.failed} failed")

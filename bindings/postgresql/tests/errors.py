@@ -1,13 +1,15 @@
-"""The page's table of errors, beside the errors that statements return."""
+"""The list of errors, beside the errors that statements return."""
+import os
 import re
 
-import page
 from ends import code_of
+
+LIST = os.path.join(os.path.dirname(os.path.dirname(os.path.abspath(__file__))), "errors.txt")
 
 # The image of frequent strings with the item "a" and a zero byte.
 ZERO_BYTE = ("04010a0303000000" "0100000000000000" "0500000000000000" "0000000000000000" "0500000000000000" "020000006100")
 
-# A statement for each error of the page but those that other files of tests cause.
+# A statement for each error of the list but those that other files of tests cause.
 ERRORS = {
     "SK001": "SELECT filter::bytea::count_min FROM one",
     "SK002": "SELECT sketch_contains(filter, 7) FROM one",
@@ -27,16 +29,15 @@ ERRORS = {
 ELSEWHERE = {"22P05": "stored.py", "53200": "ends.py", "57014": "ends.py", "XX001": "damage.py", "58000": "none", "SK041": "none"}
 
 
-def page_errors(tests):
-    """The page's table of errors: each is returned by a statement."""
-    with open(page.PAGE, encoding="utf-8") as file:
-        section = file.read().split("## Errors")[1].split("## ")[0]
-    first = " ".join(re.findall(r"^\| ([^|]*) \|", section, re.MULTILINE))
+def listed_errors(tests):
+    """The errors of `errors.txt`: each is returned by a statement."""
+    with open(LIST, encoding="utf-8") as file:
+        first = " ".join(re.findall(r"^(\S.*?) {2,}", file.read(), re.MULTILINE))
     listed = set(re.findall(r"\b(?:SK\d{3}|[0-9A-Z]{5})\b", first))
-    tests.check("the errors of the page", listed == set(ERRORS) | set(ELSEWHERE), listed ^ (set(ERRORS) | set(ELSEWHERE)))
+    tests.check("the errors of errors.txt", listed == set(ERRORS) | set(ELSEWHERE), listed ^ (set(ERRORS) | set(ELSEWHERE)))
     with tests.main.session() as session, session.cursor() as cursor:
         cursor.execute("CREATE COLLATION loose (provider = icu, locale = 'und-u-ks-level1', deterministic = false);"
                        "CREATE TABLE one AS SELECT bloom_filter_agg_sized('a', 64, 3) AS filter")
         for state, statement in ERRORS.items():
             code = code_of(cursor, statement)
-            tests.check(f"README.md, error {state}", code == state, code)
+            tests.check(f"errors.txt, error {state}", code == state, code)

@@ -151,7 +151,7 @@ GROUPS = [queries, isolation, bounds.every_key, ends.cancels, ends.many_cancels,
           updates.from_the_version_before, frames.linear, item_types.types, item_types.orders, item_types.images_of_other_items,
           item_types.comments, limits.small_images, limits.planned, limits.administrators, limits.settings,
           limits.kept_by_use, limits.kept_in_part, limits.long_strings,
-          exchange.interfaces, exchange.seeds, page.page_queries, errors.page_errors, damage.damaged_bytes, versions.compiles]
+          exchange.interfaces, exchange.seeds, page.page_queries, errors.listed_errors, damage.damaged_bytes, versions.compiles]
 
 
 def run_group(tests, group):
