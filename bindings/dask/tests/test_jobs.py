@@ -125,15 +125,16 @@ class Threads(unittest.TestCase):
     def test_they_need_no_dask(self):
         code = "import sys; {}; import heavy, traffic; sys.exit({}.main(sys.argv[1:]))"
         hidden = "sys.modules.update(dask=None, distributed=None)"
-        for command, *words in (("heavy", "--words"), ("heavy",), ("traffic", "--words", "--ask", WORDS[0])):
+        for command, *words in (("heavy", "--words"), ("heavy",), ("traffic", "--words", "--ask", WORDS[0]),
+                                ("heavy", "--column", "1", "--no-header"), ("heavy", "-f", "1")):
             done = subprocess.run([sys.executable, "-c", code.format(hidden, command), *words, STREAM, "--json"], text=True,
                                   capture_output=True, env={**os.environ, "PYTHONPATH": os.pathsep.join(sys.path)}, check=False)
             self.assertEqual((done.returncode, done.stderr), (0, ""))
-            self.assertEqual(json.loads(done.stdout)["total"], len(WORDS) if words else len(WORDS) // 5)
+            self.assertEqual(json.loads(done.stdout)["total"], len(WORDS) if "--words" in words else len(WORDS) // 5)
         with mock.patch.dict(sys.modules, {"dask": None}):
-            status, out, errors = said(heavy.main, STREAM, "--column", "1", "--no-header")
+            status, out, errors = said(seen.main, STREAM, STREAM)
         self.assertEqual((status, out), (1, ""))
-        self.assertRegex(errors, "^heavy.py: not installed here or on a worker: .*dask.*\n$")
+        self.assertRegex(errors, "^seen.py: not installed here or on a worker: .*dask.*\n$")
 
     def test_the_same_key_gives_the_result_of_workers(self):
         for fan_in in ("2", "3", "5", "12"):
