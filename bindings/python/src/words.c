@@ -315,10 +315,10 @@ PyObject *sketch_fields(PyObject *object, PyObject *args, PyObject *keywords)
     ds_fields fields;
     Method method = {inserts ? "insert_fields" : "update_fields", {.of_lines = true, .fields = &fields}};
     Text text = {0};
-    if (!(inserts ? PyArg_ParseTupleAndKeywords(args, keywords, "OO|$OpO", names_of_filter, &given, &item, &delimiter, &csv,
-                                                &given_threads)
-                  : PyArg_ParseTupleAndKeywords(args, keywords, "OO|$OpOO", names, &given, &item, &delimiter, &csv, &given_threads,
-                                                &weight)) ||
+    if (!(inserts ? PyArg_ParseTupleAndKeywords(args, keywords, "OO|$OpO:insert_fields", names_of_filter, &given, &item, &delimiter,
+                                                &csv, &given_threads)
+                  : PyArg_ParseTupleAndKeywords(args, keywords, "OO|$OpOO:update_fields", names, &given, &item, &delimiter, &csv,
+                                                &given_threads, &weight)) ||
         !sketch_ready(self))
         return NULL;
     if (!takes_texts(self))

@@ -184,6 +184,18 @@ class RefusedMemory(unittest.TestCase):
 
         self.refused("update_words", call)
 
+    def test_fields(self):
+        for threads in (1, 2):
+            def call():
+                sketch = ds.FrequentItemsSketch(64, item=str)
+
+                def check(error, where):
+                    self.assertTrue(sketch.total_weight == 11 if error is None else sketch.total_weight in (0, 5), where)
+
+                return (lambda: sketch.update_fields(b'5,"a ""b"""\n6,c\n', 1, weight=0, csv=True, threads=threads)), check
+
+            self.refused("update_fields", call)
+
     def test_questions(self):
         for many in (lambda: [1, 2, 3], lambda: array.array("q", [1, 2, 3])):
             def call():

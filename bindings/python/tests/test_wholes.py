@@ -525,7 +525,8 @@ class Closed(unittest.TestCase):
             whole.close()
             kind = type(whole)
             calls = {name: (lambda whole=whole, name=name: getattr(whole, name)) for name in FIELDS[kind]}
-            takes = {"decay": [1, 2], "top": [1], "merge_all": [[other]], "union_all": [[other]]}
+            takes = {"decay": [1, 2], "top": [1], "merge_all": [[other]], "union_all": [[other]],
+                     "insert_fields": [item, 0], "update_fields": [item, 0]}
             takes |= dict.fromkeys(("insert", "contains", "contains_and_insert", "update", "estimate", "upper_bound", "bounds",
                                     "insert_words", "insert_lines", "update_words", "update_lines"), [item])
             names = {name for name in vars(kind) if not name.startswith("_")} - OF_A_CLASS
