@@ -1,5 +1,5 @@
 //! Examples of items that others choose, and their test.
-use sketch_base::{Error, HashKey, keyed_hash, keyed_hash_of, keyed_hash_of_str};
+use sketch_base::{Error, HashKey, keyed_hash, keyed_hash_of, keyed_hash_of_str, keyed_hashes_of};
 use sketch_bloom::BloomFilterBuilder;
 use std::alloc::Global;
 use std::test::Fail;
@@ -25,6 +25,12 @@ pub fn shard_of_name(key: HashKey, user: &str) -> u64 {
     keyed_hash_of_str(key, user) % 100
 }
 
+/// Returns whether two users, by their numbers, are in one shard.
+fn are_in_one_shard(key: HashKey, users: (u64, u64)) -> bool {
+    let hashes = keyed_hashes_of(key, &users.0, &users.1);
+    hashes.0 % 100 == hashes.1 % 100
+}
+
 /// Returns whether a filter contains a user whose hash was inserted.
 fn contains_hash(alloc: Global, random: &[u8; 16], user: &str) -> Result<bool, Error> {
     let mut seen = BloomFilterBuilder::with_size(64, 1).build(alloc)?;
@@ -46,6 +52,8 @@ fn items_hash_under_keys(rt: HostRuntime) -> Result<(), Fail> {
     let key = HashKey::from_bytes(&[0, 1, 2, 3, 4, 5, 6, 7, 8, 9, 10, 11, 12, 13, 14, 15]);
     let name = "a name of many more than sixteen bytes";
     assert!(rt; shard_of(key, 7) == 27 && shard_of_name(key, "alice") == 35);
+    assert!(rt; are_in_one_shard(key, (7, 7)));
+    assert!(rt; are_in_one_shard(key, (7, 8)) == (shard_of(key, 7) == shard_of(key, 8)));
     assert!(rt; keyed_hash_of_str(key, name) == 0x118D_F954_E623_DAEB);
     assert!(rt; keyed_hash_of(key, &name) == 0x118D_F954_E623_DAEB);
     assert!(rt; keyed_hash_of(key, &(7u8, name)) == 0x6016_FEFF_99D3_AE81);

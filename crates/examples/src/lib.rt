@@ -20,6 +20,8 @@ mod keys;
 #[cfg(test)]
 mod map_keys;
 #[cfg(test)]
+mod records;
+#[cfg(test)]
 mod session;
 #[cfg(test)]
 mod strings;

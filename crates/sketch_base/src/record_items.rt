@@ -33,15 +33,27 @@ pub struct BadRecord {
 /// # Examples
 ///
 /// ```
-/// use sketch_base::records::{BadRecord, CsvField, RecordItems, RecordPart, WeighedRecord};
+/// use sketch_base::Error;
+/// use sketch_base::records::{CsvField, RecordItems, RecordPart, WeighedRecord};
 /// use std::alloc::Global;
 ///
-/// /// Returns the weights of the items in the first column of a table. They are in the third.
-/// fn weights(alloc: Global, table: &[u8]) -> Result<RecordItems<u64>, BadRecord> {
-///     let item = RecordPart::Csv(CsvField { delimiter: b',', index: 0 });
-///     let weight = RecordPart::Csv(CsvField { delimiter: b',', index: 2 });
-///     let chosen = WeighedRecord { item, weight: Some(weight) };
-///     RecordItems::read(alloc, table, chosen)
+/// fn number_of_sales(alloc: Global, table: &[u8]) -> Result<usize, Error> {
+///     let item = RecordPart::Csv(CsvField {
+///         delimiter: b',',
+///         index: 0,
+///     });
+///     let weight = RecordPart::Csv(CsvField {
+///         delimiter: b',',
+///         index: 2,
+///     });
+///     let chosen = WeighedRecord {
+///         item,
+///         weight: Some(weight),
+///     };
+///     match RecordItems::<u64>::read(alloc, table, chosen) {
+///         Ok(sales) => Ok(sales.weights().len()),
+///         Err(bad) => Err(bad.error),
+///     }
 /// }
 /// ```
 #[derive(Drop)]
