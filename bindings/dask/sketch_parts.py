@@ -531,7 +531,7 @@ def takes_fields(columns: Columns, data: bytes) -> bool:
     """Returns whether the library reads the records of a block, if they are its lines, as Python's csv does: it also takes text after
     a quoted field. CR stands before LF alone, and each quote begins a quoted field, ends it, or is one of two for one."""
     delimiter = columns.delimiter.encode()
-    if len(delimiter) != 1 or b"\0" in data or data.count(b"\r") != data.count(b"\r\n"):
+    if len(delimiter) != 1 or b"\0" in data or (b"\r" in data and data.count(b"\r") != data.count(b"\r\n")):
         return False
     if has_long_line(data, csv.field_size_limit()):
         return False
