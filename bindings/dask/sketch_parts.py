@@ -8,6 +8,7 @@ import bz2
 import codecs
 import csv
 import dataclasses
+import functools
 import lzma
 import math
 import os
@@ -539,11 +540,15 @@ def takes_fields(columns: Columns, data: bytes) -> bool:
         return True
     if numpy is None:
         return False
-    text = numpy.frombuffer(b"\n" + data.replace(b"\r\n", b"\n") + b"\n", numpy.uint8)
+    text = numpy.frombuffer(data if data.endswith(b"\n") else data + b"\n", numpy.uint8)
     quotes = numpy.flatnonzero(text == ord('"'))
-    ends = numpy.zeros(256, bool)  # what stands before a quote that begins or goes on, and after one that ends or goes on
-    ends[[ord("\n"), ord('"'), delimiter[0]]] = True
-    return len(quotes) % 2 == 0 and bool(ends[text[quotes[::2] - 1]].all() and ends[text[quotes[1::2] + 1]].all())
+    ends = b'\n\r"' + delimiter  # what stands before a quote that begins or goes on, and after one that ends or goes on
+    return len(quotes) % 2 == 0 and are_among(text[quotes[::2] - 1], ends) and are_among(text[quotes[1::2] + 1], ends)
+
+
+def are_among(found: numpy.ndarray, wanted: bytes) -> bool:
+    """Returns whether each byte is one of those that are wanted."""
+    return bool(functools.reduce(numpy.logical_or, (found == byte for byte in wanted)).all())
 
 
 def add_records(shape: Shape, sketch: Sketch, part: Part, at: int, data: bytes) -> None:
