@@ -286,6 +286,35 @@ static void frequent_items(void)
             (words[WORD * n - 1] = last, DS_INVALID_UTF8))
 }
 
+/* Puts n words of one byte into `image`. */
+static const uint8_t *filled(uint8_t byte, size_t n)
+{
+    for (size_t i = 0; i < WORD * n; i++) image[i] = byte;
+    return image;
+}
+
+/* Fields of records, also of one long record, of empty ones, and of those that end in a quote that is not closed. */
+static void fields(void)
+{
+    const ds_fields word = {DS_FIELDS_WORDS, 0, 0, DS_NO_FIELD}, cell = {DS_FIELDS_DELIMITED, ',', 0, DS_NO_FIELD};
+    const ds_fields csv = {DS_FIELDS_CSV, ',', 0, DS_NO_FIELD}, last = {DS_FIELDS_CSV, ',', WORD * MOST, 0};
+    const ds_fields weighed = {DS_FIELDS_WORDS, 0, DS_NO_FIELD, 1};
+    ds_fields_read read;
+    new_count(&sketch, 1 << 12);
+    COST("update_fields of lines", , ds_update_fields(&sketch, lines, WORD * n, &word, &read))
+    COST("update_fields of CSV", , ds_update_fields(&sketch, lines, WORD * n, &csv, &read))
+    COST("update_fields of ends", filled('\n', n), ds_update_fields(&sketch, image, WORD * n, &cell, &read))
+    COST("update_fields of delimiters", filled(',', n), ds_update_fields(&sketch, image, WORD * n, &last, &read))
+    COST("update_fields of quotes", filled('"', n), ds_update_fields(&sketch, image, WORD * n, &csv, &read))
+    COST("update_fields of an open quote", filled('\n', n); image[0] = '"', ds_update_fields(&sketch, image, WORD * n, &csv, &read))
+    COST_OF("update_fields without a weight", , ds_update_fields(&sketch, lines, WORD * n, &weighed, &read), DS_BAD_WEIGHT)
+    COST("finished_csv_records of an open quote", filled('\n', n); image[0] = '"', ds_finished_csv_records(image, WORD * n, ','))
+    new_filter(&sketch, 1 << 16);
+    COST("bloom_insert_fields of lines", , ds_bloom_insert_fields(&sketch, lines, WORD * n, &word, &read))
+    new_strings(&sketch);
+    COST("update_fields of lines, strings", , ds_update_fields(&sketch, lines, WORD * n, &word, &read))
+}
+
 /* Items that collide in a table without a key. */
 static void hostile_items(void)
 {
@@ -353,6 +382,7 @@ int main(int argc, char **argv)
     filters();
     counts();
     frequent_items();
+    fields();
     hostile_items();
     one_key();
     others_calls();
