@@ -297,7 +297,7 @@ static const uint8_t *filled(uint8_t byte, size_t n)
 static void fields(void)
 {
     const ds_fields word = {DS_FIELDS_WORDS, 0, 0, DS_NO_FIELD}, cell = {DS_FIELDS_DELIMITED, ',', 0, DS_NO_FIELD};
-    const ds_fields csv = {DS_FIELDS_CSV, ',', 0, DS_NO_FIELD}, last = {DS_FIELDS_CSV, ',', WORD * MOST, 0};
+    const ds_fields csv = {DS_FIELDS_CSV, ',', 0, DS_NO_FIELD}, last = {DS_FIELDS_CSV, ',', WORD * MOST + 1, 0};
     const ds_fields weighed = {DS_FIELDS_WORDS, 0, DS_NO_FIELD, 1};
     ds_fields_read read;
     new_count(&sketch, 1 << 12);
