@@ -1,15 +1,13 @@
 -- The items of records with their weights, record by record.
-use Rattle.std.proofs.Common.{◌≡◌, ◌⊎◌, ℕ, ◌+◌, ◌≤◌, ◌<◌, Bool, true, false, cond, List, [], ◌∷◌, ◌++◌, length, map, drop, Option, Some, None, inl, inr, append-nil, append_assoc, refl, sym, ◌∙◌, ap, subst, arith, length-append}
+use Rattle.std.proofs.Common.{◌≡◌, ℕ, ◌+◌, ◌≤◌, ◌<◌, Bool, true, false, cond, List, [], ◌∷◌, ◌++◌, length, map, drop, Option, Some, None, inl, inr, append-nil, append_assoc, refl, sym, ◌∙◌, ap, subst, arith, length-append}
 use Rattle.std.specs.List.{flat_map}
 use Rattle.std.specs.Str.{IsUtf8, is_utf8}
-use Rattle.std.proofs.lemmas.Bool.{false≢true}
 use Rattle.std.proofs.lemmas.List.{map-append}
 use Rattle.std.proofs.lemmas.List.Concat.{flat_map-append}
 use Rattle.std.proofs.lemmas.Str.{IsUtf8-from_is_utf8, is_utf8-from_IsUtf8}
-use Rattle.sketch_base.specs.Errors.{ErrorValue, invalid_argument, no_memory}
-use Rattle.sketch_base.specs.RecordItems.{AreItems, FailsItems, FailsRecord, IsFirstBad, ItemsValue, faults_in, faults_of, weight_by, weighed_item, weighed_items}
+use Rattle.sketch_base.specs.Errors.{ErrorValue, invalid_argument}
+use Rattle.sketch_base.specs.RecordItems.{AreItems, FailsItems, FailsRecord, ItemsValue, faults_in, faults_of, weight_by, weighed_item, weighed_items}
 use Rattle.sketch_base.specs.Records.{IsEndOf, part_in, records_by}
-use Rattle.sketch_base.specs.declared.fault.Fault.{Fault}
 use Rattle.sketch_base.specs.declared.fault.Fault.TheVariants.{BadWeight, InvalidUtf8}
 use Rattle.sketch_base.specs.declared.record_items.BadRecord.{BadRecord}
 use Rattle.sketch_base.specs.declared.record_items.WeighedRecord.{WeighedRecord}

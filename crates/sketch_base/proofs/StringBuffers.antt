@@ -7,7 +7,7 @@ use Rattle.std.proofs.lemmas.List.{drop-append-le, ext_get_or, get_or_push, take
 use Rattle.std.proofs.lemmas.List.Elements.{All-push}
 use Rattle.std.proofs.Math.ListN.{get_or-append}
 use Rattle.std.proofs.Math.Seq.{drop-append_seam}
-use Rattle.sketch_base.specs.Strings.{AreBuffered, AreOffsets, AreStrings, strings_of}
+use Rattle.sketch_base.specs.Strings.{AreBuffered, strings_of}
 use Rattle.sketch_base.proofs.ManyStrings.{get_or-strings_of, length-strings_of}
 
 -- a range of the first bytes

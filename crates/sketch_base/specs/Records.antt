@@ -1,9 +1,9 @@
 -- The records of bytes, which are lines or records of CSV, and their parts.
-use Rattle.std.specs.Prelude.{◌≡◌, ℕ, ◌-◌, ◌<◌, ◌==◌, List, [], ◌∷◌, length, take, drop, Option, MatchOption}
+use Rattle.std.specs.Prelude.{◌≡◌, ℕ, ◌-◌, ◌<◌, ◌==◌, Bool, false, List, [], ◌∷◌, length, take, drop, Option, MatchOption}
 use Rattle.std.specs.Borrow.{Bor}
-use Rattle.std.specs.List.{slice_split}
+use Rattle.std.specs.List.{list_any, slice_split}
 use Rattle.std.specs.Str.Lines.{lines}
-use Rattle.sketch_base.specs.Csv.{csv_records, field_text}
+use Rattle.sketch_base.specs.Csv.{begins_with_quote, csv_records, field_at, field_text}
 use Rattle.sketch_base.specs.Split.{words_of}
 use Rattle.sketch_base.specs.declared.part.Part.{Part}
 use Rattle.sketch_base.specs.declared.part.Part.TheVariants as part
@@ -27,6 +27,11 @@ splits_by (record_part.Csv field) = records.Csv field.delimiter
 abbrev pub part_in : RecordPart → List ℕ → List (List ℕ)
 part_in (record_part.Line chosen) line = part_of chosen line
 part_in (record_part.Csv field) row = field_text field.delimiter field.index row
+
+-- whether a part of a record is a field of CSV in quotes
+abbrev pub is_quoted : RecordPart → List ℕ → Bool
+is_quoted (record_part.Line chosen) line = false
+is_quoted (record_part.Csv field) row = list_any begins_with_quote (field_at field.delimiter field.index row)
 
 -- the records of bytes, without their ends
 abbrev pub records_in : Records → List ℕ → List (List ℕ)

@@ -1,5 +1,5 @@
 //! The fields of a record of CSV.
-ghost use Rattle.std.specs.Prelude.{◌≡◌, ◌==◌, ◌≤◌, ◌++◌, [], ◌∷◌, MatchOption, OnOk, length, take};
+ghost use Rattle.std.specs.Prelude.{◌≡◌, ◌==◌, ◌≤◌, ◌++◌, [], ◌∷◌, MatchOption, OnOk, length, take, true};
 ghost use Rattle.sketch_base.specs.Csv.{IsFieldEnd, begins_with_quote, field_at, text_of_field};
 
 use crate::byte_set::{OneByte, first_member};
@@ -54,11 +54,11 @@ fn begins_with_quote(bytes: &[u8]) -> bool
     }
 }
 
-/// Returns the text of a field, if it stands in one piece among its bytes: if there are neither two quotes for one nor bytes after the
-/// closing quote.
+/// Returns the text of a field, if it stands in one piece among its bytes: if the field has no quotes around it, or neither two quotes for
+/// one nor bytes after the closing quote.
 #[inline(always)]
 pub fn plain_csv_text(field: &[u8]) -> Option<&[u8]>
-    ensures { MatchOption result (Unit {0}) (λ text. text.now ≡ text_of_field field.now) }
+    ensures { MatchOption result (begins_with_quote field.now ≡ true) (λ text. text.now ≡ text_of_field field.now) }
 {
     if !begins_with_quote(field) {
         return Some(field);

@@ -1,6 +1,6 @@
 //! The parts of records.
-ghost use Rattle.std.specs.Prelude.{◌≡◌, ◌∷◌, [], IfOk, IfSome, MatchOption};
-ghost use Rattle.sketch_base.specs.Records.{IsEndOf, TakesRecord, part_in, splits_by};
+ghost use Rattle.std.specs.Prelude.{◌≡◌, ◌⊎◌, ◌∷◌, [], IfOk, IfSome, MatchOption, true};
+ghost use Rattle.sketch_base.specs.Records.{IsEndOf, TakesRecord, is_quoted, part_in, splits_by};
 
 use crate::csv_fields::{append_csv_text, nth_csv_field, plain_csv_text};
 use crate::csv_records::next_csv_record;
@@ -52,10 +52,11 @@ pub fn next_record(part: RecordPart, bytes: &[u8]) -> Option<(&[u8], &[u8])>
     }
 }
 
-/// Returns a part of a record, or `None` if the record does not have it or its bytes do not stand in one piece. Does not allocate.
+/// Returns a part of a record, or `None` if the record does not have it, or it is a field in quotes whose text does not stand in one piece.
+/// Does not allocate.
 #[inline(always)]
 pub fn whole_part_of(part: RecordPart, row: &[u8]) -> Option<&[u8]>
-    ensures { IfSome result (λ item. part_in part row.now ≡ item.now ∷ []) }
+    ensures { MatchOption result ((part_in part row.now ≡ []) ⊎ (is_quoted part row.now ≡ true)) (λ item. part_in part row.now ≡ item.now ∷ []) }
 {
     match part {
         RecordPart::Line(part) => raw_part_of(part, row),

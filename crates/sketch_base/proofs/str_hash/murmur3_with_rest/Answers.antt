@@ -1,4 +1,4 @@
-use Rattle.std.proofs.Common.{◌∙◌, refl, arith, rules}
+use Rattle.std.proofs.Common.{◌∙◌, arith, rules}
 use Rattle.sketch_base.proofs.StringEnd.{hash_rest}
 use Rattle.sketch_base.proofs.str_hash.murmur3_with_rest.Goals as goal
 

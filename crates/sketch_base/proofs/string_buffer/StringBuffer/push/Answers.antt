@@ -1,4 +1,4 @@
-use Rattle.std.proofs.Common.{◌≡◌, ℕ, ◌+◌, ◌∙◌, List, [], ◌∷◌, ◌++◌, sym, ap, length, arith}
+use Rattle.std.proofs.Common.{ℕ, ◌∙◌, List, [], ◌∷◌, ◌++◌, ap, arith}
 use Rattle.sketch_base.proofs.StringBuffers.{buffered_more, one_more}
 use Rattle.sketch_base.proofs.string_buffer.StringBuffer.push.Goals as goal
 
