@@ -1,4 +1,4 @@
-use Rattle.std.proofs.Common.{◌≡◌, ℤ, inl, inr, refl}
+use Rattle.std.proofs.Common.{◌≡◌, inl, inr, refl}
 use Rattle.datasketches_c.specs.FieldUpdates.{InsertsFields, OnFields}
 use Rattle.datasketches_c.proofs.AnswerLemmas.{handed_on}
 use Rattle.datasketches_c.proofs.field_updates.ds_bloom_insert_fields.Goals as goal
