@@ -14,7 +14,7 @@ Reads commands from standard input, a line each, and writes a reply to each. For
   add s 5 apple   adds the weight 5 to the item apple
   rows s fp 0     lists the items: estimate, lower and upper bound of each
 
-The manual page and docs/FORMATS.md have all commands. The environment variable
+The manual page and docs/lines.txt have all commands. The environment variable
 DATASKETCHES_TABLE_KEY fixes the key of the run: plain, or 32 hexadecimal digits.";
 
 /// The version, that of all parts of the library.
