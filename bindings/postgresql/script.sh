@@ -1,20 +1,32 @@
 #!/bin/sh
 # Writes the script of the extension to the standard output: the same parts for each type, and what its sketches have beside them.
+#
+# PostgreSQL runs the script as a superuser for any owner of a database, with a schema of his first in the search path. So the script only
+# defines objects: it evaluates no expression and calls nothing. Each name of PostgreSQL has its schema, or is a word of the grammar, as
+# `bigint`. Names without a schema are the extension's own: `CREATE` fails if one is there before it. The extension is relocatable, so they
+# cannot have a schema. Scripts of updates follow the same rules, which `tests/scripts.py` checks.
 set -eu
+. "$(dirname "$0")/comments.sh"
+
+# Types of PostgreSQL that are no words of the grammar.
+text=pg_catalog.text bytea=pg_catalog.bytea cstring=pg_catalog.cstring internal=pg_catalog.internal
+anycompatible=pg_catalog.anycompatible record=pg_catalog.record
 
 # function SIGNATURE SYMBOL [WORDS [MORE]]: a function of the library.
 function_of() {
     printf "CREATE FUNCTION %s\n    LANGUAGE C %s PARALLEL SAFE%s AS 'MODULE_PATHNAME', '%s';\n" \
         "$1" "${3:-IMMUTABLE STRICT}" "${4:-}" "$2"
+    comment_function FUNCTION "$1"
 }
 
 # aggregate SIGNATURE STEP [MOVING]: an aggregate of the type, whose states take `space` bytes.
 aggregate() {
     cat <<SQL
 CREATE AGGREGATE $1 (
-    SFUNC = $2, STYPE = internal, SSPACE = $space, FINALFUNC = ${type}_final,${3:-}
+    SFUNC = $2, STYPE = $internal, SSPACE = $space, FINALFUNC = ${type}_final,${3:-}
     COMBINEFUNC = sketch_combine, SERIALFUNC = sketch_serial, DESERIALFUNC = sketch_deserial, PARALLEL = SAFE);
 SQL
+    comment_function AGGREGATE "$1"
 }
 
 # begin_type TYPE DESCRIPTION STORAGE SPACE [SEED]: the type, its forms and its image. SEED is an argument of the import.
@@ -26,37 +38,45 @@ begin_type() {
 
 CREATE TYPE $type;
 SQL
-    function_of "${type}_in(cstring) RETURNS $type" "${type}_in"
-    function_of "${type}_out($type) RETURNS cstring" sketch_out
-    function_of "${type}_recv(internal) RETURNS $type" "${type}_recv"
-    function_of "${type}_send($type) RETURNS bytea" sketch_send
+    function_of "${type}_in($cstring) RETURNS $type" "${type}_in"
+    function_of "${type}_out($type) RETURNS $cstring" sketch_out
+    function_of "${type}_recv($internal) RETURNS $type" "${type}_recv"
+    function_of "${type}_send($type) RETURNS $bytea" sketch_send
     cat <<SQL
 CREATE TYPE $type (
     INPUT = ${type}_in, OUTPUT = ${type}_out, RECEIVE = ${type}_recv, SEND = ${type}_send,
     INTERNALLENGTH = VARIABLE, ALIGNMENT = int4, STORAGE = $3);
-COMMENT ON TYPE $type IS '$2';
+COMMENT ON TYPE $type IS '$(said "$type")';
 
 -- The bytea form has the header. The image has none: it is what the other interfaces of the library read and write.
 SQL
-    function_of "${type}_to_bytea($type) RETURNS bytea" sketch_send
-    function_of "${type}_from_bytea(bytea) RETURNS $type" "${type}_from_bytea"
+    function_of "${type}_to_bytea($type) RETURNS $bytea" sketch_send
+    function_of "${type}_from_bytea($bytea) RETURNS $type" "${type}_from_bytea"
     cat <<SQL
-CREATE CAST ($type AS bytea) WITH FUNCTION ${type}_to_bytea($type);
-CREATE CAST (bytea AS $type) WITH FUNCTION ${type}_from_bytea(bytea);
+CREATE CAST ($type AS $bytea) WITH FUNCTION ${type}_to_bytea($type);
+CREATE CAST ($bytea AS $type) WITH FUNCTION ${type}_from_bytea($bytea);
+COMMENT ON CAST ($type AS $bytea) IS 'a sketch and its binary form';
+COMMENT ON CAST ($bytea AS $type) IS 'a sketch and its binary form';
 SQL
-    function_of "sketch_image(sketch $type) RETURNS bytea" sketch_image
-    function_of "${type}_from_image(image bytea${5:-}) RETURNS $type" "${type}_from_image"
+    function_of "sketch_image(sketch $type) RETURNS $bytea" sketch_image
+    function_of "${type}_from_image(image $bytea${5:-}) RETURNS $type" "${type}_from_image"
     echo
-    function_of "${type}_final(internal) RETURNS $type" state_final IMMUTABLE
+    function_of "${type}_final($internal) RETURNS $type" state_final IMMUTABLE
+}
+
+# operator NAME WORDS COMMENT: an operator of two sketches of the type.
+operator() {
+    echo "CREATE OPERATOR $1 (LEFTARG = $type, RIGHTARG = $type, $2);"
+    echo "COMMENT ON OPERATOR $1 ($type, $type) IS '$3';"
 }
 
 # unions VOLATILITY: the aggregate of sketches, and the operator of two. Frequent items are merged under a random key.
 unions() {
     echo
-    function_of "${type}_add_sketch(internal, $type) RETURNS internal" state_add_sketch IMMUTABLE
+    function_of "${type}_add_sketch($internal, $type) RETURNS $internal" state_add_sketch IMMUTABLE
     aggregate "${type}_union($type)" "${type}_add_sketch"
     function_of "sketch_union($type, $type) RETURNS $type" sketch_union "$1 STRICT" ' COST 100'
-    echo "CREATE OPERATOR | (LEFTARG = $type, RIGHTARG = $type, FUNCTION = sketch_union, COMMUTATOR = |);"
+    operator '|' "FUNCTION = sketch_union, COMMUTATOR = |" 'merge of two sketches'
 }
 
 # change SIGNATURE SYMBOL [VOLATILITY]: a function that returns a new sketch.
@@ -64,12 +84,10 @@ change() {
     function_of "$1 RETURNS $type" "$2" "${3:-IMMUTABLE} STRICT" ' COST 100'
 }
 
-# comparison OPERATOR NAME COMMUTATOR NEGATOR ESTIMATE [MORE]
+# comparison OPERATOR NAME COMMUTATOR NEGATOR ESTIMATE COMMENT [MORE]
 comparison() {
-    cat <<SQL
-CREATE OPERATOR $1 (LEFTARG = $type, RIGHTARG = $type, FUNCTION = ${type}_$2,
-    COMMUTATOR = $3, NEGATOR = $4, RESTRICT = $5sel, JOIN = $5joinsel${6:-});
-SQL
+    operator "$1" "FUNCTION = ${type}_$2,
+    COMMUTATOR = $3, NEGATOR = $4, RESTRICT = pg_catalog.$5sel, JOIN = pg_catalog.$5joinsel${7:-}" "$6"
 }
 
 # Operators and their classes for hashes and B-trees.
@@ -84,31 +102,36 @@ SQL
     function_of "${type}_cmp($type, $type) RETURNS integer" sketch_cmp '' ' COST 10'
     function_of "${type}_hash($type) RETURNS integer" sketch_hash '' ' COST 10'
     function_of "${type}_hash_extended($type, bigint) RETURNS bigint" sketch_hash_extended '' ' COST 10'
-    comparison '=' eq '=' '<>' eq ', HASHES, MERGES'
-    comparison '<>' ne '<>' '=' neq
-    comparison '<' lt '>' '>=' scalarlt
-    comparison '<=' le '>=' '>' scalarle
-    comparison '>' gt '<' '<=' scalargt
-    comparison '>=' ge '<=' '<' scalarge
+    comparison '=' eq '=' '<>' eq 'equal images' ', HASHES, MERGES'
+    comparison '<>' ne '<>' '=' neq 'unequal images'
+    comparison '<' lt '>' '>=' scalarlt 'order of images'
+    comparison '<=' le '>=' '>' scalarle 'order of images'
+    comparison '>' gt '<' '<=' scalargt 'order of images'
+    comparison '>=' ge '<=' '<' scalarge 'order of images'
     cat <<SQL
 CREATE OPERATOR CLASS ${type}_ops DEFAULT FOR TYPE $type USING hash AS
     OPERATOR 1 =, FUNCTION 1 ${type}_hash($type), FUNCTION 2 ${type}_hash_extended($type, bigint);
 CREATE OPERATOR CLASS ${type}_ops DEFAULT FOR TYPE $type USING btree AS
     OPERATOR 1 <, OPERATOR 2 <=, OPERATOR 3 =, OPERATOR 4 >=, OPERATOR 5 >, FUNCTION 1 ${type}_cmp($type, $type);
-
 SQL
+    for part in CLASS FAMILY; do
+        for method in hash btree; do
+            echo "COMMENT ON OPERATOR $part ${type}_ops USING $method IS 'images of sketches';"
+        done
+    done
+    echo
 }
 
 # frequent TYPE ITEM DESCRIPTION SPACE: a type of frequent items.
 frequent() {
     item=$2
     begin_type "$1" "$3" extended "$4"
-    function_of "${type}_add(internal, $item) RETURNS internal" "${type}_add_by_size" IMMUTABLE
-    function_of "${type}_add(internal, $item, anycompatible) RETURNS internal" "${type}_add_by_size" IMMUTABLE
-    function_of "${type}_add(internal, $item, anycompatible, integer) RETURNS internal" "${type}_add_by_size" IMMUTABLE
-    function_of "${type}_add(internal, $item, anycompatible, double precision) RETURNS internal" "${type}_add_by_error" IMMUTABLE
-    for more in '' ', weight anycompatible' ', weight anycompatible, max_map_size integer' \
-        ', weight anycompatible, relative_error double precision'; do
+    function_of "${type}_add($internal, $item) RETURNS $internal" "${type}_add_by_size" IMMUTABLE
+    function_of "${type}_add($internal, $item, $anycompatible) RETURNS $internal" "${type}_add_by_size" IMMUTABLE
+    function_of "${type}_add($internal, $item, $anycompatible, integer) RETURNS $internal" "${type}_add_by_size" IMMUTABLE
+    function_of "${type}_add($internal, $item, $anycompatible, double precision) RETURNS $internal" "${type}_add_by_error" IMMUTABLE
+    for more in '' ", weight $anycompatible" ", weight $anycompatible, max_map_size integer" \
+        ", weight $anycompatible, relative_error double precision"; do
         aggregate "${type}_agg(item $item$more)" "${type}_add"
     done
     unions STABLE
@@ -126,8 +149,8 @@ SQL
     done
     function_of "sketch_bounds(sketch $type, item $item, OUT lower_bound bigint, OUT estimate bigint, OUT upper_bound bigint)" \
         "${type}_bounds"
-    function_of "frequent_rows(sketch $type, mode text DEFAULT 'no_false_negatives', threshold bigint DEFAULT 0,
-    OUT item $item, OUT lower_bound bigint, OUT estimate bigint, OUT upper_bound bigint) RETURNS SETOF record" \
+    function_of "frequent_rows(sketch $type, mode $text DEFAULT 'no_false_negatives', threshold bigint DEFAULT 0,
+    OUT item $item, OUT lower_bound bigint, OUT estimate bigint, OUT upper_bound bigint) RETURNS SETOF $record" \
         "${type}_report" 'STABLE STRICT' ' ROWS 100'
     function_of "sketch_status(sketch $type, OUT total_weight bigint, OUT maximum_error bigint, OUT num_active_items bigint,
     OUT maximum_map_capacity bigint, OUT current_map_capacity bigint, OUT max_map_size bigint)" "${type}_status"
@@ -135,15 +158,15 @@ SQL
 
 # counted ITEM KIND AGGREGATE NAMES TYPES MEANING: the aggregates of items of a type by sizes or by errors, with and without weights.
 counted() {
-    for weight in '' ' anycompatible,'; do
-        words="internal, $1,$weight $5"
+    for weight in '' " $anycompatible,"; do
+        words="$internal, $1,$weight $5"
         call=${weight:+weighted_}$2
-        function_of "${type}_add($words) RETURNS internal" "${type}_add_${call}_$6" IMMUTABLE
+        function_of "${type}_add($words) RETURNS $internal" "${type}_add_${call}_$6" IMMUTABLE
         if [ -n "$moving" ]; then
-            function_of "${type}_enter($words) RETURNS internal" "${type}_enter_${call}_$6" IMMUTABLE
-            function_of "${type}_leave($words) RETURNS internal" "${type}_leave_$call" IMMUTABLE
+            function_of "${type}_enter($words) RETURNS $internal" "${type}_enter_${call}_$6" IMMUTABLE
+            function_of "${type}_leave($words) RETURNS $internal" "${type}_leave_$call" IMMUTABLE
         fi
-        aggregate "${type}_$3(item $1,${weight:+ weight anycompatible,} $4)" "${type}_add" "$moving"
+        aggregate "${type}_$3(item $1,${weight:+ weight $anycompatible,} $4)" "${type}_add" "$moving"
     done
 }
 
@@ -153,11 +176,11 @@ count() {
     moving=
     if [ "$type" = signed_count_min ]; then
         moving="
-    MSFUNC = ${type}_enter, MINVFUNC = ${type}_leave, MSTYPE = internal, MSSPACE = $space, MFINALFUNC = ${type}_of_frame,"
+    MSFUNC = ${type}_enter, MINVFUNC = ${type}_leave, MSTYPE = $internal, MSSPACE = $space, MFINALFUNC = ${type}_of_frame,"
         echo '-- A frame of a window that moves adds the rows that enter it, and removes those that leave it.'
-        function_of "${type}_of_frame(internal) RETURNS $type" "${type}_of_frame" IMMUTABLE
+        function_of "${type}_of_frame($internal) RETURNS $type" "${type}_of_frame" IMMUTABLE
     fi
-    for kind in text:string bigint:bigint; do
+    for kind in $text:string bigint:bigint; do
         counted "${kind%:*}" "${kind#*:}" agg 'relative_error double precision, confidence double precision' \
             'double precision, double precision' by_error
         counted "${kind%:*}" "${kind#*:}" agg_sized 'num_hashes integer, num_buckets integer' 'integer, integer' by_size
@@ -170,54 +193,54 @@ SQL
     change "${type}_empty(relative_error double precision, confidence double precision)" "${type}_empty_by_error"
     change "${type}_empty_sized(num_hashes integer, num_buckets integer)" "${type}_empty_by_size"
     change "sketch_reset(sketch $type)" sketch_reset
-    change "sketch_add(sketch $type, item text, weight bigint DEFAULT 1)" "${type}_with_string"
+    change "sketch_add(sketch $type, item $text, weight bigint DEFAULT 1)" "${type}_with_string"
     change "sketch_add(sketch $type, item bigint, weight bigint DEFAULT 1)" "${type}_with_bigint"
     if [ -z "$moving" ]; then
         change "sketch_halve(sketch $type)" "${type}_halve"
         change "sketch_decay(sketch $type, numerator bigint, denominator bigint)" "${type}_decay"
     fi
     comparisons
-    for kind in text:string bigint:bigint; do
+    for kind in $text:string bigint:bigint; do
         for query in estimate upper_bound; do
             function_of "sketch_$query(sketch $type, item ${kind%:*}) RETURNS bigint" "${type}_${query}_${kind#*:}"
         done
     done
     function_of "sketch_status(sketch $type, OUT total_weight bigint, OUT num_hashes integer, OUT num_buckets bigint,
-    OUT seed numeric, OUT items text)" "${type}_status"
+    OUT seed numeric, OUT items $text)" "${type}_status"
 }
 
 # The type of filters.
 filters() {
     begin_type bloom_filter "$1" external 32768
-    for kind in text:string bigint:bigint; do
+    for kind in $text:string bigint:bigint; do
         item=${kind%:*}
-        function_of "${type}_add(internal, $item, bigint, double precision) RETURNS internal" "${type}_add_${kind#*:}_by_error" IMMUTABLE
+        function_of "${type}_add($internal, $item, bigint, double precision) RETURNS $internal" "${type}_add_${kind#*:}_by_error" IMMUTABLE
         aggregate "${type}_agg(key $item, expected_items bigint, false_positive_rate double precision)" "${type}_add"
-        function_of "${type}_add(internal, $item, bigint, integer) RETURNS internal" "${type}_add_${kind#*:}_by_size" IMMUTABLE
+        function_of "${type}_add($internal, $item, bigint, integer) RETURNS $internal" "${type}_add_${kind#*:}_by_size" IMMUTABLE
         aggregate "${type}_agg_sized(key $item, num_bits bigint, num_hashes integer)" "${type}_add"
     done
     unions IMMUTABLE
     change "sketch_intersection($type, $type)" "${type}_intersection"
+    operator '&' "FUNCTION = sketch_intersection, COMMUTATOR = &" 'what two filters have in common'
     cat <<SQL
-CREATE OPERATOR & (LEFTARG = $type, RIGHTARG = $type, FUNCTION = sketch_intersection, COMMUTATOR = &);
 
 -- Empty sketches, and sketches after a change.
 SQL
     change "${type}_empty(expected_items bigint, false_positive_rate double precision)" "${type}_empty_by_error"
     change "${type}_empty_sized(num_bits bigint, num_hashes integer)" "${type}_empty_by_size"
     change "sketch_reset(filter $type)" sketch_reset
-    change "sketch_add(filter $type, item text)" "${type}_with_string"
+    change "sketch_add(filter $type, item $text)" "${type}_with_string"
     change "sketch_add(filter $type, item bigint)" "${type}_with_bigint"
     change "sketch_difference($type, $type)" "${type}_difference"
-    echo "CREATE OPERATOR - (LEFTARG = $type, RIGHTARG = $type, FUNCTION = sketch_difference);"
+    operator - 'FUNCTION = sketch_difference' 'a filter without the positions of another one'
     comparisons
-    function_of 'sketch_contains_support(internal) RETURNS internal' "${type}_contains_support"
-    for kind in text:string bigint:bigint; do
+    function_of "sketch_contains_support($internal) RETURNS $internal" "${type}_contains_support"
+    for kind in $text:string bigint:bigint; do
         function_of "sketch_contains(filter $type, item ${kind%:*}) RETURNS boolean" "${type}_contains_${kind#*:}" '' \
             ' SUPPORT sketch_contains_support'
     done
     function_of "sketch_status(filter $type, OUT bits_used bigint, OUT capacity bigint, OUT num_hashes integer, OUT seed numeric,
-    OUT items text)" "${type}_status"
+    OUT items $text)" "${type}_status"
 }
 
 cat <<'SQL'
@@ -228,13 +251,11 @@ cat <<'SQL'
 -- memory: for frequent items those of a full sketch of the default size, so that groups that come early leave room to grow.
 
 SQL
-function_of 'sketch_combine(internal, internal) RETURNS internal' state_combine IMMUTABLE
-function_of 'sketch_serial(internal) RETURNS bytea' state_serial
-function_of 'sketch_deserial(bytea, internal) RETURNS internal' state_deserial
-frequent frequent_strings text 'the most frequent strings, with bounds of their weights' 75776
+function_of "sketch_combine($internal, $internal) RETURNS $internal" state_combine IMMUTABLE
+function_of "sketch_serial($internal) RETURNS $bytea" state_serial
+function_of "sketch_deserial($bytea, $internal) RETURNS $internal" state_deserial
+frequent frequent_strings $text 'the most frequent strings, with bounds of their weights' 75776
 frequent frequent_bigints bigint 'the most frequent bigints, with bounds of their weights' 40960
 count count_min 'estimates of weights of strings or bigints, with weights from 0 on (Count-Min)'
 count signed_count_min 'estimates of weights of strings or bigints, with weights that may be below 0 (Count-Min)'
 filters 'a set of strings or bigints, with false positives (Bloom filter)'
-echo
-cat "$(dirname "$0")/comments.sql"

@@ -31,6 +31,7 @@ import frames  # noqa: E402
 import item_types  # noqa: E402
 import limits  # noqa: E402
 import page  # noqa: E402
+import scripts  # noqa: E402
 import server  # noqa: E402
 import stored  # noqa: E402
 import updates  # noqa: E402
@@ -146,7 +147,8 @@ def valgrind(tests):
         tests.check("valgrind reports nothing of the extension", not said, "".join(said))
 
 
-GROUPS = [queries, isolation, bounds.every_key, ends.cancels, ends.many_cancels, ends.killed, ends.out_of_memory,
+GROUPS = [scripts.attacks, scripts.schemas, queries, isolation, bounds.every_key, ends.cancels, ends.many_cancels, ends.killed,
+          ends.out_of_memory,
           stored.dump_and_restore, stored.copied, stored.encodings, stored.collations, stored.versions, stored.owned,
           updates.from_the_version_before, frames.linear, item_types.types, item_types.orders, item_types.images_of_other_items,
           item_types.comments, limits.small_images, limits.planned, limits.administrators, limits.settings,

@@ -170,9 +170,9 @@ class Server:
         with open(f"{self.folder}/log", encoding="utf-8", errors="replace") as file:
             return file.read()
 
-    def connect(self, database="postgres", encoding="UTF8", **settings):
+    def connect(self, database="postgres", encoding="UTF8", user="postgres", **settings):
         """Opens a session, with settings as by SET."""
-        session = psycopg2.connect(host=self.folder, user="postgres", dbname=database)
+        session = psycopg2.connect(host=self.folder, user=user, dbname=database)
         session.autocommit = True
         session.set_client_encoding(encoding)
         for name, value in settings.items():
