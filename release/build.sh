@@ -1,7 +1,7 @@
 #!/usr/bin/env bash
 # Builds the packages of the last commit into a folder: release/build.sh OUT [ARCHIVE PROGRAM SKETCHES]. OUT gets
 #
-#     datasketches-VERSION-linux-x86_64.tar.gz    C library, crate for Rust and program, for any folder
+#     datasketches-VERSION-linux-x86_64.tar.gz    C library, crate for Rust and programs, for any folder
 #     libdatasketches0, libdatasketches-dev, python3-datasketches-rattle, datasketches-tools, datasketches-doc    Debian packages
 #     postgresql-15-sketches-rattle    Debian package, which needs postgresql-server-dev-15 to be built
 #     redis-sketches-rattle    Debian package, which needs REDISMODULE_H or apt's sources to be built
@@ -83,9 +83,12 @@ done
 name="datasketches-$version-linux-x86_64"
 tree="$work/tree/$name"
 DESTDIR="$work/tree" bash "$source/bindings/c/install.sh" --prefix "/$name" --relocatable "$work/c"
-install -D -m 755 "$work/datasketches_cli" "$tree/bin/datasketches_cli"
-install -D -m 644 "$source/release/datasketches_cli.1" "$tree/share/man/man1/datasketches_cli.1"
-install -m 644 "$source"/{LICENSE,NOTICE,bindings/c/example.c} "$work/LICENSE.hex" "$tree/"
+install -D -m 755 "$work/datasketches_cli" "$work/sketches" -t "$tree/bin"
+install -D -m 644 "$source/release/datasketches_cli.1" "$work/manual/sketches.1" -t "$tree/share/man/man1"
+install -D -m 644 "$work/manual/sketches.bash" "$tree/share/bash-completion/completions/sketches"
+install -D -m 644 "$work/manual/_sketches" "$tree/share/zsh/site-functions/_sketches"
+install -D -m 644 "$work/manual/sketches.fish" "$tree/share/fish/vendor_completions.d/sketches.fish"
+install -m 644 "$source"/{LICENSE,NOTICE,bindings/c/example.c} "$work"/LICENSE.{hex,clap} "$tree/"
 install -d "$tree/rust"
 install -m 644 "$source"/bindings/rust/{Cargo.toml,build.rs} "$tree/rust/"
 cp -r "$source/bindings/rust/src" "$tree/rust/"

@@ -189,7 +189,7 @@ class Tests:
         files = "/release/any folder"
         os.mkdir(self.root + files)
         shutil.copy(glob.glob(f"{self.root}/release/*.tar.gz")[0], self.root + files)
-        self.prints("release/README.md: the program", shell[0], ROWS, folder=files)
+        self.prints("release/README.md: the programs", shell[0], "# error 0 of 3\n2\t2\ta\n1\t1\tb\n" + ROWS, folder=files)
         self.prints("release/README.md: pkg-config", shell[1], wanted, folder=files)
         folder = self.run("ls -d datasketches-*/", folder=files).strip()
         for target in ["example", "example_static"]:

@@ -20,6 +20,7 @@ pub enum ErrorKind {
 
 impl ErrorKind {
     /// Returns the kind's name.
+    #[must_use]
     pub const fn into_static(self) -> &'static str {
         match self {
             ErrorKind::InvalidArgument => "InvalidArgument",
@@ -78,21 +79,25 @@ impl Error {
     }
 
     /// Returns the kind.
+    #[must_use]
     pub fn kind(&self) -> ErrorKind {
         self.kind
     }
 
     /// Returns the number of the error in `datasketches.h`, below 0.
+    #[must_use]
     pub fn code(&self) -> i32 {
         self.code
     }
 
     /// Returns the error's name, such as `"Mismatch"`. [`code`](Self::code) and this name the cause.
+    #[must_use]
     pub fn name(&self) -> &'static str {
         handle::name_of(self.code)
     }
 
     /// Returns the error's message, such as `"shapes or seeds differ"`.
+    #[must_use]
     pub fn message(&self) -> &'static str {
         handle::message_of(self.code)
     }

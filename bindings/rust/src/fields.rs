@@ -30,27 +30,32 @@ pub struct Fields {
 
 impl Fields {
     /// Takes a word of each line, between runs of ASCII white space.
+    #[must_use]
     pub const fn words(item: u32) -> Self {
         Fields { format: 0, delimiter: 0, item: Some(item), weight: None }
     }
 
     /// Takes each line. A weight is one of its words.
+    #[must_use]
     pub const fn lines() -> Self {
         Fields { format: 0, delimiter: 0, item: None, weight: None }
     }
 
     /// Takes a field of each line, between single bytes of ASCII. A field may be empty.
+    #[must_use]
     pub const fn between(delimiter: u8, item: u32) -> Self {
         Fields { format: 1, delimiter, item: Some(item), weight: None }
     }
 
     /// Takes a field of each record of RFC 4180, which is read leniently. Delimiters and line ends in quotes belong to
     /// their field.
+    #[must_use]
     pub const fn csv(delimiter: u8, item: u32) -> Self {
         Fields { format: 2, delimiter, item: Some(item), weight: None }
     }
 
     /// Weighs each item by the number in a field of its record, in decimal digits.
+    #[must_use]
     pub const fn with_weight(mut self, weight: u32) -> Self {
         self.weight = Some(weight);
         self
@@ -72,6 +77,7 @@ impl Fields {
 
 /// The numbers of records, and of those that have an item. The others are left out.
 #[derive(Clone, Copy, Debug, PartialEq, Eq)]
+#[non_exhaustive]
 pub struct FieldsRead {
     /// The number of records.
     pub num_records: usize,
@@ -82,6 +88,7 @@ pub struct FieldsRead {
 /// The error of a call on fields, and where the first record with one begins, if it is the error of a record: an item that is
 /// not UTF-8, or one without a weight.
 #[derive(Clone, Copy, Debug, PartialEq, Eq)]
+#[non_exhaustive]
 pub struct FieldsError {
     /// The error.
     pub error: Error,

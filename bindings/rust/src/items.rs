@@ -350,12 +350,14 @@ pub struct Lines<'a>(&'a [u8]);
 
 /// Returns the words of a text as items, in order: its longest runs of bytes that are not ASCII white space
 /// (space, tab, LF, FF or CR). Calls return an error if bytes are not UTF-8.
+#[must_use]
 pub fn words<T: AsRef<[u8]> + ?Sized>(text: &T) -> Words<'_> {
     Words(text.as_ref())
 }
 
 /// Returns the lines of a text as items, in order. A line ends at LF or at the end of the text. It has
 /// neither the LF nor a CR before it. Calls return an error if bytes are not UTF-8.
+#[must_use]
 pub fn lines<T: AsRef<[u8]> + ?Sized>(text: &T) -> Lines<'_> {
     Lines(text.as_ref())
 }
@@ -402,6 +404,7 @@ pub struct OffsetStrings32<'a> {
 
 impl<'a> OffsetStrings<'a> {
     /// Creates the strings. Nothing is checked before a call.
+    #[must_use]
     pub fn new(bytes: &'a [u8], offsets: &'a [u64]) -> Self {
         OffsetStrings { bytes, offsets }
     }
@@ -409,6 +412,7 @@ impl<'a> OffsetStrings<'a> {
 
 impl<'a> OffsetStrings32<'a> {
     /// Creates the strings. Nothing is checked before a call.
+    #[must_use]
     pub fn new(bytes: &'a [u8], offsets: &'a [u32]) -> Self {
         OffsetStrings32 { bytes, offsets }
     }
@@ -442,6 +446,7 @@ pub struct WithValidity<'a, B: ?Sized> {
 ///
 /// Missing rows are neither inserted nor counted. Their results are `false` or 0. Calls return an error if
 /// the bitmap has too few bits, or shares bytes with the rows. An empty bitmap is no bitmap: then each row is there.
+#[must_use]
 pub fn with_validity<'a, B: Rows + ?Sized>(
     rows: &'a B,
     validity: &'a [u8],
@@ -460,17 +465,20 @@ impl<B: Rows + ?Sized> Whole for WithValidity<'_, B> {
 ///
 /// Words that begin after them may go on in the next chunk of a stream: pass on the bytes before, and put the
 /// rest before that chunk.
+#[must_use]
 pub fn finished_words(text: &[u8]) -> usize {
     handle::finished_words(text)
 }
 
 /// Returns the number of bytes through the last LF, or 0 if there is none: see [`finished_words`].
+#[must_use]
 pub fn finished_lines(text: &[u8]) -> usize {
     handle::finished_lines(text)
 }
 
 /// Returns the number of bytes before the first that is not part of valid UTF-8, or the length if all are
 /// UTF-8.
+#[must_use]
 pub fn valid_utf8(text: &[u8]) -> usize {
     handle::valid_utf8(text)
 }

@@ -58,6 +58,7 @@
 compile_error!("the C library of datasketches is for little-endian targets of 64 bits");
 
 pub mod bloom;
+pub mod codec;
 pub mod countmin;
 pub mod error;
 mod fed;
@@ -74,6 +75,7 @@ pub use options::{ImageOptions, Key, DEFAULT_SEED};
 pub use shared::{Reader, Shared, Sketch};
 
 /// Returns the version of the C library, such as `"0.3.0"`.
+#[must_use]
 pub fn version() -> &'static str {
     handle::version()
 }
@@ -84,6 +86,7 @@ pub fn version() -> &'static str {
 /// hash in place of such an item. Without the key, no way is known to choose items that collide. Sketches
 /// that are merged need the same key.
 #[inline]
+#[must_use]
 pub fn keyed_hash(bytes: &[u8], key: Key) -> u64 {
     handle::keyed_hash(bytes, key)
 }

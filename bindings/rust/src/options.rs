@@ -15,11 +15,13 @@ pub struct Key {
 
 impl Key {
     /// Creates a key of two words.
+    #[must_use]
     pub const fn new(k0: u64, k1: u64) -> Self {
         Key { k0, k1 }
     }
 
     /// Creates a key of 16 bytes: each word has eight, the lowest first.
+    #[must_use]
     pub fn from_bytes(bytes: [u8; 16]) -> Self {
         let both = u128::from_le_bytes(bytes);
         Key { k0: both as u64, k1: (both >> 64) as u64 }
@@ -55,17 +57,20 @@ pub struct ImageOptions {
 impl ImageOptions {
     /// Creates options with a limit: `max_bytes` is how many bytes the sketch may take, as its
     /// `estimated_size` counts them.
+    #[must_use]
     pub const fn new(max_bytes: usize) -> Self {
         ImageOptions { max_bytes, seed: DEFAULT_SEED, key: None }
     }
 
     /// Sets the seed of a Count-Min sketch. Other sketches ignore it.
+    #[must_use]
     pub const fn seed(mut self, seed: u64) -> Self {
         self.seed = seed;
         self
     }
 
     /// Sets the key of frequent items, which is drawn from the system otherwise. Other sketches ignore it.
+    #[must_use]
     pub const fn key(mut self, key: Key) -> Self {
         self.key = Some(key);
         self

@@ -5,8 +5,12 @@ use datasketches_rattle::fields::{Fields, FieldsError, FieldsRead};
 use datasketches_rattle::frequencies::FrequentItemsSketch;
 use std::collections::HashMap;
 
-/// Returns records of words, and the weights of their second words by the numbers in their third.
-fn records() -> (String, HashMap<String, u64>, FieldsRead) {
+fn numbers(read: FieldsRead) -> (usize, usize) {
+    (read.num_records, read.num_items)
+}
+
+/// Returns records of words, the weights of their second words by the numbers in their third, and the numbers of records and items.
+fn records() -> (String, HashMap<String, u64>, (usize, usize)) {
     let (mut text, mut weights, mut state) = (String::new(), HashMap::new(), 7u64);
     let (mut num_records, mut num_items) = (0, 0);
     for _ in 0..2000 {
@@ -21,7 +25,7 @@ fn records() -> (String, HashMap<String, u64>, FieldsRead) {
             num_items += 1;
         }
     }
-    (text, weights, FieldsRead { num_records, num_items })
+    (text, weights, (num_records, num_items))
 }
 
 #[test]
@@ -31,9 +35,9 @@ fn weights_of_fields() {
     let mut counts = CountMinSketch::<u64>::new(4, 4096).unwrap();
     let mut filter = BloomFilterBuilder::with_size(1 << 16, 5).build().unwrap();
     let fields = Fields::words(1).with_weight(2);
-    assert_eq!(heavy.update_fields(text.as_bytes(), fields).unwrap(), read);
-    assert_eq!(counts.update_fields(text.as_bytes(), fields).unwrap(), read);
-    assert_eq!(filter.insert_fields(text.as_bytes(), Fields::words(1)).unwrap(), read);
+    assert_eq!(numbers(heavy.update_fields(text.as_bytes(), fields).unwrap()), read);
+    assert_eq!(numbers(counts.update_fields(text.as_bytes(), fields).unwrap()), read);
+    assert_eq!(numbers(filter.insert_fields(text.as_bytes(), Fields::words(1)).unwrap()), read);
     for (item, weight) in &weights {
         assert_eq!(heavy.estimate(item), *weight);
         assert!(counts.estimate(item.as_str()) >= *weight);

@@ -1,4 +1,4 @@
-//! Images from and to the program `datasketches_cli`, whose path is in `DATASKETCHES_CLI`. Without it, nothing is compared.
+//! Images from and to the program `datasketches_cli`, whose path is in `DATASKETCHES_CLI`. Without it, these tests fail.
 
 use datasketches_rattle::bloom::{BloomFilter, BloomFilterBuilder};
 use datasketches_rattle::countmin::CountMinSketch;
@@ -8,14 +8,8 @@ use std::io::Write;
 use std::process::{Command, Stdio};
 
 /// Returns the replies of the program to lines, under the key of the bytes 0 to 15.
-fn replies(lines: &[String]) -> Option<Vec<String>> {
-    let program = match std::env::var_os("DATASKETCHES_CLI") {
-        Some(program) => program,
-        None => {
-            println!("DATASKETCHES_CLI is not set: nothing is compared");
-            return None;
-        }
-    };
+fn replies(lines: &[String]) -> Vec<String> {
+    let program = std::env::var_os("DATASKETCHES_CLI").expect("DATASKETCHES_CLI is the path of the program");
     let mut child = Command::new(program)
         .env("DATASKETCHES_TABLE_KEY", "000102030405060708090a0b0c0d0e0f")
         .stdin(Stdio::piped())
@@ -28,7 +22,7 @@ fn replies(lines: &[String]) -> Option<Vec<String>> {
     let output = child.wait_with_output().unwrap();
     writer.join().unwrap();
     assert!(output.status.success());
-    Some(String::from_utf8(output.stdout).unwrap().lines().map(str::to_owned).collect())
+    String::from_utf8(output.stdout).unwrap().lines().map(str::to_owned).collect()
 }
 
 fn key() -> Key {
@@ -51,10 +45,7 @@ fn compare(new: &str, add: &str, load: &str, image: &[u8], asked: &[(String, Str
     lines.extend(["save s i", "image i"].map(str::to_owned));
     lines.push(format!("load t {} {}", load, hex(image)));
     lines.extend(asked.iter().map(|(item, _)| format!("ask t {}", item)));
-    let replies = match replies(&lines) {
-        Some(replies) => replies,
-        None => return,
-    };
+    let replies = replies(&lines);
     let made = 1 + items().len() + 1;
     assert!(replies[..made].iter().all(|reply| reply == "ok"));
     assert_eq!(replies[made], format!("image {}", hex(image)));

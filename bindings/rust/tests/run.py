@@ -232,10 +232,49 @@ class Tests:
             needed = subprocess.run(["readelf", "-d", f"{target}/debug/renamed"], capture_output=True, text=True, check=True).stdout
             self.check(f"what is loaded with {name}", ("libdatasketches" in needed) == loads, needed)
         for name, place in [("an empty folder", {"DATASKETCHES_DIR": f"{crate}/src"}), ("none", {"PKG_CONFIG_LIBDIR": crate}),
-                            ("no pkg-config", {"PKG_CONFIG": "/nowhere/pkg-config"})]:
+                            ("no pkg-config", {"PKG_CONFIG": "/nowhere/pkg-config"}),
+                            ("static, where there is a shared one", {"DATASKETCHES_DIR": shared, "DATASKETCHES_LINK": "static"}),
+                            ("a word for how to link", {"DATASKETCHES_DIR": shared, "DATASKETCHES_LINK": "both"})]:
             built = self.run([CARGO, "build", "--offline"], **{**place, "CARGO_TARGET_DIR": os.path.join(self.work, "none")})
             said = "apt install" in built.stderr and "DATASKETCHES_DIR" in built.stderr
             self.check(f"what is said with {name}", built.returncode != 0 and said, built.stderr)
+
+    def library(self):
+        """Links a shared library by choice, whose place a program's build script gets, and rejects a library that is too old. A build
+        with many files beside the library does nothing, and a relative folder begins at the program."""
+        crate = os.path.join(self.work, "beside")
+        write(f"{crate}/Cargo.toml", '[package]\nname = "beside"\nversion = "0.1.0"\nedition = "2021"\nbuild = "build.rs"\n\n'
+              f'[dependencies]\ndatasketches-rattle = {{ path = "{RUST}" }}\n')
+        page = read(f"{RUST}/README.md")
+        line = re.search(r"^println!.*DEP_DATASKETCHES_LIBDIR.*$", page, re.MULTILINE)[0]
+        write(f"{crate}/build.rs", f"fn main() {{ {line} }}\n")
+        write(f"{crate}/src/main.rs", 'fn main() { println!("{}", datasketches_rattle::version()); }\n')
+        folder = f"{crate}/libraries"
+        shutil.copytree(self.built, folder, symlinks=True)
+        for number in range(1000):
+            write(f"{folder}/more/{number}", "")
+        target = os.path.join(self.work, "target beside")
+
+        def build(**settings):
+            env = {"PATH": "/usr/bin:/bin", "HOME": os.environ.get("HOME", self.work), "RUSTC": RUSTC, "CARGO_TARGET_DIR": target,
+                   "CARGO_TERM_COLOR": "never", "PWD": crate, "DATASKETCHES_DIR": "libraries", "DATASKETCHES_LINK": "shared", **settings}
+            return subprocess.run([CARGO, "build", "--offline", "-v"], cwd=crate, env=env, capture_output=True, text=True, timeout=300)
+
+        built = build()
+        self.check("a relative folder and a choice", built.returncode == 0, built.stderr[-3000:])
+        ran = subprocess.run([f"{target}/debug/beside"], capture_output=True, text=True, env={})
+        version = read(f"{RUST}/../../VERSION")
+        self.check("a shared library by the program's rpath", (ran.returncode, ran.stdout) == (0, version), ran)
+        write(f"{folder}/more/0", "changed")
+        built = build()
+        self.check("a file beside the library builds nothing", "Fresh datasketches-rattle" in built.stderr, built.stderr[-2000:])
+        write(f"{crate}/old.c", 'const char *ds_version(void) { return "0.2.9"; }\nvoid ds_update_fields(void) {}\n')
+        write(f"{crate}/older.c", 'const char *ds_version(void) { return "0.3.0"; }\n')
+        for name, said in [("old", "is version 0.2.9, and not 0.3 or later"), ("older", "has no call ds_update_fields")]:
+            os.makedirs(f"{crate}/{name}")
+            subprocess.run(["cc", "-shared", "-fPIC", "-o", f"{crate}/{name}/libdatasketches.so", f"{crate}/{name}.c"], check=True)
+            built = build(DATASKETCHES_DIR=name)
+            self.check(f"an {name} library is rejected", built.returncode != 0 and said in built.stderr, built.stderr[-2000:])
 
     def form(self):
         """Checks the layout if there is a formatter, and that `unsafe` stands where the page says."""
@@ -256,7 +295,7 @@ def main():
     words = sys.argv[1:]
     with tempfile.TemporaryDirectory() as work:
         tests = Tests(os.path.abspath(words[0]), [os.path.abspath(word) for word in words[1:]], work)
-        for step in [tests.declarations, tests.crate, tests.lines, tests.programs, tests.form, tests.memory]:
+        for step in [tests.declarations, tests.crate, tests.lines, tests.programs, tests.library, tests.form, tests.memory]:
             step()
     print(f"{tests.passed} passed, {tests.failed} failed")
     sys.exit(1 if tests.failed else 0)

@@ -34,6 +34,7 @@ impl BloomFilterBuilder {
     /// let filter = BloomFilterBuilder::with_accuracy(10_000, 0.01).build().unwrap();
     /// assert_eq!((filter.capacity(), filter.num_hashes()), (95_872, 7));
     /// ```
+    #[must_use]
     pub fn with_accuracy(max_items: u64, fpp: f64) -> Self {
         BloomFilterBuilder { size: Size::Target { max_items, fpp }, seed: DEFAULT_SEED }
     }
@@ -46,11 +47,13 @@ impl BloomFilterBuilder {
     /// let filter = BloomFilterBuilder::with_size(10_000, 7).build().unwrap();
     /// assert_eq!(filter.capacity(), 10_048);
     /// ```
+    #[must_use]
     pub fn with_size(num_bits: u64, num_hashes: u16) -> Self {
         BloomFilterBuilder { size: Size::Given { num_bits, num_hashes }, seed: DEFAULT_SEED }
     }
 
     /// Sets the seed, which is 9001 otherwise. Filters with different seeds cannot be merged.
+    #[must_use]
     pub fn seed(mut self, seed: u64) -> Self {
         self.seed = seed;
         self

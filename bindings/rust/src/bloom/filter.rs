@@ -31,6 +31,7 @@ impl BloomFilter {
 
     /// Returns whether the filter contains an item: `true` if all the item's positions are set.
     #[inline]
+    #[must_use]
     pub fn contains<T: Hash + ?Sized>(&self, item: &T) -> bool {
         must(self.try_contains(item))
     }
@@ -167,43 +168,51 @@ impl BloomFilter {
     }
 
     /// Returns whether no bit is set.
+    #[must_use]
     pub fn is_empty(&self) -> bool {
         self.bits_used() == 0
     }
 
     /// Returns the number of set bits.
+    #[must_use]
     pub fn bits_used(&self) -> u64 {
         self.0.status().bits_used
     }
 
     /// Returns the number of bits.
+    #[must_use]
     pub fn capacity(&self) -> usize {
         self.0.status().num_bits as usize
     }
 
     /// Returns the number of hashes, which is that of an item's positions.
+    #[must_use]
     pub fn num_hashes(&self) -> u16 {
         self.0.status().num_hashes
     }
 
     /// Returns the seed.
+    #[must_use]
     pub fn seed(&self) -> u64 {
         self.0.status().seed
     }
 
     /// Returns the share of bits that are set.
+    #[must_use]
     pub fn load_factor(&self) -> f64 {
         load_factor(&self.0.status())
     }
 
     /// Returns the load factor to the power of the number of hashes: an estimate of the false-positive rate,
     /// under ideal hashes.
+    #[must_use]
     pub fn estimated_fpp(&self) -> f64 {
         let status = self.0.status();
         load_factor(&status).powf(status.num_hashes.into())
     }
 
     /// Returns whether two filters have the same bits, hashes and seed, so that they can be combined.
+    #[must_use]
     pub fn is_compatible(&self, other: &Self) -> bool {
         let (a, b) = (self.0.status(), other.0.status());
         (a.num_bits, a.num_hashes, a.seed) == (b.num_bits, b.num_hashes, b.seed)
@@ -214,6 +223,7 @@ impl BloomFilter {
     /// # Panics
     ///
     /// Panics if memory runs out.
+    #[must_use]
     pub fn serialize(&self) -> Vec<u8> {
         must(self.0.serialize())
     }
@@ -224,6 +234,7 @@ impl BloomFilter {
     }
 
     /// Returns the number of bytes of the image.
+    #[must_use]
     pub fn serialized_size(&self) -> usize {
         must(self.0.serialized_size())
     }
@@ -282,6 +293,7 @@ impl BloomFilter {
     }
 
     /// Returns the number of bytes of the bits.
+    #[must_use]
     pub fn estimated_size(&self) -> usize {
         self.0.memory_bytes()
     }

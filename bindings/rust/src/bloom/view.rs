@@ -49,12 +49,14 @@ impl<'a> BloomFilterView<'a> {
     }
 
     /// Returns the bytes of the image, and of what follows it.
+    #[must_use]
     pub fn as_bytes(&self) -> &'a [u8] {
         self.0.bytes()
     }
 
     /// Returns whether the filter contains an item.
     #[inline]
+    #[must_use]
     pub fn contains<T: Hash + ?Sized>(&self, item: &T) -> bool {
         must(self.try_contains(item))
     }

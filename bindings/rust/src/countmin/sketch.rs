@@ -65,21 +65,25 @@ impl<T: CountMinValue> CountMinSketch<T> {
     }
 
     /// Returns the number of hashes, which is that of rows.
+    #[must_use]
     pub fn num_hashes(&self) -> u8 {
         self.handle.status().num_hashes as u8
     }
 
     /// Returns the number of buckets, which is that of cells in a row.
+    #[must_use]
     pub fn num_buckets(&self) -> u32 {
         self.handle.status().num_buckets
     }
 
     /// Returns the seed.
+    #[must_use]
     pub fn seed(&self) -> u64 {
         self.handle.status().seed
     }
 
     /// Returns the sum of all weights without their signs, halved and decayed as the sketch.
+    #[must_use]
     pub fn total_weight(&self) -> T {
         T::from_cell(T::Cell::from_magnitude(self.total()))
     }
@@ -89,11 +93,13 @@ impl<T: CountMinValue> CountMinSketch<T> {
     }
 
     /// Returns e over the number of buckets, which is the published formula's error in parts of the total.
+    #[must_use]
     pub fn relative_error(&self) -> f64 {
         E / f64::from(self.num_buckets())
     }
 
     /// Returns whether the total is 0.
+    #[must_use]
     pub fn is_empty(&self) -> bool {
         self.total() == 0
     }
@@ -227,6 +233,7 @@ impl<T: CountMinValue> CountMinSketch<T> {
     /// With no weight below 0 it is at least the item's own weight, halved and decayed as often as the sketch
     /// and rounded down each time, and at most the total.
     #[inline]
+    #[must_use]
     pub fn estimate<I: Hash>(&self, item: I) -> T {
         must(self.try_estimate(&item))
     }
@@ -250,12 +257,14 @@ impl<T: CountMinValue> CountMinSketch<T> {
     }
 
     /// Returns the estimate. It is no lower bound: an item's weight may be less.
+    #[must_use]
     pub fn lower_bound<I: Hash>(&self, item: I) -> T {
         self.estimate(item)
     }
 
     /// Returns the estimate plus a margin, or `T::MAX` if this exceeds it. The margin is e times the total
     /// over the buckets, rounded down.
+    #[must_use]
     pub fn upper_bound<I: Hash>(&self, item: I) -> T {
         let bound = |item: Item<'_>| T::Cell::upper_bound(&self.handle, item);
         T::from_cell(must(with_item(&item, bound)))
@@ -305,6 +314,7 @@ impl<T: CountMinValue> CountMinSketch<T> {
     /// # Panics
     ///
     /// Panics if memory runs out.
+    #[must_use]
     pub fn serialize(&self) -> Vec<u8> {
         must(self.handle.serialize())
     }
@@ -315,6 +325,7 @@ impl<T: CountMinValue> CountMinSketch<T> {
     }
 
     /// Returns the number of bytes of the image.
+    #[must_use]
     pub fn serialized_size(&self) -> usize {
         must(self.handle.serialized_size())
     }
@@ -376,6 +387,7 @@ impl<T: CountMinValue> CountMinSketch<T> {
     }
 
     /// Returns the number of bytes of the cells and the seeds of rows.
+    #[must_use]
     pub fn estimated_size(&self) -> usize {
         self.handle.memory_bytes()
     }

@@ -51,12 +51,14 @@ impl<'a, T: Cell> CountMinView<'a, T> {
     }
 
     /// Returns the bytes of the image, and of what follows it.
+    #[must_use]
     pub fn as_bytes(&self) -> &'a [u8] {
         self.image.bytes()
     }
 
     /// Returns the estimate of an item's weight.
     #[inline]
+    #[must_use]
     pub fn estimate<I: Hash>(&self, item: I) -> T {
         must(with_item(&item, |item| self.image.estimate(self.seed, item)))
     }

@@ -14,6 +14,7 @@ pub enum ErrorType {
 
 /// The bounds and the estimate of an item's weight.
 #[derive(Clone, Copy, Debug, Default, PartialEq, Eq)]
+#[non_exhaustive]
 #[repr(C)]
 pub struct ItemBounds {
     /// The weight is at least this.
@@ -44,26 +45,31 @@ impl<T> Row<T> {
     }
 
     /// Returns the item.
+    #[must_use]
     pub fn item(&self) -> &T {
         &self.item
     }
 
     /// Returns the item, without a copy.
+    #[must_use]
     pub fn into_item(self) -> T {
         self.item
     }
 
     /// Returns the estimate of the item's weight, which is the upper bound.
+    #[must_use]
     pub fn estimate(&self) -> u64 {
         self.estimate
     }
 
     /// Returns the upper bound of the item's weight.
+    #[must_use]
     pub fn upper_bound(&self) -> u64 {
         self.upper_bound
     }
 
     /// Returns the lower bound of the item's weight.
+    #[must_use]
     pub fn lower_bound(&self) -> u64 {
         self.lower_bound
     }

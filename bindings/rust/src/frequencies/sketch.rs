@@ -80,22 +80,26 @@ impl<T: FrequentItemValue> FrequentItemsSketch<T> {
     }
 
     /// Returns whether the total weight is 0.
+    #[must_use]
     pub fn is_empty(&self) -> bool {
         self.total_weight() == 0
     }
 
     /// Returns the number of items that have a counter.
+    #[must_use]
     pub fn num_active_items(&self) -> usize {
         self.handle.status().num_active_items as usize
     }
 
     /// Returns the sum of all weights.
+    #[must_use]
     pub fn total_weight(&self) -> u64 {
         self.handle.status().total_weight
     }
 
     /// Returns the estimate of an item's weight: the upper bound if it has a counter, and 0 otherwise.
     #[inline]
+    #[must_use]
     pub fn estimate<Q>(&self, item: &Q) -> u64
     where
         T: Borrow<Q>,
@@ -106,6 +110,7 @@ impl<T: FrequentItemValue> FrequentItemsSketch<T> {
 
     /// Returns the lower bound of an item's weight, which is 0 without a counter.
     #[inline]
+    #[must_use]
     pub fn lower_bound<Q>(&self, item: &Q) -> u64
     where
         T: Borrow<Q>,
@@ -116,6 +121,7 @@ impl<T: FrequentItemValue> FrequentItemsSketch<T> {
 
     /// Returns the upper bound of an item's weight, which is the maximum error without a counter.
     #[inline]
+    #[must_use]
     pub fn upper_bound<Q>(&self, item: &Q) -> u64
     where
         T: Borrow<Q>,
@@ -126,6 +132,7 @@ impl<T: FrequentItemValue> FrequentItemsSketch<T> {
 
     /// Returns the bounds and the estimate of an item's weight.
     #[inline]
+    #[must_use]
     pub fn bounds<Q>(&self, item: &Q) -> ItemBounds
     where
         T: Borrow<Q>,
@@ -155,12 +162,14 @@ impl<T: FrequentItemValue> FrequentItemsSketch<T> {
     }
 
     /// Returns the upper bound less the lower bound, of each item.
+    #[must_use]
     pub fn maximum_error(&self) -> u64 {
         self.handle.status().maximum_error
     }
 
     /// Returns 3.5 over the maximum size: the error in parts of the total that the published crate states.
     /// What is proved is in the [module's head](super).
+    #[must_use]
     pub fn epsilon(&self) -> f64 {
         EPSILON_FACTOR / self.max_map_size() as f64
     }
@@ -200,31 +209,37 @@ impl<T: FrequentItemValue> FrequentItemsSketch<T> {
     }
 
     /// Returns the most counters at the maximum size: three quarters of it.
+    #[must_use]
     pub fn maximum_map_capacity(&self) -> usize {
         self.handle.status().maximum_map_capacity as usize
     }
 
     /// Returns the most counters before the table grows or is purged.
+    #[must_use]
     pub fn current_map_capacity(&self) -> usize {
         self.handle.status().current_map_capacity as usize
     }
 
     /// Returns the maximum size of the table, in slots.
+    #[must_use]
     pub fn max_map_size(&self) -> usize {
         self.handle.status().max_map_size as usize
     }
 
     /// Returns the binary logarithm of the maximum size.
+    #[must_use]
     pub fn lg_max_map_size(&self) -> u8 {
         self.max_map_size().trailing_zeros() as u8
     }
 
     /// Returns the binary logarithm of the current size.
+    #[must_use]
     pub fn lg_cur_map_size(&self) -> u8 {
         (self.current_map_capacity() / 3 * 4).trailing_zeros() as u8
     }
 
     /// Returns the number of counters that a purge samples.
+    #[must_use]
     pub fn sample_size(&self) -> usize {
         self.handle.status().sample_size as usize
     }
@@ -240,6 +255,7 @@ impl<T: FrequentItemValue> FrequentItemsSketch<T> {
     }
 
     /// Returns the number of bytes of the table, and of the strings in it.
+    #[must_use]
     pub fn estimated_size(&self) -> usize {
         self.handle.memory_bytes()
     }
@@ -403,6 +419,7 @@ impl<T: FrequentItemValue> FrequentItemsSketch<T> {
     /// # Panics
     ///
     /// Panics if memory runs out.
+    #[must_use]
     pub fn frequent_items(&self, error_type: ErrorType) -> Vec<Row<T>> {
         self.frequent_items_with_threshold(error_type, 0)
     }
@@ -413,6 +430,7 @@ impl<T: FrequentItemValue> FrequentItemsSketch<T> {
     /// # Panics
     ///
     /// Panics if memory runs out.
+    #[must_use]
     pub fn frequent_items_with_threshold(&self, error_type: ErrorType, threshold: u64) -> Vec<Row<T>> {
         must(self.try_frequent_items(error_type, threshold))
     }
@@ -428,6 +446,7 @@ impl<T: FrequentItemValue> FrequentItemsSketch<T> {
     /// # Panics
     ///
     /// Panics if a string has 2^32 bytes or more, or memory runs out.
+    #[must_use]
     pub fn serialize(&self) -> Vec<u8> {
         must(self.handle.serialize())
     }
