@@ -15,7 +15,7 @@
  *  1. DS_BAD_ARGUMENT, by the checks of `datasketches_checks.h` (see below), and if the `kind` of a `ds_items` is none of the
  *     eight kinds of items, its bitmap has too few bits, or words or lines have a bitmap.
  *  2. Errors of arguments: DS_BAD_OFFSETS, DS_INVALID_UTF8, DS_NO_ROOM if items and their weights or results differ in number,
- *     DS_BAD_FRACTION.
+ *     DS_BAD_FRACTION. Records of `ds_update_fields` and `ds_bloom_insert_fields` are read after the errors of handles.
  *  3. Errors of handles: DS_NO_SKETCH if the handle has no sketch, DS_WRONG_KIND if its sketch is of a kind without this call,
  *     or is shared and the call changes it; of several handles, the first one's that has such an error, in the order of arguments
  *     and of an array. All calls return these but `ds_free`, those whose names end in `_new`, `ds_deserialize` and
@@ -168,8 +168,7 @@ void ds_free(ds_sketch *handle);
  * shared. Returns DS_NO_SKETCH if the other handle has none, and DS_NO_MEMORY if memory runs out. */
 int32_t ds_clone(ds_sketch *handle, ds_sketch *other);
 
-/* Removes all items and weights. Sizes, seed and key stay as they were. Only a Count-Min sketch allocates, a new one, and returns
- * DS_NO_MEMORY if memory runs out. */
+/* Removes all items and weights. Sizes, seed and key stay as they were. Does not allocate. */
 int32_t ds_reset(ds_sketch *handle);
 
 /* Merges the other handle's sketch, of the same kind, into this one, which then stands for both histories. The other sketch stays
@@ -487,8 +486,8 @@ enum {
 /* The index that names no field. */
 #define DS_NO_FIELD UINT32_MAX
 
-/* Which fields are taken. Calls return DS_BAD_ARGUMENT for a delimiter from 128 on between fields of lines, and for a quote, LF or CR
- * between those of CSV. */
+/* Which fields are taken. Calls return DS_BAD_ARGUMENT for a delimiter from 128 on between fields of lines, also if no field is taken,
+ * for a quote, LF or CR between those of CSV, and for a whole record of CSV. */
 typedef struct ds_fields {
     int32_t format;
     uint8_t delimiter; /* the byte between fields. Words have none */
@@ -496,7 +495,8 @@ typedef struct ds_fields {
     uint32_t weight;   /* the index of the field with the weight. With DS_NO_FIELD each item has the weight 1 */
 } ds_fields;
 
-/* What a call read of records. It writes both numbers once all records are read, and the offset if a record has an error. */
+/* What a call read of records. It writes both numbers once all records are read, and the offset alone if a record has an error. After
+ * other errors all three stay as they were. */
 typedef struct ds_fields_read {
     size_t num_records; /* of all records */
     size_t num_items;   /* of those with an item. The others are left out */
@@ -526,8 +526,8 @@ int32_t ds_bloom_insert_fed(ds_sketch *handle, const uint8_t *item, size_t lengt
 /* Inserts many items, as one after another. */
 int32_t ds_bloom_insert_all(ds_sketch *handle, const ds_items *items);
 
-/* Inserts the item of each record into a filter. Returns DS_BAD_ARGUMENT, the error of a record, DS_NO_MEMORY, DS_NO_SKETCH and
- * DS_WRONG_KIND as `ds_update_fields` does, and then changes nothing. A field with a weight is only checked. */
+/* Inserts the item of each record into a filter. Returns DS_BAD_ARGUMENT, DS_NO_SKETCH, DS_WRONG_KIND, and the error of a record or
+ * DS_NO_MEMORY as `ds_update_fields` does, and then changes no filter. A field with a weight is only checked. */
 int32_t ds_bloom_insert_fields(ds_sketch *handle, const uint8_t *bytes, size_t length, const ds_fields *fields, ds_fields_read *read);
 
 /* Returns DS_YES if the filter contains the item, and DS_NO otherwise. */
@@ -594,9 +594,9 @@ int32_t ds_update_all_weighted(ds_sketch *handle, const ds_items *items, const u
  * number in decimal digits, below 2^64. For weights in int64_t it is from -2^63 to 2^63 - 1, and may begin with a minus sign.
  *
  * Bytes need not be UTF-8, but items do. Returns the first of these errors, and then changes no sketch: DS_BAD_ARGUMENT for the fields,
- * DS_NO_SKETCH, the error of the first record with one, DS_NO_MEMORY if the items and weights of all records cannot be allocated,
- * DS_WRONG_KIND, and DS_WEIGHT_OVERFLOW if the total has no room for all weights. The error of a record is DS_INVALID_UTF8 if its item
- * is not UTF-8, and DS_BAD_WEIGHT if it has an item and no weight. Frequent items return DS_NO_MEMORY for the first item without memory:
+ * DS_NO_SKETCH, DS_WRONG_KIND, the error of the first record with one or DS_NO_MEMORY if the items and weights before it cannot be
+ * allocated, and DS_WEIGHT_OVERFLOW if the total has no room for all weights. The error of a record is DS_INVALID_UTF8 if its item is
+ * not UTF-8, and DS_BAD_WEIGHT if it has an item and no weight. Frequent items return DS_NO_MEMORY for the first item without memory:
  * then the items before it are added, and no others. */
 int32_t ds_update_fields(ds_sketch *handle, const uint8_t *bytes, size_t length, const ds_fields *fields, ds_fields_read *read);
 

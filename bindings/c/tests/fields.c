@@ -104,12 +104,16 @@ static void errors(void)
         {"a", 1, {DS_FIELDS_CSV, '\r', 0, 1}, DS_BAD_ARGUMENT, 9},
         {"a", 1, {DS_FIELDS_DELIMITED, 128, 0, 1}, DS_BAD_ARGUMENT, 9},
         {"a", 1, {DS_FIELDS_DELIMITED, 128, DS_NO_FIELD, 1}, DS_BAD_ARGUMENT, 9},
+        {"a", 1, {DS_FIELDS_DELIMITED, 200, DS_NO_FIELD, DS_NO_FIELD}, DS_BAD_ARGUMENT, 9},
     };
     ds_sketch counts = DS_NONE, heavy = DS_NONE;
     for (size_t i = 0; i < sizeof ROWS / sizeof *ROWS; i++) {
         ds_fields_read read = {9, 9, 9};
         CHECK(count_both(&counts, &heavy, (const uint8_t *)ROWS[i].text, ROWS[i].length, ROWS[i].fields, &read) == ROWS[i].result);
         CHECK(read.offset == ROWS[i].offset && total_of(&counts) == 0);
+        /* the error of a record or of an argument writes no numbers */
+        CHECK(ROWS[i].result == DS_WEIGHT_OVERFLOW ? read.num_records == 2 && read.num_items == 2
+                                                   : read.num_records == 9 && read.num_items == 9);
     }
     ds_free(&counts);
     ds_free(&heavy);
@@ -135,6 +139,36 @@ static void signs(void)
     CHECK(total_of(&counts) == 14);
     CHECK(ds_update_fields(&counts, TEXT("c\t9223372036854775793"), &fields, &read) == DS_OK && total_of(&counts) == INT64_MAX);
     ds_free(&counts);
+}
+
+/* Errors of handles come before those of records, and leave all that was read as it was: no sketch, a shared one, one of another kind. */
+static void handles(void)
+{
+    ds_sketch none = DS_NONE, sketches[4] = {DS_NONE, DS_NONE, DS_NONE, DS_NONE};
+    ds_fields_read read = {9, 9, 9};
+    const ds_fields weighed = {DS_FIELDS_WORDS, 0, 0, 1};
+    CHECK(ds_count_min_new(&sketches[0], DS_COUNT_MIN_I64, 4, 64, 9001) == DS_OK);
+    CHECK(ds_count_min_new(&sketches[1], DS_COUNT_MIN_U64, 4, 64, 9001) == DS_OK);
+    CHECK(ds_frequent_items_new(&sketches[2], DS_FREQUENT_ITEMS_STRING, 64, 48, NULL) == DS_OK);
+    CHECK(ds_bloom_new(&sketches[3], 64, 1, 9001) == DS_OK);
+    for (const char **text = (const char *[]){"a -5\n", "a 5\n", "a x\n", "\xff 5\n", NULL}; *text != NULL; text++) {
+        const uint8_t *bytes = (const uint8_t *)*text;
+        size_t length = strlen(*text);
+        CHECK(ds_update_fields(&none, bytes, length, &weighed, &read) == DS_NO_SKETCH);
+        CHECK(ds_bloom_insert_fields(&none, bytes, length, &weighed, &read) == DS_NO_SKETCH);
+        CHECK(ds_update_fields(&sketches[3], bytes, length, &weighed, &read) == DS_WRONG_KIND);
+        for (size_t i = 0; i < 3; i++) CHECK(ds_bloom_insert_fields(&sketches[i], bytes, length, &weighed, &read) == DS_WRONG_KIND);
+    }
+    for (size_t i = 0; i < 4; i++) CHECK(ds_freeze(&sketches[i]) == DS_OK);
+    for (const char **text = (const char *[]){"a -5\n", "a 5\n", "a x\n", NULL}; *text != NULL; text++) {
+        const uint8_t *bytes = (const uint8_t *)*text;
+        for (size_t i = 0; i < 4; i++) {
+            CHECK(ds_update_fields(&sketches[i], bytes, strlen(*text), &weighed, &read) == DS_WRONG_KIND);
+            CHECK(ds_bloom_insert_fields(&sketches[i], bytes, strlen(*text), &weighed, &read) == DS_WRONG_KIND);
+        }
+    }
+    CHECK(read.num_records == 9 && read.num_items == 9 && read.offset == 9);
+    for (size_t i = 0; i < 4; i++) ds_free(&sketches[i]);
 }
 
 /* Filters, and handles that take no fields. */
@@ -170,6 +204,7 @@ int main(void)
     formats();
     errors();
     signs();
+    handles();
     filters();
     return report();
 }

@@ -246,8 +246,7 @@ static void counts(void)
     FREE(DS_NO_SKETCH, ds_merge(&count, &none));
     FREE(DS_WRONG_KIND, ds_count_min_u64_update_u64(&filter, 3, 1));
     FREE(DS_WRONG_KIND, ds_merge(&count, &filter));
-    /* the cells and the rows' seeds, in place of those that were there */
-    ROW(2, 2, DS_OK, ds_reset(&count));
+    FREE(DS_OK, ds_reset(&count));
     ds_free(&count);
     ds_free(&same);
     ds_free(&unlike);
@@ -298,7 +297,7 @@ static void signed_counts(void)
     FREE(DS_INSUFFICIENT_DATA, ds_deserialize(&count, DS_COUNT_MIN_I64, COUNTS, 0, WITHIN(1 << 20)));
     FREE(DS_SEED_HASH_MISMATCH,
          ds_deserialize_prefix(&count, DS_COUNT_MIN_I64, COUNTS, sizeof COUNTS, WITHIN_SEED(1 << 20, 9002), &written));
-    ROW(2, 2, DS_OK, ds_reset(&count));
+    FREE(DS_OK, ds_reset(&count));
     ds_free(&count);
     ds_free(&same);
     ds_free(&heavy);

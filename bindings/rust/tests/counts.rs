@@ -223,7 +223,7 @@ fn merges_halvings_and_decays_match_the_model() {
         let other = CountMinSketch::<u64>::with_seed(other.0, other.1, other.2).unwrap();
         assert_eq!(merged.merge(&other).unwrap_err().name(), "Mismatch");
     }
-    merged.reset().unwrap();
+    merged.reset();
     assert!(merged.is_empty() && merged != start);
 }
 

@@ -125,7 +125,7 @@ fn whole_calls() {
     assert_eq!(each_failure(filter, of_filter, |left| left.contains_and_insert_all(&["b", "a"])), 0);
     let of_counts = CountMinSketch::<u64>::serialize;
     assert!(each_failure(counts, of_counts, |counts| counts.try_clone()) > 0);
-    assert!(each_failure(counts, of_counts, |counts| counts.reset()) > 0);
+    assert_eq!(each_failure(counts, of_counts, |counts| Ok(counts.reset())), 0);
     assert_eq!(each_failure(counts, of_counts, |counts| counts.update_all(&words("b c d"))), 0);
     assert_eq!(each_failure(counts, of_counts, |counts| counts.update_all_with_weights(&["b"], &[3])), 0);
     assert_eq!(each_failure(counts, of_counts, |counts| counts.estimate_all(&words("b c d"))), 0);

@@ -2,8 +2,9 @@
 use Rattle.std.specs.Prelude.{◌≡◌, ℕ, ℤ, Bool, Option, Some, None, nat_eq}
 use Rattle.std.specs.Ordering.{int_eq}
 use Rattle.counter_table.specs.declared.table_key.TableKey.{TableKey}
-use Rattle.sketch_base.specs.declared.fault.Fault.TheVariants.{NoMemory}
 use Rattle.sketch_bloom.specs.History.BloomHistory.{Reset}
+use Rattle.sketch_bloom.specs.History as filters
+use Rattle.sketch_bloom.specs.Stands as filters_stand
 use Rattle.sketch_bloom.specs.Stands.{Extends}
 use Rattle.sketch_bloom.specs.State.{FilterState, cleared}
 use Rattle.sketch_countmin.specs.History as counts
@@ -15,7 +16,7 @@ use Rattle.sketch_frequencies.specs.State.{FrequentState, empty_state}
 use Rattle.datasketches_c.specs.FrequentCalls.{Empties, Resamples}
 use Rattle.datasketches_c.specs.FrequentStrings.{strings_eq}
 use Rattle.datasketches_c.specs.Kinds.{HoldsKind, filter_of, count_i64_of, count_u64_of, frequent_i64_of, frequent_u64_of, frequent_strings_of}
-use Rattle.datasketches_c.specs.Numbers.{OnDone, OnRefused, no_sketch, ok, refusal_number, wrong_kind}
+use Rattle.datasketches_c.specs.Numbers.{no_sketch, ok, wrong_kind}
 use Rattle.datasketches_c.specs.declared.any_sketch.AnySketch.{AnySketch}
 use Rattle.datasketches_c.specs.declared.any_sketch.Held.TheVariants.{Own}
 use Rattle.datasketches_c.specs.declared.any_sketch.AnySketch.TheVariants as held
@@ -36,20 +37,21 @@ HoldsNew (Some FrequentStrings) max_size sample_size key new =
     HoldsKind frequent_strings_of new (IsNew strings_eq max_size sample_size key)
 HoldsNew kind max_size sample_size key new = ⊥
 
--- new is the filter old without positions, and stands for the reset of each history of old
+-- new is the filter old without positions, and stands for the reset of each history of old. It stands for the history of a new filter,
+-- also if old was an untrusted image
 pub record Clears (old new : FilterState) (result : ℤ) : Type 0 where
   pub done : result ≡ ok
   pub cleared : new ≡ cleared old
   pub stands : Extends old new Reset
+  pub renewed : filters_stand.StandsFor new (filters.BloomHistory.New old.num_words old.num_hashes old.seed)
 
--- new is the empty sketch of old's shape and seed, or there was no memory for it and nothing changed
+-- new is the empty sketch of old's shape and seed, and stands for the history of a new one, also if old was an untrusted image
 pub record Restarts (old new : counts_state.CountState) (result : ℤ) : Type 0 where
-  pub done : OnDone result ((result ≡ ok)
-      × (new ≡ counts_state.empty_state old.hashes old.buckets old.seed)
-      × counts_stand.StandsFor new (counts.CountHistory.New old.hashes old.buckets old.seed))
-  pub refused : OnRefused result ((result ≡ refusal_number NoMemory) × (new ≡ old))
+  pub done : result ≡ ok
+  pub empty : new ≡ counts_state.empty_state old.hashes old.buckets old.seed
+  pub renewed : counts_stand.StandsFor new (counts.CountHistory.New old.hashes old.buckets old.seed)
 
--- the sketch was emptied, or it was refused and is unchanged. A shared one is not changed
+-- the sketch was emptied. A shared one is not changed
 abbrev pub Resets : (old new : AnySketch) → ℤ → Type 0
 Resets (held.Filter (Own s)) new result = HoldsKind filter_of (Some new) (λ t. Clears s t result)
 Resets (held.CountI64 (Own s)) new result = HoldsKind count_i64_of (Some new) (λ t. Restarts s t result)

@@ -3,13 +3,17 @@ use Rattle.std.specs.Prelude.{◌≡◌, ℤ, Bool, false, List, ℕ, Option, So
 use Rattle.sketch_bloom.specs.History.{all_inserted_after}
 use Rattle.sketch_bloom.specs.History.BloomHistory.{Insert}
 use Rattle.sketch_bloom.specs.Stands.{Extends}
-use Rattle.sketch_bloom.specs.State.{all_inserted, answers_in_turn, contains_item, inserted}
+use Rattle.sketch_bloom.specs.State.{FilterState, all_inserted, answers_in_turn, contains_item, inserted}
 use Rattle.datasketches_c.specs.Kinds.{OnFilter}
 use Rattle.datasketches_c.specs.Numbers.{no, ok, yes}
 use Rattle.datasketches_c.specs.ValidRows.{OnRows}
 use Rattle.datasketches_c.specs.declared.any_sketch.AnySketch.{AnySketch}
 use Rattle.datasketches_c.specs.declared.any_sketch.Held.TheVariants.{Own}
 use Rattle.datasketches_c.specs.declared.any_sketch.AnySketch.TheVariants.{Filter}
+
+-- the items were inserted into the filter, one after another
+abbrev pub InsertsInto : (old new : FilterState) → List (List ℕ) → ℤ → Type 0
+InsertsInto s t items result = (result ≡ ok) × (t ≡ all_inserted s items) × Extends s t (λ h. all_inserted_after h items)
 
 -- the items were inserted into the handle's filter, one after another
 abbrev pub InsertsAll : (old new : Option AnySketch) → ℤ → List (List ℕ) → Type 0

@@ -19,7 +19,7 @@ use crate::handle::SketchHandle;
 use crate::kind::Kind;
 use crate::making::put_made;
 use crate::sketch_kind::{SketchKind, kind_numbered};
-use crate::status_code::{NO_SKETCH, OK, WRONG_KIND, on_done};
+use crate::status_code::{NO_SKETCH, OK, WRONG_KIND};
 use sketch_bloom::BloomFilter;
 use sketch_countmin::{CountMinSizes, CountMinSketch, CountMinValue};
 use sketch_frequencies::{FrequentItemsSizes, FrequentItemsSketch, HashKey, TableKey};
@@ -155,19 +155,12 @@ fn clear_filter(sketch: &mut BloomFilter) -> i32
     OK
 }
 
-/// Puts an empty Count-Min sketch of the same shape and seed in place of one. Returns the result's number.
-fn restart_count<V: CountMinValue>(alloc: Global, sketch: &mut CountMinSketch<V>) -> i32
+/// Sets all cells and the total of a Count-Min sketch to 0. Returns the result's number.
+fn clear_count<V: CountMinValue>(sketch: &mut CountMinSketch<V>) -> i32
     ensures { Restarts sketch.old sketch.new result }
 {
-    let sizes = CountMinSizes {
-        num_hashes: sketch.num_hashes(),
-        num_buckets: sketch.num_buckets(),
-        seed: sketch.seed(),
-    };
-    on_done!(CountMinSketch::<V>::with_sizes(alloc, sizes), empty => {
-            *sketch = empty;
-            OK
-        })
+    sketch.reset();
+    OK
 }
 
 /// Removes all items and weights of a sketch of frequent items. Returns the result's number.
@@ -180,7 +173,7 @@ fn empty_frequent<T: Eq + Hash + Drop>(sketch: &mut FrequentItemsSketch<T>) -> i
 }
 
 /// Empties a sketch. Returns the result's number.
-fn reset(alloc: Global, sketch: &mut AnySketch) -> i32
+fn reset(sketch: &mut AnySketch) -> i32
     ensures call { Resets sketch.old sketch.new result }
     ensures refused { OnRefused result (sketch.new ≡ sketch.old) }
 {
@@ -188,19 +181,17 @@ fn reset(alloc: Global, sketch: &mut AnySketch) -> i32
         AnySketch::FrequentStrings(Held::Own(sketch)) => empty_frequent(sketch),
         AnySketch::FrequentI64(Held::Own(sketch)) => empty_frequent(sketch),
         AnySketch::FrequentU64(Held::Own(sketch)) => empty_frequent(sketch),
-        AnySketch::CountI64(Held::Own(sketch)) => restart_count(alloc, sketch),
-        AnySketch::CountU64(Held::Own(sketch)) => restart_count(alloc, sketch),
+        AnySketch::CountI64(Held::Own(sketch)) => clear_count(sketch),
+        AnySketch::CountU64(Held::Own(sketch)) => clear_count(sketch),
         AnySketch::Filter(Held::Own(sketch)) => clear_filter(sketch),
         _ => WRONG_KIND,
     }
 }
 
-/// Removes all items and weights from the handle's sketch, of any kind. Its sizes, its seed and its key stay as they were.
+/// Removes all items and weights from the handle's sketch, of any kind. Its sizes, its seed and its key stay as they were. Does not
+/// allocate.
 ///
-/// Returns the first of these errors, and then changes nothing:
-///
-/// - `NO_SKETCH` if the handle has no sketch, and `WRONG_KIND` if its sketch is shared.
-/// - `NoMemory` if an allocation fails. Only a Count-Min sketch allocates.
+/// Returns `NO_SKETCH` if the handle has no sketch, and `WRONG_KIND` if its sketch is shared. Then nothing changes.
 #[unsafe(no_mangle)]
 pub extern "C" fn ds_reset(alloc: Global, handle: &mut SketchHandle) -> i32
     ensures call { ResetsAny handle.old.value handle.new.value result }
@@ -209,7 +200,7 @@ pub extern "C" fn ds_reset(alloc: Global, handle: &mut SketchHandle) -> i32
     let Some(mut sketch) = handle.take(alloc) else {
         return NO_SKETCH;
     };
-    let answer = reset(alloc, &mut *sketch);
+    let answer = reset(&mut *sketch);
     handle.give(sketch);
     answer
 }

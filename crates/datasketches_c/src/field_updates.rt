@@ -1,31 +1,36 @@
 //! Calls that add or insert the items in fields of records.
-ghost use Rattle.std.specs.Prelude.{◌≡◌, None, Some, length, pos};
+ghost use Rattle.std.specs.Prelude.{◌≡◌, Some, length, pos};
 ghost use Rattle.sketch_base.specs.Decimals.{number_in, signed_in};
 ghost use Rattle.datasketches_c.specs.AnyUpdates.{WeighsWith};
 ghost use Rattle.datasketches_c.specs.CountCalls.{AddsWeights};
 ghost use Rattle.datasketches_c.specs.FieldUpdates.{InsertsFields, OnFields, OnRead, UpdatesFields, all_strings, fed_strings};
-ghost use Rattle.datasketches_c.specs.FilterCalls.{InsertsAll};
+ghost use Rattle.datasketches_c.specs.FilterCalls.{InsertsInto};
 ghost use Rattle.datasketches_c.specs.Numbers.{max_i64, refusal_number};
 
 use crate::any_sketch::{AnySketch, Held};
 use crate::any_updates::update_weighted_with;
 use crate::count::add_all_weighted;
 use crate::fields_argument::{FieldsArgument, FieldsRead, chosen_record};
-use crate::filter_items::insert_given;
+use crate::filter_items::insert_each;
 use crate::handle::SketchHandle;
 use crate::items_argument::{GivenItems, GivenRows};
-use crate::status_code::{BAD_ARGUMENT, NO_SKETCH, refusal_number};
+use crate::status_code::{BAD_ARGUMENT, NO_SKETCH, OK, WRONG_KIND, refusal_number};
+use sketch_base::ErrorKind;
 use sketch_base::records::{BadRecord, RecordItems, RecordWeight, WeighedRecord};
+use sketch_bloom::BloomFilter;
 use sketch_countmin::CountMinSketch;
 use std::alloc::Global;
 
-/// Writes where a record with an error begins, and returns the error's number.
+/// Writes where a record with an error begins, and returns the error's number. Writes nothing if memory was exhausted.
 fn refused(bad: BadRecord, read: &mut FieldsRead) -> i32
     ensures number { result ≡ refusal_number bad.error.fault }
-    ensures offset { read.new.offset ≡ bad.offset }
+    ensures offset { bad.error.kind ≡ ErrorKind.InvalidArgument → read.new.offset ≡ bad.offset }
     ensures kept { (read.new.num_records ≡ read.old.num_records) × (read.new.num_items ≡ read.old.num_items) }
+    ensures untouched { bad.error.kind ≡ ErrorKind.OutOfMemory → read.new ≡ read.old }
 {
-    read.offset = bad.offset;
+    if let ErrorKind::InvalidArgument = bad.error.kind() {
+        read.offset = bad.offset;
+    }
     refusal_number(bad.error.fault())
 }
 
@@ -83,7 +88,8 @@ fn update_unsigned(
     }
 }
 
-/// Adds the items of records with their weights to a sketch. Weights have signs if those of the sketch do.
+/// Adds the items of records with their weights to a sketch that takes strings with weights. Weights have signs if those of the sketch
+/// do.
 fn update_with(
     alloc: Global,
     sketch: &mut AnySketch,
@@ -95,7 +101,11 @@ fn update_with(
 {
     match sketch {
         AnySketch::CountI64(Held::Own(counts)) => update_signed(alloc, counts, chosen, bytes, read),
-        _ => update_unsigned(alloc, sketch, chosen, bytes, read),
+        AnySketch::CountU64(Held::Own(_)) => update_unsigned(alloc, sketch, chosen, bytes, read),
+        AnySketch::FrequentStrings(Held::Own(_)) => update_unsigned(
+            alloc, sketch, chosen, bytes, read,
+        ),
+        _ => WRONG_KIND,
     }
 }
 
@@ -120,15 +130,13 @@ fn update_chosen(
 /// Adds the items in a field of records, in order, each with the weight in another field. The sketch is a Count-Min sketch or one of
 /// frequent strings. A record without the field is left out. Each item has the weight 1 if `weight` names no field.
 ///
-/// Returns the first of these errors, and then changes no sketch:
+/// Returns the first of these errors, and then changes no sketch, and of `read` only what the third one says:
 ///
-/// - `BAD_ARGUMENT` if the format is not known, words of CSV are asked for, or the delimiter is not one of the format.
-/// - `NO_SKETCH` if the handle has no sketch.
+/// - `BAD_ARGUMENT` if the format is not known, the whole record of CSV is asked for, or the delimiter is not one of the format.
+/// - `NO_SKETCH` if the handle has no sketch, and `WRONG_KIND` if its sketch is of another kind or shared.
 /// - The error of the first record with one, and writes at which byte it begins: `InvalidUtf8` if its item is not UTF-8, and
 ///   `BadWeight` if it has no weight, which is a whole number in decimal digits. It is below 2^64, or from -2^63 to 2^63 - 1 for
-///   weights in `i64`.
-/// - `NoMemory` if the items and weights of all records cannot be allocated.
-/// - `WRONG_KIND` if the sketch is of another kind or shared.
+///   weights in `i64`. `NoMemory` if the items and weights of the records cannot be allocated.
 /// - `WeightOverflow` if the total would exceed 2^64 - 1 with all weights, or 2^63 - 1 for weights in `i64`.
 ///
 /// Returns `NoMemory` for the first item for which an allocation fails. Then the items before it are added, and no others.
@@ -140,13 +148,54 @@ pub extern "C" fn ds_update_fields(
     fields: &FieldsArgument,
     read: &mut FieldsRead,
 ) -> i32
-    ensures { OnFields fields.now result (handle.new.value ≡ handle.old.value) (λ chosen.
+    ensures { OnFields fields.now result ((handle.new.value ≡ handle.old.value) × (read.new ≡ read.old)) (λ chosen.
         UpdatesFields chosen bytes.now handle.old.value handle.new.value read.old read.new result) }
 {
     let Some(chosen) = chosen_record(fields) else {
         return BAD_ARGUMENT;
     };
     update_chosen(alloc, handle, chosen, bytes, read)
+}
+
+/// Inserts the items in a field of records into a filter.
+fn insert_read(
+    alloc: Global,
+    filter: &mut BloomFilter,
+    chosen: WeighedRecord,
+    bytes: &[u8],
+    read: &mut FieldsRead,
+) -> i32
+    ensures { OnRead number_in 1 chosen bytes.now result read.old read.new (filter.new ≡ filter.old) (λ found.
+        InsertsInto filter.old filter.new (fed_strings found.items) result) }
+{
+    match RecordItems::<u64>::read(alloc, bytes, chosen) {
+        Ok(found) => {
+            note(&found, read);
+            let items = GivenItems {
+                rows: GivenRows::Offsets(found.items()),
+                validity: None,
+            };
+            insert_each(filter, items);
+            OK
+        }
+        Err(bad) => refused(bad, read),
+    }
+}
+
+/// Inserts the items in a field of records into a sketch that is a filter.
+fn insert_with(
+    alloc: Global,
+    sketch: &mut AnySketch,
+    chosen: WeighedRecord,
+    bytes: &[u8],
+    read: &mut FieldsRead,
+) -> i32
+    ensures { InsertsFields chosen bytes.now (Some sketch.old) (Some sketch.new) read.old read.new result }
+{
+    match sketch {
+        AnySketch::Filter(Held::Own(filter)) => insert_read(alloc, filter, chosen, bytes, read),
+        _ => WRONG_KIND,
+    }
 }
 
 /// Inserts the items in a field of records into the filter of a handle.
@@ -159,29 +208,23 @@ fn insert_chosen(
 ) -> i32
     ensures { InsertsFields chosen bytes.now handle.old.value handle.new.value read.old read.new result }
 {
-    match RecordItems::<u64>::read(alloc, bytes, chosen) {
-        Ok(found) => {
-            note(&found, read);
-            let items = GivenItems {
-                rows: GivenRows::Offsets(found.items()),
-                validity: None,
-            };
-            insert_given(alloc, handle, items)
-        }
-        Err(bad) => refused(bad, read),
-    }
+    let Some(mut sketch) = handle.take(alloc) else {
+        return NO_SKETCH;
+    };
+    let answer = insert_with(alloc, &mut *sketch, chosen, bytes, read);
+    handle.give(sketch);
+    answer
 }
 
 /// Inserts the items in a field of records, in order, into a filter. A record without the field is left out. If `weight` names a
 /// field, each record with an item needs a weight there.
 ///
-/// Returns the first of these errors, and then changes no sketch:
+/// Returns the first of these errors, and then changes no filter, and of `read` only what the third one says:
 ///
-/// - `BAD_ARGUMENT` if the format is not known, words of CSV are asked for, or the delimiter is not one of the format.
-/// - The error of the first record with one, and writes at which byte it begins: `InvalidUtf8` if its item is not UTF-8, and
-///   `BadWeight` if it has no weight.
-/// - `NoMemory` if the items of all records cannot be allocated.
+/// - `BAD_ARGUMENT` if the format is not known, the whole record of CSV is asked for, or the delimiter is not one of the format.
 /// - `NO_SKETCH` if the handle has no sketch, and `WRONG_KIND` if its sketch is of another kind or shared.
+/// - The error of the first record with one, and writes at which byte it begins: `InvalidUtf8` if its item is not UTF-8, and
+///   `BadWeight` if it has no weight. `NoMemory` if the items of the records cannot be allocated.
 #[unsafe(no_mangle)]
 pub extern "C" fn ds_bloom_insert_fields(
     alloc: Global,
@@ -190,7 +233,7 @@ pub extern "C" fn ds_bloom_insert_fields(
     fields: &FieldsArgument,
     read: &mut FieldsRead,
 ) -> i32
-    ensures { OnFields fields.now result (handle.new.value ≡ handle.old.value) (λ chosen.
+    ensures { OnFields fields.now result ((handle.new.value ≡ handle.old.value) × (read.new ≡ read.old)) (λ chosen.
         InsertsFields chosen bytes.now handle.old.value handle.new.value read.old read.new result) }
 {
     let Some(chosen) = chosen_record(fields) else {

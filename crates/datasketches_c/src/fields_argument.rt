@@ -43,15 +43,15 @@ fn word(index: u32) -> RecordPart
     RecordPart::Line(Part::Word(index))
 }
 
-/// Returns a field of a line between delimiters of ASCII, or the line. Returns `None` if the delimiter is not ASCII.
+/// Returns a field of a line between delimiters of ASCII, or the line. Returns `None` if the delimiter is not ASCII, also for the line.
 fn field_between(delimiter: u8, index: u32) -> Option<RecordPart>
     ensures { MatchOption result ((part : OfPart) → ¬ IsPart (pos 1) delimiter index part) (IsPart (pos 1) delimiter index) }
 {
-    if index == NO_FIELD {
-        return Some(RecordPart::Line(Part::Line));
-    }
     if delimiter >= 128 {
         return None;
+    }
+    if index == NO_FIELD {
+        return Some(RecordPart::Line(Part::Line));
     }
     Some(RecordPart::Line(Part::Field(Field { delimiter, index })))
 }

@@ -19,7 +19,7 @@ use sketch_bloom::{BloomFilter, BloomFilterView};
 use std::alloc::Global;
 
 /// Inserts given items into a filter, as one after another.
-fn insert_each(filter: &mut BloomFilter, items: GivenItems<'_>)
+pub(crate) fn insert_each(filter: &mut BloomFilter, items: GivenItems<'_>)
     ensures insertions { filter.new ≡ all_inserted filter.old (fed_items (many items.entry)) }
     ensures stands { Extends filter.old filter.new (λ h. all_inserted_after h (fed_items (many items.entry))) }
 {
@@ -27,7 +27,7 @@ fn insert_each(filter: &mut BloomFilter, items: GivenItems<'_>)
 }
 
 /// Inserts given items, as one after another.
-pub(crate) fn insert_given(alloc: Global, handle: &mut SketchHandle, items: GivenItems<'_>) -> i32
+fn insert_given(alloc: Global, handle: &mut SketchHandle, items: GivenItems<'_>) -> i32
     ensures call { InsertsAll handle.old.value handle.new.value result (fed_items (many items.entry)) }
     ensures refused { OnRefused result (handle.new.value ≡ handle.old.value) }
 {

@@ -270,13 +270,9 @@ impl<T: CountMinValue> CountMinSketch<T> {
         T::from_cell(must(with_item(&item, bound)))
     }
 
-    /// Removes all items and weights. Hashes, buckets and seed stay.
-    ///
-    /// # Errors
-    ///
-    /// Returns an error if memory runs out.
-    pub fn reset(&mut self) -> Result<(), Error> {
-        self.handle.reset()
+    /// Removes all items and weights. Hashes, buckets and seed stay. Does not allocate.
+    pub fn reset(&mut self) {
+        must(self.handle.reset())
     }
 
     /// Adds the cells and the total of another sketch.
