@@ -1,5 +1,6 @@
 //! The numbers of sketches of any kind.
-ghost use Rattle.std.specs.Prelude.{◌≡◌};
+ghost use Rattle.std.specs.Prelude.{◌≡◌, ◌≤◌};
+ghost use Rattle.datasketches_c.specs.Numbers.{OnDone};
 ghost use Rattle.datasketches_c.specs.Sharing.{unshared};
 ghost use Rattle.datasketches_c.specs.Status.{Describes, count_numbers, frequent_numbers, no_numbers, numbers_of};
 ghost use Rattle.datasketches_c.specs.declared.any_sketch.AnySketch.TheVariants as held;
@@ -82,7 +83,9 @@ fn count_numbers<V: CountMinValue>(kind: u16, sketch: &CountMinSketch<V>) -> Sta
 
 /// Returns the numbers of a sketch of frequent items of a kind.
 fn frequent_numbers<T: Eq + Hash + Drop>(kind: u16, sketch: &FrequentItemsSketch<T>) -> Status
-    ensures { result ≡ frequent_numbers kind sketch.now }
+    ensures numbers { result ≡ frequent_numbers kind sketch.now }
+    ensures few { result.num_active_items ≤ result.maximum_map_capacity }
+    ensures error { result.maximum_error ≤ result.total_weight }
 {
     Status {
         total_weight: sketch.total_weight(),
@@ -98,7 +101,9 @@ fn frequent_numbers<T: Eq + Hash + Drop>(kind: u16, sketch: &FrequentItemsSketch
 
 /// Returns the numbers of a sketch.
 fn numbers_of(sketch: &AnySketch) -> Status
-    ensures { result ≡ numbers_of (unshared sketch.now) }
+    ensures numbers { result ≡ numbers_of (unshared sketch.now) }
+    ensures few { result.num_active_items ≤ result.maximum_map_capacity }
+    ensures error { result.maximum_error ≤ result.total_weight }
 {
     match sketch {
         AnySketch::Filter(held) => filter_numbers(held.get()),
@@ -125,6 +130,10 @@ pub extern "C" fn ds_get_status(
 ) -> i32
     ensures kept { handle.new.value ≡ handle.old.value }
     ensures numbers { Describes handle.old.value result status.old status.new }
+
+    // Three quarters of the maximum size bound the counters, and the total bounds the error.
+    ensures few { OnDone result (status.new.num_active_items ≤ status.new.maximum_map_capacity) }
+    ensures error { OnDone result (status.new.maximum_error ≤ status.new.total_weight) }
 {
     let Some(sketch) = handle.take(alloc) else {
         return NO_SKETCH;
