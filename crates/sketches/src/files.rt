@@ -247,6 +247,11 @@ impl<'r, 's, 'n> Files<'r, 's, 'n> {
         Ok(Some(Source::AfterHeader(headed.into_rest(input))))
     }
 
+    /// Returns the names of the files.
+    pub fn names(&self) -> &'s [&'n str] {
+        self.names
+    }
+
     /// Returns the name of the file that was opened last.
     pub fn current(&self) -> &'n str {
         match self.names.get(self.next.saturating_sub(1)) {

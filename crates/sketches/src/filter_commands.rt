@@ -1,20 +1,22 @@
 //! Runs the commands that make a filter.
-use crate::file_sizes::{size_of_file, size_of_files};
+use crate::failure::Failure;
+use crate::file_sizes::{lines_of_files, size_of_file};
 use crate::files::{Files, open};
 use crate::filter_options::{BAD_FILTER, DEFAULT_ITEMS, has_size, items_for, size_of};
-use crate::filter_size::{percent_of, questions_of};
+use crate::filter_size::{has_size_of, is_past, percent_of, questions_of};
 use crate::image_commands::end as end_of_images;
 use crate::join::{JoinFailure, JoinOptions, join};
 use crate::keyed_options::{open_keys, reads_input_twice};
 use crate::keys::{key_of, seed_of};
 use crate::line_count::count_lines;
 use crate::record_options::weighed_record;
-use crate::state_file::{load_state, save_state};
-use crate::uniq::{UniqOptions, uniq, uniq_after};
+use crate::state_file::StateFile;
+use crate::uniq::{Summary, UniqOptions, uniq, uniq_after};
 use crate::{ERROR, STANDARD_INPUT, end, fail, max_line_of, message_of, number_of};
 use clap::ArgMatches;
 use sketch_base::records::RecordPart;
 use sketch_bloom::BloomFilter;
+use sketch_frequencies::TableKey;
 
 /// Runs `sketches uniq`. Returns the status.
 pub fn run_uniq(rt: &HostRuntime, matches: &ArgMatches<'_>) -> u8 {
@@ -34,83 +36,114 @@ pub fn run_uniq(rt: &HostRuntime, matches: &ArgMatches<'_>) -> u8 {
     let Ok(header) = files.header() else {
         return fail(rt, "no memory");
     };
-    let state = matches.get_str("state");
-    let kept = match kept_filter(rt, state, number_of(matches, "max-bytes")) {
-        Ok(kept) => kept,
-        Err(status) => return status,
-    };
     let options = UniqOptions {
         part,
         repeated: matches.get_flag("repeated"),
         max_line: max_line_of(matches),
     };
-    let result = match kept {
-        Some(filter) => uniq_after(
+    let Some(name) = matches.get_str("state") else {
+        let size = size_of(matches, items_for(lines_of_files(rt, names)));
+        let seed = seed_of(key);
+        let result = uniq(
             rt.alloc(),
             options,
-            filter,
+            size,
+            seed,
             &header,
             &mut files,
             &mut rt.stdout(),
-        ),
-        None => {
-            let size = size_of(matches, items_for(size_of_files(rt, names)));
-            uniq(
+        );
+        return match ended(rt, matches, &files, result) {
+            Ok((_, status)) => status,
+            Err(status) => status,
+        };
+    };
+    if name == "-" {
+        return fail(rt, "--state must name a file");
+    }
+    let mut state = match StateFile::lock(rt, name) {
+        Ok(state) => state,
+        Err(failure) => return end_of_images(rt, failure, name),
+    };
+    let status = uniq_from(rt, matches, options, key, &header, &mut files, &mut state);
+    state.end();
+    status
+}
+
+/// Runs `uniq` from the filter of a state, or from a new one, and keeps the filter in the state. Returns the status.
+fn uniq_from(
+    rt: &HostRuntime,
+    matches: &ArgMatches<'_>,
+    options: UniqOptions,
+    key: TableKey,
+    header: &[u8],
+    files: &mut Files<'_, '_, '_>,
+    state: &mut StateFile<'_>,
+) -> u8 {
+    let kept = match state.load(number_of(matches, "max-bytes")) {
+        Ok(kept) => kept,
+        Err(failure) => {
+            return end_of_images(rt, failure, matches.get_str("state").unwrap_or("-"));
+        }
+    };
+    let size = size_of(matches, items_for(lines_of_files(rt, files.names())));
+    let result = match kept {
+        Some(filter) => {
+            if has_size(matches) && !has_size_of(&filter, size) {
+                return fail(
+                    rt,
+                    "--state has a filter of another size than --items or --bits: leave them out, or name another file",
+                );
+            }
+            uniq_after(
                 rt.alloc(),
                 options,
-                size,
-                seed_of(key),
-                &header,
-                &mut files,
+                filter,
+                header,
+                files,
                 &mut rt.stdout(),
             )
         }
+        None => uniq(
+            rt.alloc(),
+            options,
+            size,
+            seed_of(key),
+            header,
+            files,
+            &mut rt.stdout(),
+        ),
     };
-    match result {
-        Ok(summary) => {
-            if !matches.get_flag("no-note") {
-                let what = "new items is taken for a repeated one";
-                note(
-                    rt,
-                    unit_of(matches),
-                    summary.left_out,
-                    &summary.filter,
-                    what,
-                );
+    match ended(rt, matches, files, result) {
+        Ok((filter, status)) => {
+            if state.save(&filter) {
+                status
+            } else {
+                ERROR
             }
-            if !is_kept(rt, state, &summary.filter) {
-                return ERROR;
-            }
-            u8::from(!summary.complete || files.has_failed())
         }
-        Err(failure) => end(rt, failure, files.current(), BAD_FILTER),
+        Err(status) => status,
     }
 }
 
-/// Returns the filter that an earlier run kept, if any. If it cannot be read, prints why and returns the status.
-fn kept_filter(
+/// Prints how a run of `uniq` ended. Returns its filter and its status, or the status of an error.
+fn ended(
     rt: &HostRuntime,
-    state: Option<&str>,
-    limit: usize,
-) -> Result<Option<BloomFilter>, u8> {
-    let Some(name) = state else {
-        return Ok(None);
+    matches: &ArgMatches<'_>,
+    files: &Files<'_, '_, '_>,
+    outcome: Result<Summary, Failure>,
+) -> Result<(BloomFilter, u8), u8> {
+    let summary = match outcome {
+        Ok(summary) => summary,
+        Err(failure) => return Err(end(rt, failure, files.current(), BAD_FILTER)),
     };
-    if name == "-" {
-        return Err(fail(rt, "--state must name a file"));
+    let what = "new items is taken for a repeated one";
+    if !matches.get_flag("no-note") {
+        note(rt, units_of(matches), summary.left_out, &summary.filter, what);
     }
-    match load_state(rt, name, limit) {
-        Ok(kept) => Ok(kept),
-        Err(failure) => Err(end_of_images(rt, failure, name)),
-    }
-}
-
-/// Keeps the filter for later runs, if there is a file for it. Returns whether it was kept, or there is no file.
-fn is_kept(rt: &HostRuntime, state: Option<&str>, filter: &BloomFilter) -> bool {
-    match state {
-        Some(name) => save_state(rt, filter, name),
-        None => true,
-    }
+    warn_if_past(rt, &summary.filter, what);
+    let status = u8::from(!summary.complete || files.has_failed());
+    Ok((summary.filter, status))
 }
 
 /// Runs `sketches join`. Returns the status.
@@ -160,38 +193,56 @@ pub fn run_join(rt: &HostRuntime, matches: &ArgMatches<'_>) -> u8 {
         &mut rt.stdout(),
     ) {
         Ok(summary) => {
+            let what = "other items is taken for a key";
             if !matches.get_flag("no-note") {
-                let what = "other items is taken for a key";
-                note(
-                    rt,
-                    unit_of(matches),
-                    summary.left_out,
-                    &summary.filter,
-                    what,
-                );
+                note(rt, units_of(matches), summary.left_out, &summary.filter, what);
             }
+            warn_if_past(rt, &summary.filter, what);
             u8::from(!summary.complete || files.has_failed())
         }
         Err(failure) => end_of_join(rt, failure, keys_name, files.current()),
     }
 }
 
-/// Returns the word for what is left out.
-fn unit_of(matches: &ArgMatches<'_>) -> &'static str {
+/// Returns the words for what is left out, one and many.
+fn units_of(matches: &ArgMatches<'_>) -> (&'static str, &'static str) {
     if matches.get_flag("csv") {
-        "records"
+        ("record", "records")
     } else {
-        "lines"
+        ("line", "lines")
     }
 }
 
 /// Prints how many lines or records were left out, how full the filter is, and its rate of false positives, under ideal hashes.
-fn note(rt: &HostRuntime, unit: &str, left_out: u64, filter: &BloomFilter, what: &str) {
-    let _ = eprintln!(rt;
-        "sketches: {left_out} {unit} left out; the filter is {}% full: about 1 in {} {what}",
-        percent_of(filter),
-        questions_of(filter)
-    );
+fn note(
+    rt: &HostRuntime,
+    units: (&str, &str),
+    left_out: u64,
+    filter: &BloomFilter,
+    what: &str,
+) {
+    let unit = if left_out == 1 { units.0 } else { units.1 };
+    let percent = percent_of(filter);
+    let _ = match questions_of(filter) {
+        Some(questions) => eprintln!(rt;
+            "sketches: {left_out} {unit} left out; the filter is {percent}% full: about 1 in {questions} {what}"
+        ),
+        None => eprintln!(rt;
+            "sketches: {left_out} {unit} left out; the filter is {percent}% full: fewer than 1 in 10^12 {what}"
+        ),
+    };
+}
+
+/// Prints a warning if the filter is fuller than it is made for.
+fn warn_if_past(rt: &HostRuntime, filter: &BloomFilter, what: &str) {
+    if !is_past(filter) {
+        return;
+    }
+    if let Some(questions) = questions_of(filter) {
+        let _ = eprintln!(rt;
+            "sketches: warning: the filter has more items than it is made for: about 1 in {questions} {what}; use a larger --items"
+        );
+    }
 }
 
 /// Returns the number of items that the filter is made for, unless the options name its size: the number of records of the keys if

@@ -95,11 +95,11 @@ pub fn no_note<'a>(alloc: Global) -> Arg<'a> {
         )
 }
 
-/// Returns the number of items that a filter is made for by default, if the files have this number of bytes: one for 16 bytes, from
-/// 4096 to 100 million.
-pub fn items_for(bytes: Option<u64>) -> u64 {
-    match bytes {
-        Some(bytes) => (bytes / 16).max(4096).min(100_000_000),
+/// Returns the number of items that a filter is made for by default, if the files have about this number of lines: at least 4096, and at
+/// most 1000 million.
+pub fn items_for(lines: Option<u64>) -> u64 {
+    match lines {
+        Some(lines) => lines.max(4096).min(1_000_000_000),
         None => DEFAULT_ITEMS,
     }
 }

@@ -1,10 +1,10 @@
 //! The file that keeps the image of a run's sketch.
 ghost use Rattle.std.specs.Prelude.{◌≡◌, IfSome};
 
+use crate::image_place::{replace, target_of};
 use crate::save::{Keeper, SaveFailure, write_filter, write_image};
 use sketch_bloom::BloomFilter;
 use sketch_frequencies::FrequentItemsSketch;
-use std::fs;
 use std::fs::File;
 use std::io::Write;
 use std::rt::Files;
@@ -65,32 +65,19 @@ impl<'r, 'n> Keeper for ImageFile<'r, 'n> {
 
 /// Writes an image of the value to the file of a name.
 ///
-/// A regular file is written beside, under the name with `.tmp` after it, and renamed. So after an error the file is as it was. A
-/// symbolic link stays, and the file that it leads to is replaced.
+/// A regular file is written beside, under the name with random digits and `.tmp` after it, and renamed. So after an error the file is as
+/// it was. A symbolic link stays, and the file that it leads to is replaced or created.
 pub fn save<S: Saved>(rt: &HostRuntime, value: &S, name: &str) -> Result<(), SaveFailure> {
     if is_special(rt, name) {
         let mut file = File::options().append(true).open(rt, name)?;
         return value.write(&mut file);
     }
-    match fs::canonicalize(rt, name) {
-        Ok(path) => replace(rt, value, path.as_str()),
-        Err(_) => replace(rt, value, name),
-    }
-}
-
-/// Writes an image of the value beside a file, and renames it.
-fn replace<S: Saved>(rt: &HostRuntime, value: &S, name: &str) -> Result<(), SaveFailure> {
-    let beside = format!(in rt.alloc(); "{name}.tmp")?;
-    let file = File::create(rt, beside.as_str())?;
-    let saved = fill(rt, value, file, beside.as_str(), name);
-    if saved.is_err() {
-        let _ = fs::remove_file(rt, beside.as_str());
-    }
-    saved
+    let target = target_of(rt, name)?;
+    replace(rt, value, target.as_str())
 }
 
 /// Returns whether a name is that of an open file, such as standard output, or of a device or a pipe. They are written in place.
-fn is_special(rt: &HostRuntime, name: &str) -> bool {
+pub fn is_special(rt: &HostRuntime, name: &str) -> bool {
     if is_open(name) {
         return true;
     }
@@ -106,20 +93,6 @@ fn is_open(name: &str) -> bool {
         || name == "/dev/stderr"
         || name.starts_with("/dev/fd/")
         || name.starts_with("/proc/")
-}
-
-/// Writes an image of the value to a file, and renames it.
-fn fill<S: Saved>(
-    rt: &HostRuntime,
-    value: &S,
-    mut file: File,
-    from: &str,
-    to: &str,
-) -> Result<(), SaveFailure> {
-    value.write(&mut file)?;
-    file.sync_all()?;
-    fs::rename(rt, from, to)?;
-    Ok(())
 }
 
 /// Reports that the image could not be written.

@@ -33,6 +33,7 @@ mod image_commands;
 mod image_file;
 mod image_files;
 mod image_options;
+mod image_place;
 mod images;
 mod inputs;
 mod item_weigher;
