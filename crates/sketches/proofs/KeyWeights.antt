@@ -23,7 +23,7 @@ use Rattle.sketches.specs.KeyWeights.{CountsLines, CountsWeighed, IsEmptyTable, 
 use Rattle.sketches.specs.Reading.{AreFirstRecords, FailsInput, TakesInput}
 use Rattle.sketch_base.specs.Records.{records_by, splits_by}
 use Rattle.sketches.specs.Unseen.{hashed}
-use Rattle.sketches.specs.UnseenLaws.{appends_both}
+use Rattle.sketches.specs.Appending.{appends_both}
 use Rattle.sketches.specs.WeighFailures.{ComesLate, FailsLines, FailsWeigh}
 use Rattle.sketches.specs.Weighed.{Weighed, total_of}
 use Rattle.sketches.specs.WeighingLaws.{total_both}

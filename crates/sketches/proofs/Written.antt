@@ -1,5 +1,5 @@
 -- The records of inputs that are written.
-use Rattle.std.proofs.Common.{◌≡◌, ℕ, zero, suc, ◌<◌, Bool, true, List, [], ◌∷◌, ◌++◌, length, get_or, map, Option, None, Some, IfSome, sym, ◌∙◌, ap, subst, arith}
+use Rattle.std.proofs.Common.{◌≡◌, ℕ, zero, suc, ◌<◌, Bool, true, false, List, [], ◌∷◌, ◌++◌, length, get_or, map, Option, None, Some, IfSome, sym, ◌∙◌, ap, subst, arith}
 use Rattle.std.proofs.lemmas.Bool.{false≢true}
 use Rattle.std.proofs.lemmas.List.Folds.{list_any_at}
 use Rattle.std.specs.Io.KnownBytes.{Appends}
@@ -10,7 +10,9 @@ use Rattle.sketches.specs.Inputs.{TakesEach, TakesInputs}
 use Rattle.sketches.specs.RecordParts.{raws_by}
 use Rattle.sketch_base.specs.Records.{splits_by}
 use Rattle.sketches.specs.Unseen.{AreFirst, WritesUnseen, hashed, is_seen, item_of, unseen_lines, with_items, with_lines}
-use Rattle.sketches.specs.UnseenLaws.{appends_none, appends_both, unseen_both, with_both}
+use Rattle.sketches.specs.Appending.{appends_both}
+use Rattle.sketches.specs.EndedText.{Prints, prints_none, prints_both, text_of}
+use Rattle.sketches.specs.UnseenLaws.{unseen_both, with_both}
 use Rattle.sketch_base.specs.declared.record_part.RecordPart.{RecordPart}
 use Rattle.sketches.specs.declared.unseen.UnseenLines.{UnseenLines}
 
@@ -45,13 +47,13 @@ module _ {W : Type 0} (contents : W → Option (List ℕ)) where
   abbrev pub Chooses : UnseenLines × W → List ℕ → UnseenLines × W → Type 0
   Chooses old bytes new =
       (new.0.filter ≡ with_lines old.0.part old.0.filter (raws_by old.0.part bytes))
-      × Appends (contents old.1) (contents new.1) (unseen_lines old.0.repeated old.0.part old.0.filter (raws_by old.0.part bytes))
+      × Prints (contents old.1) (contents new.1) old.0.written.unended new.0.written.unended (unseen_lines old.0.repeated old.0.part old.0.filter (raws_by old.0.part bytes))
       × (new.0.part ≡ old.0.part) × (new.0.repeated ≡ old.0.repeated)
 
   -- the unseen records of all lists were written
   each_written : (old new : UnseenLines × W) (read : List (List ℕ)) → TakesEach Chooses old read new
-      → Appends (contents old.1) (contents new.1) (unseen_lines old.0.repeated old.0.part old.0.filter (flat_map (raws_by old.0.part) read))
-  each_written old new [] same = subst (λ (s : UnseenLines × W). Appends (contents old.1) (contents s.1) []) (sym same) (appends_none (contents old.1))
+      → Prints (contents old.1) (contents new.1) old.0.written.unended new.0.written.unended (unseen_lines old.0.repeated old.0.part old.0.filter (flat_map (raws_by old.0.part) read))
+  each_written old new [] same = subst (λ (s : UnseenLines × W). Prints (contents old.1) (contents s.1) old.0.written.unended s.0.written.unended []) (sym same) (prints_none (contents old.1) old.0.written.unended)
   each_written old new (bytes ∷ read) (mid, (filter, text, same_part, same_repeated), rest) =
       let later = each_written mid new read rest in
       let r = old.0.repeated in
@@ -59,9 +61,9 @@ module _ {W : Type 0} (contents : W → Option (List ℕ)) where
       let more : unseen_lines mid.0.repeated mid.0.part mid.0.filter (flat_map (raws_by mid.0.part) read) ≡ unseen_lines r p (with_lines p old.0.filter (raws_by p bytes)) (flat_map (raws_by p) read) =
       ap (λ (q : Bool). unseen_lines q mid.0.part mid.0.filter (flat_map (raws_by mid.0.part) read)) same_repeated
       ∙ (ap (λ (q : RecordPart). unseen_lines r q mid.0.filter (flat_map (raws_by q) read)) same_part ∙ ap (λ (s : FilterState). unseen_lines r p s (flat_map (raws_by p) read)) filter) in
-      subst (Appends (contents old.1) (contents new.1))
+      subst (Prints (contents old.1) (contents new.1) old.0.written.unended new.0.written.unended)
       (ap (λ l. unseen_lines r p old.0.filter (raws_by p bytes) ++ l) more ∙ sym (unseen_both r p old.0.filter (raws_by p bytes) (flat_map (raws_by p) read)))
-      (appends_both (contents old.1) (contents mid.1) (contents new.1) _ _ text later)
+      (prints_both (contents old.1) (contents mid.1) (contents new.1) old.0.written.unended mid.0.written.unended new.0.written.unended _ _ text later)
 
   -- and their items inserted
   each_inserted : (old new : UnseenLines × W) (read : List (List ℕ)) → TakesEach Chooses old read new → new.0.filter ≡ with_lines old.0.part old.0.filter (flat_map (raws_by old.0.part) read)
@@ -72,13 +74,16 @@ module _ {W : Type 0} (contents : W → Option (List ℕ)) where
       ∙ (ap (λ (s : FilterState). with_lines old.0.part s (flat_map (raws_by old.0.part) read)) filter ∙ sym (with_both old.0.part old.0.filter (raws_by old.0.part bytes) (flat_map (raws_by old.0.part) read))))
 
   pub written : (header : List ℕ) (held : Option (List ℕ)) (was : Option (List (List ℕ))) (complete : Bool) (old new : UnseenLines × W)
-      → Appends held (contents old.1) header → TakesInputs (splits_by old.0.part) Chooses was complete old new
+      → old.0.written.unended ≡ false → Appends held (contents old.1) header → TakesInputs (splits_by old.0.part) Chooses was complete old new
       → IfSome was (λ inputs. WritesUnseen old.0.repeated old.0.part header old.0.filter new.0.filter inputs complete held (contents new.1))
-  written header held None complete old new begins taken = tt
-  written header held (Some inputs) complete old new begins (read, are, each) = record {
+  written header held None complete old new ended begins taken = tt
+  written header held (Some inputs) complete old new ended begins (read, are, each) = record {
     read = read;
     are = are;
-    written = appends_both held (contents old.1) (contents new.1) header _ begins (each_written old new read each);
+    written =
+        appends_both held (contents old.1) (contents new.1) header _ begins
+        (subst (λ (b : Bool). Appends (contents old.1) (contents new.1) (text_of b (unseen_lines old.0.repeated old.0.part old.0.filter (flat_map (raws_by old.0.part) read)))) ended
+        (each_written old new read each).0);
     first = are_first old.0.part old.0.filter (flat_map (raws_by old.0.part) read);
     kept = each_inserted old new read each;
   }

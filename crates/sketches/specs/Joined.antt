@@ -1,8 +1,9 @@
 -- The records whose items are in a file of keys.
-use Rattle.std.specs.Prelude.{◌≡◌, ℕ, Bool, List, [], ◌++◌, Contains, Option, if◌then◌else◌}
+use Rattle.std.specs.Prelude.{◌≡◌, ℕ, Bool, false, List, [], ◌∷◌, ◌++◌, Contains, Option, if◌then◌else◌}
 use Rattle.std.specs.Io.KnownBytes.{Appends}
 use Rattle.std.specs.List.{flat_map}
 use Rattle.sketch_bloom.specs.State.{FilterState}
+use Rattle.sketches.specs.EndedText.{text_of}
 use Rattle.sketches.specs.Inputs.{AreRead}
 use Rattle.sketches.specs.RecordParts.{raws_by}
 use Rattle.sketch_base.specs.Records.{splits_by}
@@ -14,18 +15,18 @@ abbrev pub keys_of : RecordPart → List ℕ → List (List ℕ)
 keys_of part bytes = flat_map (item_of part) (raws_by part bytes)
 
 -- the records that are written, with their ends: if `wanted`, those of which the filter contains the item, else the others
-abbrev pub joined_lines : Bool → RecordPart → FilterState → List (List ℕ) → List ℕ
+abbrev pub joined_lines : Bool → RecordPart → FilterState → List (List ℕ) → List (List ℕ)
 joined_lines wanted part filter raws = flat_map (λ raw. written_of wanted (is_seen filter (item_of part raw)) raw) raws
 
 -- a record whose item is a key is written if `wanted`, else it is not written
 abbrev pub FindsKeys : Bool → RecordPart → FilterState → List (List ℕ) → Type 0
 FindsKeys wanted part filter keys = (raw key : List ℕ) → Contains keys key → Contains (item_of part raw) key
-    → written_of wanted (is_seen filter (item_of part raw)) raw ≡ (if wanted then raw else [])
+    → written_of wanted (is_seen filter (item_of part raw)) raw ≡ (if wanted then raw ∷ [] else [])
 
 -- The writer received a header, and then those records of what was read of each input whose items the filter of all keys contains, or,
--- unless `wanted`, the others.
+-- unless `wanted`, the others. One that its input ends without a line feed gets one before the next.
 pub record WritesJoined (wanted : Bool) (part : RecordPart) (header : List ℕ) (filter : FilterState) (keys : List (List ℕ)) (inputs : List (List ℕ)) (complete : Bool) (held holds : Option (List ℕ)) : Type 0 where
   pub read : List (List ℕ)
   pub are : AreRead (splits_by part) complete inputs read
-  pub written : Appends held holds (header ++ joined_lines wanted part (with_items filter keys) (flat_map (raws_by part) read))
+  pub written : Appends held holds (header ++ text_of false (joined_lines wanted part (with_items filter keys) (flat_map (raws_by part) read)))
   pub finds : FindsKeys wanted part (with_items filter keys) keys

@@ -1,14 +1,14 @@
 -- The laws of keys that are inserted, and of records that are joined with them.
-use Rattle.std.proofs.Common.{◌≡◌, ℕ, Bool, List, [], ◌++◌, append_assoc, append-nil, Option, refl, sym, ◌∙◌, ap, subst}
+use Rattle.std.proofs.Common.{◌≡◌, ℕ, Bool, List, [], ◌++◌, Option, Some, refl, sym, ◌∙◌, ap, subst}
 use Rattle.std.proofs.lemmas.List.Concat.{flat_map-append}
-use Rattle.std.specs.Io.KnownBytes.{Appends}
 use Rattle.sketch_bloom.specs.State.{FilterState}
+use Rattle.sketches.specs.EndedText.{Prints, prints_none, prints_both}
 use Rattle.sketches.specs.Joined.{joined_lines}
 use Rattle.sketches.specs.Reading.{AreWholeRecords}
 use Rattle.sketches.specs.RecordParts.{raws_by}
 use Rattle.sketch_base.specs.Records.{splits_by}
 use Rattle.sketches.specs.Unseen.{is_seen, item_of, with_lines, written_of}
-use Rattle.sketches.specs.UnseenLaws.{appends_none, appends_both, raw_records_both, raws_none, with_both}
+use Rattle.sketches.specs.UnseenLaws.{raw_records_both, raws_none, with_both}
 use Rattle.sketch_base.specs.declared.record_part.RecordPart.{RecordPart}
 
 -- ---- keys
@@ -36,41 +36,40 @@ key_lines_both xs ys p p' p'' whole a b c (filter, same) (filter', same') =
 pub joined_both : (wanted : Bool) (part : RecordPart) (filter : FilterState) (xs ys : List (List ℕ)) → joined_lines wanted part filter (xs ++ ys) ≡ joined_lines wanted part filter xs ++ joined_lines wanted part filter ys
 joined_both wanted part filter xs ys = flat_map-append (λ (raw : List ℕ). written_of wanted (is_seen filter (item_of part raw)) raw) xs ys
 
-abbrev TakesJoined : (part own : RecordPart) (wanted : Bool) (filter filter' : FilterState) (held holds : List ℕ) → List (List ℕ) → (own' : RecordPart) (wanted' : Bool) → Type 0
-TakesJoined part own wanted filter filter' held holds raws own' wanted' =
-    (holds ≡ held ++ joined_lines wanted part filter raws) × (filter' ≡ filter) × (own' ≡ own) × (wanted' ≡ wanted)
+abbrev TakesJoined : (part own : RecordPart) (wanted : Bool) (filter filter' : FilterState) (held holds : List ℕ) (unended unended' : Bool) → List (List ℕ) → (own' : RecordPart) (wanted' : Bool) → Type 0
+TakesJoined part own wanted filter filter' held holds unended unended' raws own' wanted' =
+    Prints (Some held) (Some holds) unended unended' (joined_lines wanted part filter raws) × (filter' ≡ filter) × (own' ≡ own) × (wanted' ≡ wanted)
 
-pub joined_none : (part own : RecordPart) (wanted : Bool) (filter : FilterState) (held : List ℕ) → TakesJoined part own wanted filter filter held held [] own wanted
-joined_none part own wanted filter held = (sym (append-nil held), refl, refl, refl)
+pub joined_none : (part own : RecordPart) (wanted : Bool) (filter : FilterState) (held : List ℕ) (unended : Bool) → TakesJoined part own wanted filter filter held held unended unended [] own wanted
+joined_none part own wanted filter held unended = (prints_none (Some held) unended, refl, refl, refl)
 
-pub joined_more : (xs ys : List (List ℕ)) (part p : RecordPart) (w : Bool) (p' : RecordPart) (w' : Bool) (p'' : RecordPart) (w'' : Bool) (a b c : FilterState) (held mid holds : List ℕ)
-    → TakesJoined part p w a b held mid xs p' w' → TakesJoined part p' w' b c mid holds ys p'' w'' → TakesJoined part p w a c held holds (xs ++ ys) p'' w''
-joined_more xs ys part p w p' w' p'' w'' a b c held mid holds (text, same, same_part, same_wanted) (text', same', same_part', same_wanted') =
+pub joined_more : (xs ys : List (List ℕ)) (part p : RecordPart) (w : Bool) (p' : RecordPart) (w' : Bool) (p'' : RecordPart) (w'' : Bool) (a b c : FilterState) (held mid holds : List ℕ) (o o' o'' : Bool)
+    → TakesJoined part p w a b held mid o o' xs p' w' → TakesJoined part p' w' b c mid holds o' o'' ys p'' w'' → TakesJoined part p w a c held holds o o'' (xs ++ ys) p'' w''
+joined_more xs ys part p w p' w' p'' w'' a b c held mid holds o o' o'' (text, same, same_part, same_wanted) (text', same', same_part', same_wanted') =
     let more : joined_lines w' part b ys ≡ joined_lines w part a ys =
     ap (λ (q : Bool). joined_lines q part b ys) same_wanted ∙ ap (λ (s : FilterState). joined_lines w part s ys) same in (
-      text' ∙ (ap (λ l. l ++ joined_lines w' part b ys) text
-          ∙ (append_assoc held (joined_lines w part a xs) (joined_lines w' part b ys)
-          ∙ ap (λ l. held ++ l) (ap (λ l. joined_lines w part a xs ++ l) more ∙ sym (joined_both w part a xs ys)))),
+      subst (Prints (Some held) (Some holds) o o'') (ap (λ l. joined_lines w part a xs ++ l) more ∙ sym (joined_both w part a xs ys))
+          (prints_both (Some held) (Some mid) (Some holds) o o' o'' _ _ text text'),
       same' ∙ same,
       same_part' ∙ same_part,
       same_wanted' ∙ same_wanted,
     )
 
-abbrev WritesLines : (wanted : Bool) (part : RecordPart) (filter filter' : FilterState) (held holds : Option (List ℕ)) → List ℕ → (part' : RecordPart) (wanted' : Bool) → Type 0
-WritesLines wanted part filter filter' held holds bytes part' wanted' =
-    Appends held holds (joined_lines wanted part filter (raws_by part bytes)) × (filter' ≡ filter) × (part' ≡ part) × (wanted' ≡ wanted)
+abbrev WritesLines : (wanted : Bool) (part : RecordPart) (filter filter' : FilterState) (held holds : Option (List ℕ)) (unended unended' : Bool) → List ℕ → (part' : RecordPart) (wanted' : Bool) → Type 0
+WritesLines wanted part filter filter' held holds unended unended' bytes part' wanted' =
+    Prints held holds unended unended' (joined_lines wanted part filter (raws_by part bytes)) × (filter' ≡ filter) × (part' ≡ part) × (wanted' ≡ wanted)
 
-pub lines_none : (wanted : Bool) (part : RecordPart) (filter : FilterState) (held : Option (List ℕ)) → WritesLines wanted part filter filter held held [] part wanted
-lines_none wanted part filter held = rw (raws_none part) (appends_none held, refl, refl, refl)
+pub lines_none : (wanted : Bool) (part : RecordPart) (filter : FilterState) (held : Option (List ℕ)) (unended : Bool) → WritesLines wanted part filter filter held held unended unended [] part wanted
+lines_none wanted part filter held unended = rw (raws_none part) (prints_none held unended, refl, refl, refl)
 
-pub lines_both : (xs ys : List ℕ) (w : Bool) (p : RecordPart) → AreWholeRecords (splits_by p) xs → (w' : Bool) (p' : RecordPart) (w'' : Bool) (p'' : RecordPart) (a b c : FilterState) (held mid holds : Option (List ℕ))
-    → WritesLines w p a b held mid xs p' w' → WritesLines w' p' b c mid holds ys p'' w'' → WritesLines w p a c held holds (xs ++ ys) p'' w''
-lines_both xs ys w p whole w' p' w'' p'' a b c held mid holds (text, same, same_part, same_wanted) (text', same', same_part', same_wanted') =
+pub lines_both : (xs ys : List ℕ) (w : Bool) (p : RecordPart) → AreWholeRecords (splits_by p) xs → (w' : Bool) (p' : RecordPart) (w'' : Bool) (p'' : RecordPart) (a b c : FilterState) (held mid holds : Option (List ℕ)) (o o' o'' : Bool)
+    → WritesLines w p a b held mid o o' xs p' w' → WritesLines w' p' b c mid holds o' o'' ys p'' w'' → WritesLines w p a c held holds o o'' (xs ++ ys) p'' w''
+lines_both xs ys w p whole w' p' w'' p'' a b c held mid holds o o' o'' (text, same, same_part, same_wanted) (text', same', same_part', same_wanted') =
     let more : joined_lines w' p' b (raws_by p' ys) ≡ joined_lines w p a (raws_by p ys) =
     ap (λ (q : Bool). joined_lines q p' b (raws_by p' ys)) same_wanted
     ∙ (ap (λ (q : RecordPart). joined_lines w q b (raws_by q ys)) same_part ∙ ap (λ (s : FilterState). joined_lines w p s (raws_by p ys)) same) in (
-      subst (Appends held holds) (ap (λ l. joined_lines w p a (raws_by p xs) ++ l) more ∙ sym (ap (joined_lines w p a) (raw_records_both (splits_by p) xs ys whole) ∙ joined_both w p a (raws_by p xs) (raws_by p ys)))
-          (appends_both held mid holds _ _ text text'),
+      subst (Prints held holds o o'') (ap (λ l. joined_lines w p a (raws_by p xs) ++ l) more ∙ sym (ap (joined_lines w p a) (raw_records_both (splits_by p) xs ys whole) ∙ joined_both w p a (raws_by p xs) (raws_by p ys)))
+          (prints_both held mid holds o o' o'' _ _ text text'),
       same' ∙ same,
       same_part' ∙ same_part,
       same_wanted' ∙ same_wanted,

@@ -15,7 +15,7 @@ use Rattle.sketches.specs.KeyWeights.{CountsLines, CountsWeighed, Row, WritesEst
 use Rattle.sketches.specs.Reading.{AreWholeRecords}
 use Rattle.sketch_base.specs.Records.{part_in, records_by, splits_by}
 use Rattle.sketches.specs.Unseen.{hashed}
-use Rattle.sketches.specs.UnseenLaws.{appends_none, appends_both}
+use Rattle.sketches.specs.Appending.{appends_none, appends_both}
 use Rattle.sketches.specs.WeighFailures.{FailsCounting, FailsLines}
 use Rattle.sketches.specs.Weighed.{Weighed, total_of}
 use Rattle.sketches.specs.WeighingLaws.{total_both}

@@ -1,7 +1,9 @@
 -- What the program's contracts cite.
 pub mod Added
 pub mod AddingLaws
+pub mod Appending
 pub mod CountedLines
+pub mod EndedText
 pub mod Failures
 pub mod Faults
 pub mod FilterImages

@@ -5,6 +5,7 @@ use Rattle.std.specs.Io.KnownBytes.{Appends}
 use Rattle.std.specs.List.{flat_map, list_any}
 use Rattle.sketch_base.specs.Hashes.{fed_bytes}
 use Rattle.sketch_bloom.specs.State.{FilterState, all_inserted, contains_item}
+use Rattle.sketches.specs.EndedText.{text_of}
 use Rattle.sketches.specs.Inputs.{AreRead}
 use Rattle.sketches.specs.RecordParts.{raws_by}
 use Rattle.sketch_base.specs.Records.{part_in, records_by, splits_by}
@@ -34,12 +35,12 @@ with_lines part filter raws = with_items filter (flat_map (item_of part) raws)
 abbrev pub is_written : Bool → Bool → Bool
 is_written wanted seen = if wanted then seen else not seen
 
--- what is written of a record
-abbrev pub written_of : Bool → Bool → List ℕ → List ℕ
-written_of wanted seen raw = if is_written wanted seen then raw else []
+-- the record if it is written
+abbrev pub written_of : Bool → Bool → List ℕ → List (List ℕ)
+written_of wanted seen raw = if is_written wanted seen then raw ∷ [] else []
 
--- what is written of records, given for each whether the filter contains its item
-abbrev pub written_by : Bool → List Bool → List (List ℕ) → List ℕ
+-- those records that are written, given for each whether the filter contains its item
+abbrev pub written_by : Bool → List Bool → List (List ℕ) → List (List ℕ)
 written_by wanted (seen ∷ seens) (raw ∷ raws) = written_of wanted seen raw ++ written_by wanted seens raws
 written_by wanted _ _ = []
 
@@ -49,7 +50,7 @@ pub record AreNextLines (part : RecordPart) (bytes rest : List ℕ) (raws items 
   pub items_are : map (item_of part) raws ≡ map (λ item. item ∷ []) items
 
 -- the records that are written, with their ends: for each record, the filter has taken the items of all records before it
-abbrev pub unseen_lines : Bool → RecordPart → FilterState → List (List ℕ) → List ℕ
+abbrev pub unseen_lines : Bool → RecordPart → FilterState → List (List ℕ) → List (List ℕ)
 unseen_lines repeated part filter [] = []
 unseen_lines repeated part filter (raw ∷ later) =
     written_of repeated (is_seen filter (item_of part raw)) raw
@@ -63,10 +64,11 @@ AreFirst part filter raws =
     Contains (item_of part raw) item → Contains (flat_map (item_of part) before) item → ⊥
 
 -- The writer received a header, and then the records of what was read of each input whose items were not seen before, or, with
--- `repeated`, the others. The filter has taken the items of all records that were read.
+-- `repeated`, the others. One that its input ends without a line feed gets one before the next. The filter has taken the items of all
+-- records that were read.
 pub record WritesUnseen (repeated : Bool) (part : RecordPart) (header : List ℕ) (filter filter' : FilterState) (inputs : List (List ℕ)) (complete : Bool) (held holds : Option (List ℕ)) : Type 0 where
   pub read : List (List ℕ)
   pub are : AreRead (splits_by part) complete inputs read
-  pub written : Appends held holds (header ++ unseen_lines repeated part filter (flat_map (raws_by part) read))
+  pub written : Appends held holds (header ++ text_of false (unseen_lines repeated part filter (flat_map (raws_by part) read)))
   pub first : AreFirst part filter (flat_map (raws_by part) read)
   pub kept : filter' ≡ with_lines part filter (flat_map (raws_by part) read)

@@ -3,11 +3,11 @@ use Rattle.std.proofs.Common.{◌≡◌, ℕ, ◌+◌, ◌-◌, ◌<◌, Bool, t
 use Rattle.std.proofs.lemmas.List.{drop_more, drop_all, take-append-drop, map-append}
 use Rattle.std.proofs.lemmas.List.Concat.{flat_map-append}
 use Rattle.std.proofs.lemmas.List.Splits.{length-slice_split}
-use Rattle.std.specs.Io.KnownBytes.{Appends}
 use Rattle.std.specs.List.{flat_map, onto_first, slice_split}
 use Rattle.std.specs.Prelude.{if◌then◌else◌}
 use Rattle.sketch_base.proofs.CsvBoth.{raw_csv_both}
 use Rattle.sketch_bloom.specs.State.{FilterState, all_inserted, inserted}
+use Rattle.sketches.specs.EndedText.{Prints, prints_none, prints_both}
 use Rattle.sketches.specs.RawLines.{raw_lines, raw_lines_of_parts}
 use Rattle.sketches.specs.Reading.{AreWholeLines, AreWholeRecords}
 use Rattle.sketches.specs.RecordParts.{raw_records_in, raws_by}
@@ -93,34 +93,24 @@ pub unseen_both : (repeated : Bool) (part : RecordPart) (filter : FilterState) (
 unseen_both repeated part filter [] ys = refl
 unseen_both repeated part filter (raw ∷ xs) ys =
     let mid : FilterState = with_items filter (item_of part raw) in
-    let first : List ℕ = if is_written repeated (is_seen filter (item_of part raw)) then raw else [] in
+    let first : List (List ℕ) = if is_written repeated (is_seen filter (item_of part raw)) then raw ∷ [] else [] in
     ap (λ l. first ++ l) (unseen_both repeated part mid xs ys ∙ ap (λ (s : FilterState). unseen_lines repeated part mid xs ++ unseen_lines repeated part s ys) (sym (items_both filter (item_of part raw) (flat_map (item_of part) xs))))
     ∙ sym (append_assoc first (unseen_lines repeated part mid xs) (unseen_lines repeated part (with_lines part filter (raw ∷ xs)) ys))
-
-pub appends_none : (held : Option (List ℕ)) → Appends held held []
-appends_none None = tt
-appends_none (Some xs) = sym (append-nil xs)
-
-pub appends_both : (a b c : Option (List ℕ)) (xs ys : List ℕ) → Appends a b xs → Appends b c ys → Appends a c (xs ++ ys)
-appends_both None b c xs ys first second = tt
-appends_both (Some a) None c xs ys first second = absurd first
-appends_both (Some a) (Some b) None xs ys first second = second
-appends_both (Some a) (Some b) (Some c) xs ys first second = second ∙ (ap (λ l. l ++ ys) first ∙ append_assoc a xs ys)
 
 -- ---- the laws of a sink that writes unseen records
 
 -- what the sink does with records
-abbrev TakesUnseen : (repeated : Bool) (part : RecordPart) (filter filter' : FilterState) (held holds : Option (List ℕ)) → List ℕ → (part' : RecordPart) (repeated' : Bool) → Type 0
-TakesUnseen repeated part filter filter' held holds bytes part' repeated' =
-    (filter' ≡ with_lines part filter (raws_by part bytes)) × Appends held holds (unseen_lines repeated part filter (raws_by part bytes)) × (part' ≡ part) × (repeated' ≡ repeated)
+abbrev TakesUnseen : (repeated : Bool) (part : RecordPart) (filter filter' : FilterState) (held holds : Option (List ℕ)) (unended unended' : Bool) → List ℕ → (part' : RecordPart) (repeated' : Bool) → Type 0
+TakesUnseen repeated part filter filter' held holds unended unended' bytes part' repeated' =
+    (filter' ≡ with_lines part filter (raws_by part bytes)) × Prints held holds unended unended' (unseen_lines repeated part filter (raws_by part bytes)) × (part' ≡ part) × (repeated' ≡ repeated)
 
-pub takes_nothing : (filter : FilterState) (part : RecordPart) (repeated : Bool) (held : Option (List ℕ))
-    → TakesUnseen repeated part filter filter held held [] part repeated
-takes_nothing filter part repeated held = rw (raws_none part) (refl, appends_none held, refl, refl)
+pub takes_nothing : (filter : FilterState) (part : RecordPart) (repeated : Bool) (held : Option (List ℕ)) (unended : Bool)
+    → TakesUnseen repeated part filter filter held held unended unended [] part repeated
+takes_nothing filter part repeated held unended = rw (raws_none part) (refl, prints_none held unended, refl, refl)
 
-pub takes_lines : (xs ys : List ℕ) (r : Bool) (p : RecordPart) → AreWholeRecords (splits_by p) xs → (r' : Bool) (p' : RecordPart) (r'' : Bool) (p'' : RecordPart) (a b c : FilterState) (held mid holds : Option (List ℕ))
-    → TakesUnseen r p a b held mid xs p' r' → TakesUnseen r' p' b c mid holds ys p'' r'' → TakesUnseen r p a c held holds (xs ++ ys) p'' r''
-takes_lines xs ys r p whole r' p' r'' p'' a b c held mid holds (filter, text, same_part, same_repeated) (filter', text', same_part', same_repeated') =
+pub takes_lines : (xs ys : List ℕ) (r : Bool) (p : RecordPart) → AreWholeRecords (splits_by p) xs → (r' : Bool) (p' : RecordPart) (r'' : Bool) (p'' : RecordPart) (a b c : FilterState) (held mid holds : Option (List ℕ)) (o o' o'' : Bool)
+    → TakesUnseen r p a b held mid o o' xs p' r' → TakesUnseen r' p' b c mid holds o' o'' ys p'' r'' → TakesUnseen r p a c held holds o o'' (xs ++ ys) p'' r''
+takes_lines xs ys r p whole r' p' r'' p'' a b c held mid holds o o' o'' (filter, text, same_part, same_repeated) (filter', text', same_part', same_repeated') =
     let here : List (List ℕ) = raws_by p xs in
     let there : List (List ℕ) = raws_by p ys in
     let both : raws_by p (xs ++ ys) ≡ here ++ there = raw_records_both (splits_by p) xs ys whole in
@@ -128,31 +118,30 @@ takes_lines xs ys r p whole r' p' r'' p'' a b c held mid holds (filter, text, sa
     let more : unseen_lines r' p' b (raws_by p' ys) ≡ unseen_lines r p (with_lines p a here) there =
     ap (λ (q : Bool). unseen_lines q p' b (raws_by p' ys)) same_repeated ∙ (ap (λ (q : RecordPart). unseen_lines r q b (raws_by q ys)) same_part ∙ ap (λ (s : FilterState). unseen_lines r p s there) filter) in (
       later ∙ sym (ap (with_lines p a) both ∙ with_both p a here there),
-      subst (Appends held holds) (ap (λ l. unseen_lines r p a here ++ l) more ∙ sym (ap (unseen_lines r p a) both ∙ unseen_both r p a here there))
-          (appends_both held mid holds _ _ text text'),
+      subst (Prints held holds o o'') (ap (λ l. unseen_lines r p a here ++ l) more ∙ sym (ap (unseen_lines r p a) both ∙ unseen_both r p a here there))
+          (prints_both held mid holds o o' o'' _ _ text text'),
       same_part' ∙ same_part,
       same_repeated' ∙ same_repeated,
     )
 
 -- ---- the same of records that are taken apart
 
-pub takes_no_lines : (filter : FilterState) (part : RecordPart) (repeated : Bool) (own : RecordPart) (held : List ℕ)
-    → (filter ≡ with_lines part filter []) × (held ≡ held ++ unseen_lines repeated part filter []) × (own ≡ own) × (repeated ≡ repeated)
-takes_no_lines filter part repeated own held = (refl, sym (append-nil held), refl, refl)
+pub takes_no_lines : (filter : FilterState) (part : RecordPart) (repeated : Bool) (own : RecordPart) (held : List ℕ) (unended : Bool)
+    → (filter ≡ with_lines part filter []) × Prints (Some held) (Some held) unended unended (unseen_lines repeated part filter []) × (own ≡ own) × (repeated ≡ repeated)
+takes_no_lines filter part repeated own held unended = (refl, prints_none (Some held) unended, refl, refl)
 
-abbrev TakesParted : (part : RecordPart) (repeated : Bool) (own : RecordPart) (filter filter' : FilterState) (held holds : List ℕ) → List (List ℕ) → (own' : RecordPart) (repeated' : Bool) → Type 0
-TakesParted part repeated own filter filter' held holds raws own' repeated' =
-    (filter' ≡ with_lines part filter raws) × (holds ≡ held ++ unseen_lines repeated part filter raws) × (own' ≡ own) × (repeated' ≡ repeated)
+abbrev TakesParted : (part : RecordPart) (repeated : Bool) (own : RecordPart) (filter filter' : FilterState) (held holds : List ℕ) (unended unended' : Bool) → List (List ℕ) → (own' : RecordPart) (repeated' : Bool) → Type 0
+TakesParted part repeated own filter filter' held holds unended unended' raws own' repeated' =
+    (filter' ≡ with_lines part filter raws) × Prints (Some held) (Some holds) unended unended' (unseen_lines repeated part filter raws) × (own' ≡ own) × (repeated' ≡ repeated)
 
-pub takes_more_lines : (xs ys : List (List ℕ)) (part : RecordPart) (r : Bool) (p : RecordPart) (r' : Bool) (p' : RecordPart) (r'' : Bool) (p'' : RecordPart) (a b c : FilterState) (held mid holds : List ℕ)
-    → TakesParted part r p a b held mid xs p' r' → TakesParted part r' p' b c mid holds ys p'' r'' → TakesParted part r p a c held holds (xs ++ ys) p'' r''
-takes_more_lines xs ys part r p r' p' r'' p'' a b c held mid holds (filter, text, same_part, same_repeated) (filter', text', same_part', same_repeated') =
+pub takes_more_lines : (xs ys : List (List ℕ)) (part : RecordPart) (r : Bool) (p : RecordPart) (r' : Bool) (p' : RecordPart) (r'' : Bool) (p'' : RecordPart) (a b c : FilterState) (held mid holds : List ℕ) (o o' o'' : Bool)
+    → TakesParted part r p a b held mid o o' xs p' r' → TakesParted part r' p' b c mid holds o' o'' ys p'' r'' → TakesParted part r p a c held holds o o'' (xs ++ ys) p'' r''
+takes_more_lines xs ys part r p r' p' r'' p'' a b c held mid holds o o' o'' (filter, text, same_part, same_repeated) (filter', text', same_part', same_repeated') =
     let more : unseen_lines r' part b ys ≡ unseen_lines r part (with_lines part a xs) ys =
     ap (λ (q : Bool). unseen_lines q part b ys) same_repeated ∙ ap (λ (s : FilterState). unseen_lines r part s ys) filter in (
       filter' ∙ (ap (λ (s : FilterState). with_lines part s ys) filter ∙ sym (with_both part a xs ys)),
-      text' ∙ (ap (λ l. l ++ unseen_lines r' part b ys) text
-          ∙ (append_assoc held (unseen_lines r part a xs) (unseen_lines r' part b ys)
-          ∙ ap (λ l. held ++ l) (ap (λ l. unseen_lines r part a xs ++ l) more ∙ sym (unseen_both r part a xs ys)))),
+      subst (Prints (Some held) (Some holds) o o'') (ap (λ l. unseen_lines r part a xs ++ l) more ∙ sym (unseen_both r part a xs ys))
+          (prints_both (Some held) (Some mid) (Some holds) o o' o'' _ _ text text'),
       same_part' ∙ same_part,
       same_repeated' ∙ same_repeated,
     )

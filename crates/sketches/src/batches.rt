@@ -1,10 +1,12 @@
 //! Passes records and their items to a sink, many at once, and writes some of them.
-ghost use Rattle.std.specs.Prelude.{◌≡◌, ◌≤◌, ◌<◌, ◌++◌, IfErr, OnOk, length, take};
+ghost use Rattle.std.specs.Prelude.{◌≡◌, ◌≤◌, ◌<◌, Some, IfErr, OnOk, length, take};
 ghost use Rattle.sketch_base.specs.Strings.{strings_at};
+ghost use Rattle.sketches.specs.EndedText.{Prints};
 ghost use Rattle.sketches.specs.RecordParts.{raws_by};
 ghost use Rattle.sketches.specs.Unseen.{AreNextLines, written_by};
 
 use crate::batch_sink::BatchSink;
+use crate::ended_text::EndedText;
 use crate::failure::Failure;
 use crate::records::next_record_with_end;
 use sketch_base::from_utf8;
@@ -95,10 +97,11 @@ pub fn write_batch(
     wanted: bool,
     raws: &[&[u8]],
     answers: &[bool],
-    written: &mut Vec<u8>,
+    written: &mut EndedText,
 ) -> Result<u64, Failure>
     requires { length answers.now ≡ length raws.now }
-    ensures written { OnOk result (written.new.items ≡ written.old.items ++ written_by wanted answers.now (strings_at raws.now)) }
+    ensures written { OnOk result (Prints (Some written.old.bytes.items) (Some written.new.bytes.items) written.old.unended written.new.unended
+        (written_by wanted answers.now (strings_at raws.now))) }
     ensures failed { IfErr result (λ failure. failure ≡ Failure.Memory) }
 {
     let mut left_out: u64 = 0;
@@ -107,7 +110,7 @@ pub fn write_batch(
             left_out = left_out.saturating_add(1);
             continue;
         }
-        written.extend_from_slice(raws[i])?;
+        written.push(raws[i])?;
     }
     Ok(left_out)
 }

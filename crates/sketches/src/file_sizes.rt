@@ -50,7 +50,8 @@ fn scaled(ended: u64, bytes: u64, read: u64) -> u64 {
     if read == 0 {
         return 0;
     }
-    let lines = u128::from(ended.saturating_add(1)) * u128::from(bytes.max(read)) / u128::from(read);
+    let lines = u128::from(ended.saturating_add(1)) * u128::from(bytes.max(read))
+        / u128::from(read);
     u64::try_from(lines).unwrap_or(u64::MAX)
 }
 

@@ -95,14 +95,7 @@ fn uniq_from(
                     "--state has a filter of another size than --items or --bits: leave them out, or name another file",
                 );
             }
-            uniq_after(
-                rt.alloc(),
-                options,
-                filter,
-                header,
-                files,
-                &mut rt.stdout(),
-            )
+            uniq_after(rt.alloc(), options, filter, header, files, &mut rt.stdout())
         }
         None => uniq(
             rt.alloc(),
@@ -115,13 +108,7 @@ fn uniq_from(
         ),
     };
     match ended(rt, matches, files, result) {
-        Ok((filter, status)) => {
-            if state.save(&filter) {
-                status
-            } else {
-                ERROR
-            }
-        }
+        Ok((filter, status)) => { if state.save(&filter) { status } else { ERROR } }
         Err(status) => status,
     }
 }
@@ -139,7 +126,13 @@ fn ended(
     };
     let what = "new items is taken for a repeated one";
     if !matches.get_flag("no-note") {
-        note(rt, units_of(matches), summary.left_out, &summary.filter, what);
+        note(
+            rt,
+            units_of(matches),
+            summary.left_out,
+            &summary.filter,
+            what,
+        );
     }
     warn_if_past(rt, &summary.filter, what);
     let status = u8::from(!summary.complete || files.has_failed());
@@ -195,7 +188,13 @@ pub fn run_join(rt: &HostRuntime, matches: &ArgMatches<'_>) -> u8 {
         Ok(summary) => {
             let what = "other items is taken for a key";
             if !matches.get_flag("no-note") {
-                note(rt, units_of(matches), summary.left_out, &summary.filter, what);
+                note(
+                    rt,
+                    units_of(matches),
+                    summary.left_out,
+                    &summary.filter,
+                    what,
+                );
             }
             warn_if_past(rt, &summary.filter, what);
             u8::from(!summary.complete || files.has_failed())
@@ -214,13 +213,7 @@ fn units_of(matches: &ArgMatches<'_>) -> (&'static str, &'static str) {
 }
 
 /// Prints how many lines or records were left out, how full the filter is, and its rate of false positives, under ideal hashes.
-fn note(
-    rt: &HostRuntime,
-    units: (&str, &str),
-    left_out: u64,
-    filter: &BloomFilter,
-    what: &str,
-) {
+fn note(rt: &HostRuntime, units: (&str, &str), left_out: u64, filter: &BloomFilter, what: &str) {
     let unit = if left_out == 1 { units.0 } else { units.1 };
     let percent = percent_of(filter);
     let _ = match questions_of(filter) {

@@ -1,14 +1,13 @@
 //! Where an image is saved: beside its file, under a name that no other file has, and then renamed.
 use crate::image_file::Saved;
 use crate::save::SaveFailure;
-use std::fs;
 use std::fs::{File, Permissions};
-use std::io;
 use std::io::ErrorKind;
 use std::os::unix::fs::OpenOptionsExt;
 use std::path::Path;
 use std::random::RandomSource;
 use std::rt::Files;
+use std::{fs, io};
 
 /// The maximum number of symbolic links that lead to a file, as for the system.
 const MAX_LINKS: u32 = 40;

@@ -6,6 +6,7 @@ ghost use Rattle.sketches.specs.JoinFailures.{FailsInsertion, FailsJoin, IsOfKey
 ghost use Rattle.sketches.specs.Joined.{WritesJoined, keys_of};
 ghost use Rattle.sketches.specs.Unseen.{with_items};
 
+use crate::ended_text::EndedText;
 use crate::failure::Failure;
 use crate::filter_size::{FilterSize, filter_of};
 use crate::header::write_header;
@@ -62,7 +63,7 @@ pub enum JoinFailure {
 /// not keys.
 ///
 /// An item may be a key if the filter that has taken all keys contains it. A record without an item is no key. The records are written
-/// as they are read, with their ends.
+/// as they are read, with their ends. One without an end gets a line feed if another one follows.
 ///
 /// # Errors
 ///
@@ -103,7 +104,10 @@ pub fn join<K: Read, I: Inputs, W: Write>(
         part: options.part,
         wanted: options.wanted,
         left_out: 0,
-        written: Vec::new(alloc),
+        written: EndedText {
+            bytes: Vec::new(alloc),
+            unended: false,
+        },
     };
     if let Err(failure) = write_header(header, writer) {
         return Err(JoinFailure::Lines(failure));

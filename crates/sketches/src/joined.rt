@@ -1,14 +1,15 @@
 //! Writes the records whose items a filter contains.
-ghost use Rattle.std.specs.Io.KnownBytes.{Appends};
-ghost use Rattle.std.specs.Prelude.{◌≡◌, ◌≤◌, ◌++◌, IfErr, OnOk, length, map};
+ghost use Rattle.std.specs.Prelude.{◌≡◌, ◌≤◌, Some, IfErr, OnOk, length, map};
 ghost use Rattle.sketch_base.specs.Strings.{strings_at};
 ghost use Rattle.sketch_bloom.specs.State.{contains_item};
+ghost use Rattle.sketches.specs.EndedText.{Prints};
 ghost use Rattle.sketches.specs.Joined.{joined_lines};
 ghost use Rattle.sketches.specs.RecordParts.{raws_by};
 ghost use Rattle.sketches.specs.Unseen.{hashed, written_by};
 
 use crate::batch_sink::BatchSink;
 use crate::batches::{BATCH, take_batches, write_batch};
+use crate::ended_text::EndedText;
 use crate::failure::Failure;
 use crate::line_items::contains_record;
 use crate::line_sink::LineSink;
@@ -27,7 +28,7 @@ pub struct JoinedLines {
     /// The number of records that were not written, at most `u64::MAX`.
     pub left_out: u64,
     /// The records that are written next.
-    pub written: Vec<u8>,
+    pub written: EndedText,
 }
 
 impl<W: Write> LineSink<W> for JoinedLines {
@@ -38,17 +39,17 @@ impl<W: Write> LineSink<W> for JoinedLines {
 
     ghost splits = { λ s. splits_by s.part };
 
-    ghost takes = { λ old bytes new. Appends (W.contents old.1) (W.contents new.1) (joined_lines old.0.wanted old.0.part old.0.filter (raws_by old.0.part bytes))
+    ghost takes = { λ old bytes new. Prints (W.contents old.1) (W.contents new.1) old.0.written.unended new.0.written.unended (joined_lines old.0.wanted old.0.part old.0.filter (raws_by old.0.part bytes))
         × (new.0.filter ≡ old.0.filter) × (new.0.part ≡ old.0.part) × (new.0.wanted ≡ old.0.wanted) };
 
     ghost fails = { λ old bytes failure. FailsWriting failure };
 
     ghost takes_same = { λ r s xs taken. ap splits_by taken.2 };
 
-    ghost takes_none = { λ s. lines_none s.0.wanted s.0.part s.0.filter (W.contents s.1) };
+    ghost takes_none = { λ s. lines_none s.0.wanted s.0.part s.0.filter (W.contents s.1) s.0.written.unended };
 
     ghost takes_both = { λ r s t xs ys whole. lines_both xs ys r.0.wanted r.0.part whole s.0.wanted s.0.part t.0.wanted t.0.part
-        r.0.filter s.0.filter t.0.filter (W.contents r.1) (W.contents s.1) (W.contents t.1) };
+        r.0.filter s.0.filter t.0.filter (W.contents r.1) (W.contents s.1) (W.contents t.1) r.0.written.unended s.0.written.unended t.0.written.unended };
 
     ghost fails_sooner = { λ r xs ys e whole fails. fails };
 
@@ -59,10 +60,10 @@ impl<W: Write> LineSink<W> for JoinedLines {
     }
 
     fn take(&mut self, alloc: Global, output: &mut W, bytes: &[u8]) -> Result<(), Failure> {
-        self.written.clear();
+        self.written.bytes.clear();
         let part = self.part;
         take_batches(alloc, self, part, bytes)?;
-        match output.write_all(&self.written) {
+        match output.write_all(&self.written.bytes) {
             Ok(()) => Ok(()),
             Err(e) => Err(Failure::Write(e)),
         }
@@ -72,13 +73,13 @@ impl<W: Write> LineSink<W> for JoinedLines {
 impl BatchSink for JoinedLines {
     ghost use Rattle.sketches.specs.JoinedLaws.{joined_none, joined_more};
 
-    ghost takes = { λ part old raws new. (new.written.items ≡ old.written.items ++ joined_lines old.wanted part old.filter raws)
+    ghost takes = { λ part old raws new. Prints (Some old.written.bytes.items) (Some new.written.bytes.items) old.written.unended new.written.unended (joined_lines old.wanted part old.filter raws)
         × (new.filter ≡ old.filter) × (new.part ≡ old.part) × (new.wanted ≡ old.wanted) };
 
-    ghost takes_none = { λ part s. joined_none part s.part s.wanted s.filter s.written.items };
+    ghost takes_none = { λ part s. joined_none part s.part s.wanted s.filter s.written.bytes.items s.written.unended };
 
     ghost takes_both = { λ part r s t xs ys. joined_more xs ys part r.part r.wanted s.part s.wanted t.part t.wanted
-        r.filter s.filter t.filter r.written.items s.written.items t.written.items };
+        r.filter s.filter t.filter r.written.bytes.items s.written.bytes.items t.written.bytes.items r.written.unended s.written.unended t.written.unended };
 
     #[inline(always)]
     fn take_batch(
@@ -101,7 +102,7 @@ impl BatchSink for JoinedLines {
         row: &[u8],
     ) -> Result<(), Failure> {
         if contains_record(alloc, &self.filter, part, row)? == self.wanted {
-            self.written.extend_from_slice(raw)?;
+            self.written.push(raw)?;
         } else {
             self.left_out = self.left_out.saturating_add(1);
         }
@@ -120,12 +121,12 @@ fn join_batch(
     wanted: bool,
     raws: &[&[u8]],
     items: &[&str],
-    written: &mut Vec<u8>,
+    written: &mut EndedText,
 ) -> Result<u64, Failure>
     requires few { length raws.now ≤ BATCH }
     requires same { length items.now ≡ length raws.now }
-    ensures written { OnOk result (written.new.items ≡ written.old.items
-        ++ written_by wanted (map (contains_item filter.now) (map hashed (strings_at items.now))) (strings_at raws.now)) }
+    ensures written { OnOk result (Prints (Some written.old.bytes.items) (Some written.new.bytes.items) written.old.unended written.new.unended
+        (written_by wanted (map (contains_item filter.now) (map hashed (strings_at items.now))) (strings_at raws.now))) }
     ensures failed { IfErr result (λ failure. failure ≡ Failure.Memory) }
 {
     let mut answers = [false; BATCH];

@@ -21,6 +21,7 @@ mod counting;
 mod csv_header;
 mod csv_items;
 mod csv_options;
+mod ended_text;
 mod failure;
 mod file_sizes;
 mod files;

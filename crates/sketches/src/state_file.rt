@@ -4,12 +4,11 @@ use crate::image_file::{is_special, report, save};
 use crate::image_place::target_of;
 use crate::images::ImageFailure;
 use sketch_bloom::BloomFilter;
-use std::fs;
 use std::fs::{File, TryLockError};
-use std::io;
 use std::io::ErrorKind;
 use std::os::unix::fs::MetadataExt;
 use std::rt::Files;
+use std::{fs, io};
 
 /// The maximum number of times that a file is opened until it is locked and still has its name.
 const MAX_TRIES: u32 = 1_000_000;

@@ -5,6 +5,7 @@ ghost use Rattle.sketches.specs.Failures.{FailsWrittenLines, FailsUniq};
 ghost use Rattle.sketches.specs.FilterSizes.{HasNoSize, IsFilterOf};
 ghost use Rattle.sketches.specs.Unseen.{WritesUnseen};
 
+use crate::ended_text::EndedText;
 use crate::failure::Failure;
 use crate::filter_size::{FilterSize, filter_of};
 use crate::header::write_header;
@@ -42,7 +43,7 @@ pub struct Summary {
 /// a new one of this size and seed.
 ///
 /// An item was seen before if the filter that has taken the items of all records before contains it. A record without an item was not
-/// seen before. The records are written as they are read, with their ends.
+/// seen before. The records are written as they are read, with their ends. One without an end gets a line feed if another one follows.
 ///
 /// # Errors
 ///
@@ -95,7 +96,10 @@ pub fn uniq_after<I: Inputs, W: Write>(
         part: options.part,
         repeated: options.repeated,
         left_out: 0,
-        written: Vec::new(alloc),
+        written: EndedText {
+            bytes: Vec::new(alloc),
+            unended: false,
+        },
     };
     let limit = options.max_line as usize + 1;
     let mut buffer = vec![in alloc; 0; limit.min(BLOCK)]?;

@@ -1,13 +1,14 @@
 //! Writes the records whose items were not seen before.
-ghost use Rattle.std.specs.Io.KnownBytes.{Appends};
-ghost use Rattle.std.specs.Prelude.{◌≡◌, ◌≤◌, ◌++◌, IfErr, OnOk, length, map};
+ghost use Rattle.std.specs.Prelude.{◌≡◌, ◌≤◌, Some, IfErr, OnOk, length, map};
 ghost use Rattle.sketch_base.specs.Strings.{strings_at};
 ghost use Rattle.sketch_bloom.specs.State.{all_inserted, answers_in_turn};
+ghost use Rattle.sketches.specs.EndedText.{Prints};
 ghost use Rattle.sketches.specs.RecordParts.{raws_by};
 ghost use Rattle.sketches.specs.Unseen.{hashed, unseen_lines, with_lines, written_by};
 
 use crate::batch_sink::BatchSink;
 use crate::batches::{BATCH, take_batches, write_batch};
+use crate::ended_text::EndedText;
 use crate::failure::Failure;
 use crate::line_items::insert_record;
 use crate::line_sink::LineSink;
@@ -26,7 +27,7 @@ pub struct UnseenLines {
     /// The number of records that were not written, at most `u64::MAX`.
     pub left_out: u64,
     /// The records that are written next.
-    pub written: Vec<u8>,
+    pub written: EndedText,
 }
 
 impl<W: Write> LineSink<W> for UnseenLines {
@@ -38,17 +39,17 @@ impl<W: Write> LineSink<W> for UnseenLines {
     ghost splits = { λ s. splits_by s.part };
 
     ghost takes = { λ old bytes new. (new.0.filter ≡ with_lines old.0.part old.0.filter (raws_by old.0.part bytes))
-        × Appends (W.contents old.1) (W.contents new.1) (unseen_lines old.0.repeated old.0.part old.0.filter (raws_by old.0.part bytes))
+        × Prints (W.contents old.1) (W.contents new.1) old.0.written.unended new.0.written.unended (unseen_lines old.0.repeated old.0.part old.0.filter (raws_by old.0.part bytes))
         × (new.0.part ≡ old.0.part) × (new.0.repeated ≡ old.0.repeated) };
 
     ghost fails = { λ old bytes failure. FailsWriting failure };
 
     ghost takes_same = { λ r s xs taken. ap splits_by taken.2 };
 
-    ghost takes_none = { λ s. takes_nothing s.0.filter s.0.part s.0.repeated (W.contents s.1) };
+    ghost takes_none = { λ s. takes_nothing s.0.filter s.0.part s.0.repeated (W.contents s.1) s.0.written.unended };
 
     ghost takes_both = { λ r s t xs ys whole. takes_lines xs ys r.0.repeated r.0.part whole s.0.repeated s.0.part t.0.repeated t.0.part
-        r.0.filter s.0.filter t.0.filter (W.contents r.1) (W.contents s.1) (W.contents t.1) };
+        r.0.filter s.0.filter t.0.filter (W.contents r.1) (W.contents s.1) (W.contents t.1) r.0.written.unended s.0.written.unended t.0.written.unended };
 
     ghost fails_sooner = { λ r xs ys e whole fails. fails };
 
@@ -59,10 +60,10 @@ impl<W: Write> LineSink<W> for UnseenLines {
     }
 
     fn take(&mut self, alloc: Global, output: &mut W, bytes: &[u8]) -> Result<(), Failure> {
-        self.written.clear();
+        self.written.bytes.clear();
         let part = self.part;
         take_batches(alloc, self, part, bytes)?;
-        match output.write_all(&self.written) {
+        match output.write_all(&self.written.bytes) {
             Ok(()) => Ok(()),
             Err(e) => Err(Failure::Write(e)),
         }
@@ -73,13 +74,13 @@ impl BatchSink for UnseenLines {
     ghost use Rattle.sketches.specs.UnseenLaws.{takes_no_lines, takes_more_lines};
 
     ghost takes = { λ part old raws new. (new.filter ≡ with_lines part old.filter raws)
-        × (new.written.items ≡ old.written.items ++ unseen_lines old.repeated part old.filter raws)
+        × Prints (Some old.written.bytes.items) (Some new.written.bytes.items) old.written.unended new.written.unended (unseen_lines old.repeated part old.filter raws)
         × (new.part ≡ old.part) × (new.repeated ≡ old.repeated) };
 
-    ghost takes_none = { λ part s. takes_no_lines s.filter part s.repeated s.part s.written.items };
+    ghost takes_none = { λ part s. takes_no_lines s.filter part s.repeated s.part s.written.bytes.items s.written.unended };
 
     ghost takes_both = { λ part r s t xs ys. takes_more_lines xs ys part r.repeated r.part s.repeated s.part t.repeated t.part
-        r.filter s.filter t.filter r.written.items s.written.items t.written.items };
+        r.filter s.filter t.filter r.written.bytes.items s.written.bytes.items t.written.bytes.items r.written.unended s.written.unended t.written.unended };
 
     #[inline(always)]
     fn take_batch(
@@ -108,7 +109,7 @@ impl BatchSink for UnseenLines {
         row: &[u8],
     ) -> Result<(), Failure> {
         if insert_record(alloc, &mut self.filter, part, row)? == self.repeated {
-            self.written.extend_from_slice(raw)?;
+            self.written.push(raw)?;
         } else {
             self.left_out = self.left_out.saturating_add(1);
         }
@@ -128,12 +129,12 @@ fn choose_batch(
     repeated: bool,
     raws: &[&[u8]],
     items: &[&str],
-    written: &mut Vec<u8>,
+    written: &mut EndedText,
 ) -> Result<u64, Failure>
     requires few { length raws.now ≤ BATCH }
     requires same { length items.now ≡ length raws.now }
-    ensures written { OnOk result (written.new.items ≡ written.old.items
-        ++ written_by repeated (answers_in_turn filter.old (map hashed (strings_at items.now))) (strings_at raws.now)) }
+    ensures written { OnOk result (Prints (Some written.old.bytes.items) (Some written.new.bytes.items) written.old.unended written.new.unended
+        (written_by repeated (answers_in_turn filter.old (map hashed (strings_at items.now))) (strings_at raws.now))) }
     ensures filter { filter.new ≡ all_inserted filter.old (map hashed (strings_at items.now)) }
     ensures failed { IfErr result (λ failure. failure ≡ Failure.Memory) }
 {

@@ -1,4 +1,5 @@
-use Rattle.std.proofs.Common.{◌<◌, ◌++◌, length, get_or, false, ◌∙◌, sym, ap, arith}
+use Rattle.std.proofs.Common.{◌≡◌, ◌<◌, ◌∷◌, [], ℕ, List, length, get_or, false, ◌∙◌, sym, ap, subst, Some, arith}
+use Rattle.sketches.specs.EndedText.{Prints}
 use Rattle.sketches.proofs.Batching.{write_step, write_skip, not_true, not_false}
 use Rattle.sketches.proofs.Choosing.{skips_it, writes_it}
 use Rattle.sketches.proofs.batches.write_batch.Goals as goal
@@ -7,12 +8,13 @@ pub each-preserved-then-answers-i : goal.each-preserved-then-answers-i
 each-preserved-then-answers-i c =
     let less : c.each.i < length c.args.answers.now = omega (arith, c.each-test.true, c.requires) in
     let answer = get_or c.args.answers.now c.each.i false in
-    write_skip c.args.wanted c.args.answers.now c.args.raws.now c.each.i false _ c.each.written.items less c.each-test.true c.each.invariant
+    write_skip c.args.wanted c.args.answers.now c.args.raws.now c.each.i false _ c.each.written.bytes.items _ c.each.written.unended less c.each-test.true c.each.invariant
     (λ raw. skips_it c.args.wanted answer raw (not_true _ c.if-answers-i.true))
 
 pub each-preserved : goal.each-preserved
 each-preserved c =
     let less : c.each.i < length c.args.answers.now = omega (arith, c.each-test.true, c.requires) in
     let answer = get_or c.args.answers.now c.each.i false in
-    write_step c.args.wanted c.args.answers.now c.args.raws.now c.each.i false _ _ c.each.written.items c.extend_from_slice.new.self.items less c.each-test.true c.each.invariant
-    (c.in_ok-extend_from_slice.ensures.items ∙ ap (λ l. c.each.written.items ++ l) (sym (writes_it c.args.wanted answer _ (not_false _ c.if-answers-i.false))))
+    write_step c.args.wanted c.args.answers.now c.args.raws.now c.each.i false _ _ c.each.written.bytes.items c.push.new.self.bytes.items _ c.each.written.unended c.push.new.self.unended less c.each-test.true c.each.invariant
+    (subst (Prints (Some c.each.written.bytes.items) (Some c.push.new.self.bytes.items) c.each.written.unended c.push.new.self.unended)
+    (sym (writes_it c.args.wanted answer _ (not_false _ c.if-answers-i.false))) c.in_ok-push.ensures)

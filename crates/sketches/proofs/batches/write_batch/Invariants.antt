@@ -1,7 +1,11 @@
-use Rattle.std.proofs.Common.{◌≡◌, ◌++◌, drop}
+use Rattle.std.proofs.Common.{◌++◌, drop}
 use Rattle.sketch_base.specs.Strings.{strings_at}
+use Rattle.sketches.specs.EndedText.{is_unended_after, text_of}
 use Rattle.sketches.specs.Unseen.{written_by}
+use Rattle.sketches.proofs.Batching.{Leaves}
 use Rattle.sketches.proofs.batches.write_batch.Given as goal
 
 abbrev pub invariant-each : goal.invariant-each
-invariant-each l = l.initial.written.items ++ written_by l.wanted l.answers (strings_at l.raws) ≡ l.written.items ++ written_by l.wanted (drop l.i l.answers) (strings_at (drop l.i l.raws))
+invariant-each l =
+    Leaves (l.initial.written.bytes.items ++ text_of l.initial.written.unended (written_by l.wanted l.answers (strings_at l.raws))) (is_unended_after l.initial.written.unended (written_by l.wanted l.answers (strings_at l.raws)))
+    l.written.bytes.items l.written.unended (written_by l.wanted (drop l.i l.answers) (strings_at (drop l.i l.raws)))
