@@ -10,7 +10,7 @@ use crate::weighing::CsvPart;
 use std::alloc::AllocError;
 use std::fs::File;
 use std::io;
-use std::io::{Read, Stdin};
+use std::io::{ErrorKind, Read, Stdin};
 
 /// A file or standard input.
 #[derive(Drop)]
@@ -61,6 +61,13 @@ struct Columns<'a> {
     options: CsvOptions<'a>,
     part: CsvPart,
     limit: usize,
+}
+
+/// The header of the first file that can be read, and the file after it.
+#[derive(Drop)]
+enum FirstHeader {
+    Read(Headed, Input),
+    NoFile,
 }
 
 /// Files that are opened one after another. A file that cannot be read is reported on standard error.
@@ -121,13 +128,13 @@ impl<'r, 's, 'n> Files<'r, 's, 'n> {
                 weight: options.weight.map(|column| index_of(column)),
             });
         }
-        let part = match self.first_header(options.delimiter, limit) {
-            Some((headed, input)) => {
+        let part = match self.first_header(options.delimiter, limit)? {
+            FirstHeader::Read(headed, input) => {
                 let part = self.part_of(&headed, options);
                 self.first = Some(headed.into_rest(input));
                 part?
             }
-            None => CsvPart {
+            FirstHeader::NoFile => CsvPart {
                 delimiter: options.delimiter,
                 item: 0,
                 weight: None,
@@ -154,17 +161,23 @@ impl<'r, 's, 'n> Files<'r, 's, 'n> {
         Ok(header)
     }
 
-    /// Opens the first file that can be read, and reads its header. Returns `None` if there is none.
-    fn first_header(&mut self, delimiter: u8, limit: usize) -> Option<(Headed, Input)> {
+    /// Opens the first file that can be read, and reads its header. Returns `None` after a message if the header is too long.
+    fn first_header(&mut self, delimiter: u8, limit: usize) -> Option<FirstHeader> {
         let names = self.names;
         for at in self.next..names.len() {
             self.next = at + 1;
             match open_headed(self.rt, names[at], delimiter, limit) {
-                Ok(opened) => return Some(opened),
-                Err(error) => self.report(error),
+                Ok((headed, input)) => return Some(FirstHeader::Read(headed, input)),
+                Err(error) => {
+                    let is_long = error.kind() == ErrorKind::InvalidData;
+                    self.report(error);
+                    if is_long {
+                        return None;
+                    }
+                }
             }
         }
-        None
+        Some(FirstHeader::NoFile)
     }
 
     /// Returns the fields of a header that the options choose. Returns `None` after a message if it does not have a name.
@@ -329,6 +342,14 @@ impl<'r, 's, 'n> Inputs for Files<'r, 's, 'n> {
 
     fn report(&mut self, error: io::Error) {
         self.failed = true;
-        let _ = eprintln!(self.rt; "sketches: {}: {error}", self.current());
+        // A header has no other error of this kind.
+        let _ = if error.kind() == ErrorKind::InvalidData {
+            eprintln!(self.rt;
+                "sketches: {}: a line is longer than --max-line",
+                self.current()
+            )
+        } else {
+            eprintln!(self.rt; "sketches: {}: {error}", self.current())
+        };
     }
 }

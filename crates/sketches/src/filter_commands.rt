@@ -3,8 +3,10 @@ use crate::failure::Failure;
 use crate::file_sizes::{lines_of_files, size_of_file};
 use crate::files::{Files, open};
 use crate::filter_options::{BAD_FILTER, DEFAULT_ITEMS, has_size, items_for, size_of};
-use crate::filter_size::{has_size_of, is_past, percent_of, questions_of};
+use crate::filter_size::{FilterSize, filter_of, has_size_of, is_past, percent_of, questions_of};
 use crate::image_commands::end as end_of_images;
+use crate::image_file::report;
+use crate::images::ImageFailure;
 use crate::join::{JoinFailure, JoinOptions, join};
 use crate::keyed_options::{open_keys, reads_input_twice};
 use crate::keys::{key_of, seed_of};
@@ -17,6 +19,9 @@ use clap::ArgMatches;
 use sketch_base::records::RecordPart;
 use sketch_bloom::BloomFilter;
 use sketch_frequencies::TableKey;
+
+/// The maximum number of times that a state is looked up and created.
+const MAX_TRIES: u32 = 1000;
 
 /// Runs `sketches uniq`. Returns the status.
 pub fn run_uniq(rt: &HostRuntime, matches: &ArgMatches<'_>) -> u8 {
@@ -61,56 +66,89 @@ pub fn run_uniq(rt: &HostRuntime, matches: &ArgMatches<'_>) -> u8 {
     if name == "-" {
         return fail(rt, "--state must name a file");
     }
-    let mut state = match StateFile::lock(rt, name) {
-        Ok(state) => state,
-        Err(failure) => return end_of_images(rt, failure, name),
-    };
-    let status = uniq_from(rt, matches, options, key, &header, &mut files, &mut state);
-    state.end();
-    status
+    uniq_from(rt, matches, options, key, name, &header, &mut files)
 }
 
-/// Runs `uniq` from the filter of a state, or from a new one, and keeps the filter in the state. Returns the status.
+/// Runs `uniq` from the filter in the file of a name, or from a new one, and keeps the filter there. Returns the status.
 fn uniq_from(
     rt: &HostRuntime,
     matches: &ArgMatches<'_>,
     options: UniqOptions,
     key: TableKey,
+    name: &str,
     header: &[u8],
     files: &mut Files<'_, '_, '_>,
-    state: &mut StateFile<'_>,
 ) -> u8 {
-    let kept = match state.load(number_of(matches, "max-bytes")) {
-        Ok(kept) => kept,
-        Err(failure) => {
-            return end_of_images(rt, failure, matches.get_str("state").unwrap_or("-"));
-        }
-    };
     let size = size_of(matches, items_for(lines_of_files(rt, files.names())));
-    let result = match kept {
-        Some(filter) => {
-            if has_size(matches) && !has_size_of(&filter, size) {
-                return fail(
-                    rt,
-                    "--state has a filter of another size than --items or --bits: leave them out, or name another file",
-                );
-            }
-            uniq_after(rt.alloc(), options, filter, header, files, &mut rt.stdout())
-        }
-        None => uniq(
-            rt.alloc(),
-            options,
-            size,
-            seed_of(key),
-            header,
-            files,
-            &mut rt.stdout(),
-        ),
+    let (mut state, filter) = match state_of(rt, matches, name, size, seed_of(key)) {
+        Ok(state) => state,
+        Err(status) => return status,
     };
-    match ended(rt, matches, files, result) {
+    let outcome = uniq_after(rt.alloc(), options, filter, header, files, &mut rt.stdout());
+    let status = match ended(rt, matches, files, outcome) {
         Ok((filter, status)) => { if state.save(&filter) { status } else { ERROR } }
         Err(status) => status,
+    };
+    state.end();
+    status
+}
+
+/// Locks the file of a state, and returns it with its filter. Creates it with an empty filter of a size and a seed if there is none.
+/// Returns the status after a message if that fails.
+fn state_of<'r>(
+    rt: &'r HostRuntime,
+    matches: &ArgMatches<'_>,
+    name: &str,
+    size: FilterSize,
+    seed: u64,
+) -> Result<(StateFile<'r>, BloomFilter), u8> {
+    for _ in 0..MAX_TRIES {
+        match StateFile::lock(rt, name) {
+            Ok(Some(state)) => {
+                let filter = kept_filter(rt, matches, name, size, &state)?;
+                return Ok((state, filter));
+            }
+            Ok(None) => {}
+            Err(error) => {
+                return Err(end_of_images(rt, ImageFailure::Read(error), name));
+            }
+        }
+        let empty = match filter_of(rt.alloc(), size, seed) {
+            Ok(empty) => empty,
+            Err(failure) => return Err(end(rt, failure, name, BAD_FILTER)),
+        };
+        match StateFile::create(rt, name, &empty) {
+            Ok(Some(state)) => return Ok((state, empty)),
+            Ok(None) => {}
+            Err(failure) => {
+                report(rt, name, failure);
+                return Err(ERROR);
+            }
+        }
     }
+    Err(fail(rt, "--state: other runs create and remove the file"))
+}
+
+/// Returns the filter in the file of a state. Returns the status after a message if it cannot be read, or has not the size that the
+/// options name.
+fn kept_filter(
+    rt: &HostRuntime,
+    matches: &ArgMatches<'_>,
+    name: &str,
+    size: FilterSize,
+    state: &StateFile<'_>,
+) -> Result<BloomFilter, u8> {
+    let filter = match state.load(number_of(matches, "max-bytes")) {
+        Ok(filter) => filter,
+        Err(failure) => return Err(end_of_images(rt, failure, name)),
+    };
+    if has_size(matches) && !has_size_of(&filter, size) {
+        return Err(fail(
+            rt,
+            "--state has a filter of another size than --items or --bits: leave them out, or name another file",
+        ));
+    }
+    Ok(filter)
 }
 
 /// Prints how a run of `uniq` ended. Returns its filter and its status, or the status of an error.

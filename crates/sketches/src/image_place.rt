@@ -58,7 +58,7 @@ pub fn replace<S: Saved>(rt: &HostRuntime, value: &S, name: &str) -> Result<(), 
 }
 
 /// Creates a file beside another one, under a new name: never over a file, and never through a link.
-fn create_beside(rt: &HostRuntime, name: &str, is_private: bool) -> io::Result<(File, String)> {
+pub fn create_beside(rt: &HostRuntime, name: &str, is_private: bool) -> io::Result<(File, String)> {
     let mode = if is_private { PRIVATE } else { DEFAULT };
     for _ in 0..MAX_TRIES {
         let from = new_name(rt, name)?;

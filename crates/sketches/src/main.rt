@@ -133,7 +133,7 @@ fn run(rt: &HostRuntime) -> u8 {
         },
         Err(error) => match error.print(rt) {
             Ok(()) => error.exit_code() as u8,
-            Err(_) => ERROR,
+            Err(failed) => end_of_output(rt, failed),
         },
     }
 }
@@ -204,11 +204,13 @@ fn run_top(rt: &HostRuntime, matches: &ArgMatches<'_>) -> u8 {
 
 /// Prints how many lines are not UTF-8, if any.
 fn note_not_utf8(rt: &HostRuntime, lines: u64) {
-    if lines > 0 {
-        let _ = eprintln!(rt;
+    let _ = match lines {
+        0 => Ok(()),
+        1 => eprintln!(rt; "sketches: 1 line is not UTF-8: its bytes are shown as U+FFFD"),
+        _ => eprintln!(rt;
             "sketches: {lines} lines are not UTF-8: their bytes are shown as U+FFFD"
-        );
-    }
+        ),
+    };
 }
 
 /// Returns the maximum number of bytes of a line.

@@ -1,8 +1,9 @@
 //! The file that keeps the filter of `uniq` between runs. One run at a time uses it.
 use crate::filter_image::read_filter;
 use crate::image_file::{is_special, report, save};
-use crate::image_place::target_of;
+use crate::image_place::{create_beside, target_of};
 use crate::images::ImageFailure;
+use crate::save::{SaveFailure, write_filter};
 use sketch_bloom::BloomFilter;
 use std::fs::{File, TryLockError};
 use std::io::ErrorKind;
@@ -13,7 +14,7 @@ use std::{fs, io};
 /// The maximum number of times that a file is opened until it is locked and still has its name.
 const MAX_TRIES: u32 = 1_000_000;
 
-/// A file of a state, which is locked until this is dropped. A file that is not regular, as a device, is not locked.
+/// A file with the filter of a state, which is locked until this is dropped. A file that is not regular, as a device, is not locked.
 #[derive(Drop)]
 pub struct StateFile<'r> {
     rt: &'r HostRuntime,
@@ -26,33 +27,74 @@ pub struct StateFile<'r> {
 }
 
 impl<'r> StateFile<'r> {
-    /// Locks the file of a name, which is created if there is none. Waits, after a message, while another run uses it.
+    /// Locks the file of a name. Waits, after a message, while another run uses it. Returns `None` if there is no file.
     ///
     /// # Errors
     ///
-    /// Returns `Read` if the file cannot be opened, created or locked.
-    pub fn lock(rt: &'r HostRuntime, name: &str) -> Result<StateFile<'r>, ImageFailure> {
-        match locked(rt, name) {
-            Ok(state) => Ok(state),
-            Err(error) => Err(ImageFailure::Read(error)),
+    /// Returns an error if the file cannot be opened or locked.
+    pub fn lock(rt: &'r HostRuntime, name: &str) -> io::Result<Option<StateFile<'r>>> {
+        let target = target_of(rt, name)?;
+        if is_special(rt, target.as_str()) {
+            return Ok(Some(StateFile {
+                rt,
+                name: target,
+                locked: None,
+                is_new: false,
+            }));
         }
+        for _ in 0..MAX_TRIES {
+            let file = match File::open(rt, target.as_str()) {
+                Ok(file) => file,
+                Err(error) if error.kind() == ErrorKind::NotFound => return Ok(None),
+                Err(error) => return Err(error),
+            };
+            wait_for(rt, &file, name)?;
+            if has_name(rt, &file, target.as_str()) {
+                return Ok(Some(StateFile {
+                    rt,
+                    name: target,
+                    locked: Some(file),
+                    is_new: false,
+                }));
+            }
+        }
+        Err(io::Error::from(ErrorKind::WouldBlock))
     }
 
-    /// Returns the filter in the file, or `None` if it has no bytes, as a new one has.
+    /// Creates the file of a name with an empty filter, and locks it. Returns `None` if there is a file by now.
+    ///
+    /// # Errors
+    ///
+    /// Returns those of [`write_filter`], and `Write` if the file cannot be created or locked.
+    pub fn create(
+        rt: &'r HostRuntime,
+        name: &str,
+        empty: &BloomFilter,
+    ) -> Result<Option<StateFile<'r>>, SaveFailure> {
+        let target = target_of(rt, name)?;
+        let (mut file, from) = create_beside(rt, target.as_str(), false)?;
+        let linked = link(rt, empty, &mut file, from.as_str(), target.as_str());
+        let _ = fs::remove_file(rt, from.as_str());
+        if !linked? {
+            return Ok(None);
+        }
+        Ok(Some(StateFile {
+            rt,
+            name: target,
+            locked: Some(file),
+            is_new: true,
+        }))
+    }
+
+    /// Returns the filter in the file.
     ///
     /// # Errors
     ///
     /// Returns those of [`read_filter`].
-    pub fn load(&self, limit: usize) -> Result<Option<BloomFilter>, ImageFailure> {
-        let name = self.name.as_str();
-        match self.rt.metadata(name) {
-            Ok(metadata) if metadata.is_file() && metadata.len() == 0 => return Ok(None),
-            Ok(_) => {}
-            Err(error) if error.kind() == ErrorKind::NotFound => return Ok(None),
-            Err(error) => return Err(ImageFailure::Read(error)),
-        }
-        match read_filter(self.rt.alloc(), limit, File::open(self.rt, name)) {
-            Ok(filter) => Ok(Some(filter)),
+    pub fn load(&self, limit: usize) -> Result<BloomFilter, ImageFailure> {
+        let opened = File::open(self.rt, self.name.as_str());
+        match read_filter(self.rt.alloc(), limit, opened) {
+            Ok(filter) => Ok(filter),
             Err(failure) => Err(failure),
         }
     }
@@ -86,45 +128,20 @@ impl<'r> StateFile<'r> {
     }
 }
 
-/// Locks the file of a name.
-fn locked<'r>(rt: &'r HostRuntime, name: &str) -> io::Result<StateFile<'r>> {
-    let target = target_of(rt, name)?;
-    if is_special(rt, target.as_str()) {
-        return Ok(StateFile {
-            rt,
-            name: target,
-            locked: None,
-            is_new: false,
-        });
-    }
-    for _ in 0..MAX_TRIES {
-        let Some((file, is_new)) = open_or_create(rt, target.as_str())? else {
-            continue;
-        };
-        wait_for(rt, &file, name)?;
-        if has_name(rt, &file, target.as_str()) {
-            return Ok(StateFile {
-                rt,
-                name: target,
-                locked: Some(file),
-                is_new,
-            });
-        }
-    }
-    Err(io::Error::from(ErrorKind::WouldBlock))
-}
-
-/// Opens a file, or creates it if there is none. Returns also whether it was created, or `None` if another run created it meanwhile.
-fn open_or_create(rt: &HostRuntime, name: &str) -> io::Result<Option<(File, bool)>> {
-    match File::open(rt, name) {
-        Ok(file) => return Ok(Some((file, false))),
-        Err(error) if error.kind() == ErrorKind::NotFound => {}
-        Err(error) => return Err(error),
-    }
-    match File::create_new(rt, name) {
-        Ok(file) => Ok(Some((file, true))),
-        Err(error) if error.kind() == ErrorKind::AlreadyExists => Ok(None),
-        Err(error) => Err(error),
+/// Writes the image of an empty filter to a file, locks it, and gives it a name that no file has. Returns whether it got the name.
+fn link(
+    rt: &HostRuntime,
+    empty: &BloomFilter,
+    file: &mut File,
+    from: &str,
+    to: &str,
+) -> Result<bool, SaveFailure> {
+    write_filter(empty, file)?;
+    file.lock()?;
+    match fs::hard_link(rt, from, to) {
+        Ok(()) => Ok(true),
+        Err(error) if error.kind() == ErrorKind::AlreadyExists => Ok(false),
+        Err(error) => Err(SaveFailure::Write(error)),
     }
 }
 
