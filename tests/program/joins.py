@@ -3,8 +3,10 @@ import os
 import random
 import re
 
+from texts import text_of
+
 BLOCK = 1 << 18
-NOTE = rb"sketches: (\d+) lines left out; the filter is (\d+)% full: about 1 in (\d+) other items is taken for a key\n"
+NOTE = rb"sketches: (\d+) lines? left out; the filter is (\d+)% full: (?:about 1 in (\d+)|fewer than 1 in 10\^12) other items is taken for a key\n"
 
 # Sizes of a filter that has no false positive for so few keys.
 LARGE = [["--items", "200000"], ["--items", "100000", "--false-positives", "100000"], ["--bits", "4000000", "--hashes", "12"]]
@@ -36,7 +38,7 @@ class Joins:
         """Returns the lines of the inputs whose item is a key, or the others, and the number of lines left out."""
         lines = [(raw, items_of(line)) for data in inputs for raw, line in self.raw_lines_of(data)]
         written = [raw for raw, items in lines if any(item in keys for item in items) != inverted]
-        return b"".join(written), len(lines) - len(written)
+        return text_of(written), len(lines) - len(written)
 
     def is_joined(self, name, ran, inputs, items_of, keys, inverted=False, status=0, said=b""):
         """Checks what `join` wrote, and its note, for so few keys that the filter has no false positive."""
@@ -44,7 +46,7 @@ class Joins:
         self.check(f"{name}: status", ran[0] == status, ran)
         self.check(f"{name}: lines", ran[1] == written, (ran[1][:200], written[:200]))
         found = re.fullmatch(re.escape(said) + NOTE, ran[2])
-        self.check(f"{name}: note", found and int(found[1]) == left_out and int(found[3]) > 10**9, ran[2])
+        self.check(f"{name}: note", found and int(found[1]) == left_out and int(found[3] or 10**12) > 10**8, ran[2])
 
     def worked(self):
         """Checks lines that are written out by hand."""
@@ -159,7 +161,7 @@ class Joins:
             self.check(f"{name}: the others", ran[1].split(b"\n")[:-1] == [line for line in lines if line not in chosen])
         lines = b"".join(b"%015d\n" % n for n in range(100000))
         self.tests.file("lines", lines)
-        for words, data, low, high in [(["lines"], b"", 45, 55), (["lines", "lines"], b"", 25, 35), ([], lines, 0, 2)]:
+        for words, data, low, high in [(["lines"], b"", 38, 47), (["lines", "lines"], b"", 20, 28), ([], lines, 0, 2)]:
             ran = self.tests.run(["uniq", *words], data)
             found = re.search(rb"the filter is (\d+)% full", ran[2])
             self.check(f"uniq of {words}: size", ran[0] == 0 and low <= int(found[1]) <= high, ran[2])

@@ -18,6 +18,8 @@ import sys
 import tempfile
 import time
 
+from texts import text_of as text_of_records
+
 BLOCK = 1 << 18
 LAST = 2**64 - 1
 
@@ -58,21 +60,21 @@ def split(inputs, header):
 def unseen(inputs, field, header=False, repeated=False):
     """Returns what `uniq` prints."""
     out, rows = split(inputs, header)
-    seen = set()
+    seen, raws = set(), []
     for raw, row in rows:
         item = row[field - 1] if len(row) >= field else None
         if (item in seen) == repeated:
-            out += raw
+            raws.append(raw)
         if item is not None:
             seen.add(item)
-    return out
+    return out + text_of_records(raws)
 
 
 def joined(keys, inputs, keys_field, field, header=False, wanted=True):
     """Returns what `join` prints."""
     items = {row[keys_field - 1] for _, row in raws_of(keys)[header:] if len(row) >= keys_field}
     out, rows = split(inputs, header)
-    return out + b"".join(raw for raw, row in rows if (len(row) >= field and row[field - 1] in items) == wanted)
+    return out + text_of_records([raw for raw, row in rows if (len(row) >= field and row[field - 1] in items) == wanted])
 
 
 def weighed(keys, inputs, keys_field, field, weight=None, header=False):

@@ -16,7 +16,9 @@ import tempfile
 
 from joins import Joins
 from layouts import Layouts
+from places import Places
 from states import States
+from texts import text_of
 from weights import Weights
 
 TESTS = os.path.dirname(os.path.dirname(os.path.abspath(__file__)))
@@ -59,7 +61,13 @@ def lines_of(data):
 def note_of(inputs):
     """Returns the note on the lines of the inputs that are not UTF-8, or nothing if all are."""
     lines = sum(not is_utf8(line) for data in inputs for _, line in raw_lines_of(data))
-    return b"sketches: %d lines are not UTF-8: their bytes are shown as U+FFFD\n" % lines if lines else b""
+    return not_utf8(lines).encode() if lines else b""
+
+
+def not_utf8(lines):
+    """Returns the note on a number of lines that are not UTF-8."""
+    words = "line is not UTF-8: its bytes are" if lines == 1 else "lines are not UTF-8: their bytes are"
+    return f"sketches: {lines} {words} shown as U+FFFD\n"
 
 
 def is_utf8(line):
@@ -96,7 +104,7 @@ def unseen_of(inputs, items_of, repeated=False):
             else:
                 left_out += 1
             seen.update(items)
-    return b"".join(written), left_out
+    return text_of(written), left_out
 
 
 class Tests:
@@ -171,7 +179,6 @@ class Tests:
 
     def notes(self):
         """Checks the note on lines that are not UTF-8, and that --no-note omits it alone."""
-        bad = "sketches: %d lines are not UTF-8: their bytes are shown as U+FFFD\n"
         for words, inputs, lines in [
             (["top"], [b"a\n"], 0),
             (["top"], [b"\xef\xbf\xbd\n"], 0),
@@ -187,7 +194,7 @@ class Tests:
         ]:
             names = [self.file(f"note{n}", data) for n, data in enumerate(inputs)]
             ran = self.run([*words, *names])
-            said = (bad % lines).encode() if lines else b""
+            said = not_utf8(lines).encode() if lines else b""
             self.check(f"a note on {lines} lines", (ran[0], ran[2]) == (0, said), ran[2])
             silent = self.run([*words, "--no-note", *names])
             self.check(f"no note on {lines} lines", silent[:3] == (0, ran[1], b""), silent[2])
@@ -283,7 +290,9 @@ class Tests:
         written, left_out = unseen_of(inputs, items_of, repeated)
         self.check(f"{name}: status", ran[0] == status, ran)
         self.check(f"{name}: lines", ran[1] == written, (ran[1][:200], written[:200]))
-        note = rb"sketches: %d lines left out; the filter is [0-3]%% full: about 1 in \d{10,} new items is taken for a repeated one\n" % left_out
+        rate = rb"(?:about 1 in \d{9,}|fewer than 1 in 10\^12) new items is taken for a repeated one\n"
+        unit = b"line" if left_out == 1 else b"lines"
+        note = rb"sketches: %d %b left out; the filter is [0-3]%% full: " % (left_out, unit) + rate
         self.check(f"{name}: note", re.fullmatch(re.escape(said) + note, ran[2]), ran[2])
 
     def uniq_worked(self):
@@ -358,12 +367,45 @@ class Tests:
             self.check(f"{name}: full", 40 <= int(found[2]) <= (80 if questions == 2 else 60), ran[2])
             self.check(f"{name}: rate", 0.9 * questions <= int(found[3]) <= 2 * questions, ran[2])
 
+    def default_sizes(self):
+        """Checks that a filter that is sized by a file loses few lines, and that one that is too small ends with a warning."""
+        for name, lines in [("seq", [b"%d" % n for n in range(1, 100001)]), ("short", [b"%x" % n for n in range(60000)]),
+                            ("long", [b"x" * 300 + b"%d" % n for n in range(3000)])]:
+            self.file(name, b"\n".join(lines) + b"\n")
+            ran = self.run(["uniq", name], key=None)
+            shown = ran[1].split(b"\n")[:-1]
+            self.check(f"{name} by its size", ran[0] == 0 and len(lines) - len(shown) <= len(lines) / 1000 + 5, (len(lines), len(shown)))
+            self.check(f"{name}: no warning", b"warning" not in ran[2], ran[2])
+        warning = rb"sketches: warning: the filter has more items than it is made for: about 1 in (\d+) new items is taken for a repeated one; use a larger --items\n"
+        for words in [[], ["--no-note"]]:
+            ran = self.run(["uniq", "--items", 5000, *words, "seq"], key=None)
+            found = re.search(warning, ran[2])
+            self.check(f"a warning {words}", ran[0] == 0 and found and int(found[1]) < 100, ran[2])
+        ran = self.run(["uniq", "--items", 100000, "--no-note", "seq"], key=None)
+        self.check("no warning at the number of items", ran[:1] == (0,) and ran[2] == b"", ran[2])
+        others = b"".join(b"other %d\n" % n for n in range(300000))
+        for keys, words, most in [(2, [], 3), (3, [], 3), (10, ["--false-positives", 1000000], 3), (100, [], 450)]:
+            self.file("keys", b"".join(b"key %d\n" % n for n in range(keys)))
+            ran = self.run(["join", "--no-note", *words, "--keys", "keys"], others, key=None)
+            self.check(f"few others pass a filter of {keys} keys {words}", ran[0] == 0 and ran[1].count(b"\n") <= most, ran[1].count(b"\n"))
+
     def uniq_statuses(self):
         """Checks files that cannot be read, wrong use, and devices and calls that fail."""
         self.file("one", b"a\nb")
         self.file("two", b"b\nc\n")
         whole = lambda line: [line]
         self.is_unseen("uniq of two files", self.run(["uniq", "one", "two"]), [b"a\nb", b"b\nc\n"], whole)
+        for files, wanted in [([b"a", b"b"], b"a\nb"), ([b"a", b"a", b"b\n"], b"a\nb\n"), ([b"a", b"", b"b"], b"a\nb"), ([b"a", b"a"], b"a"),
+                              ([b"a\r", b"b"], b"a\r\nb"), ([b"a\n\n", b"\n", b"c"], b"a\n\nc")]:
+            names = [self.file(f"part{n}", data) for n, data in enumerate(files)]
+            ran = self.run(["uniq", "--no-note", *names])
+            self.check(f"uniq of {files}", ran[:3] == (0, wanted, b""), ran)
+            self.file("keys", b"x\n")
+            ran = self.run(["join", "-v", "--no-note", "--keys", "keys", *names])
+            self.check(f"join -v of {files}", ran[:3] == (0, text_of([raw for data in files for raw, _ in raw_lines_of(data)]), b""), ran)
+        ran = self.run(["uniq", "--repeated", "--no-note", self.file("part0", b"x\nx"), self.file("part1", b"y\nx")])
+        self.check("uniq --repeated of two files", ran[:3] == (0, b"x\nx", b""), ran)
+        self.default_sizes()
         absent = b"sketches: none: No such file or directory (os error 2)\n"
         self.is_unseen("uniq of an absent file", self.run(["uniq", "none", "two"]), [b"b\nc\n"], whole, status=1, said=absent)
         bad = b"sketches: --items must be at least 1, --false-positives at least 2, --bits from 1 to 2^37 - 64, and --hashes from 1 to 32767\n"
@@ -561,6 +603,7 @@ def main():
         Weights(tests, SELECTIONS, PIECES, raw_lines_of).run()
         States(tests, PIECES, raw_lines_of).run()
         Layouts(tests).run()
+        Places(tests).run()
     print(f"{tests.passed} passed, {tests.failed} failed")
     sys.exit(1 if tests.failed else 0)
 

@@ -83,7 +83,7 @@ class States:
         self.uniq(b"a\nb\n", "--bits", "640", "--hashes", "5", "--no-note")
         shown = self.tests.run(["show", "state"])
         self.check("state: its sizes", b"bits\t640\nhashes\t5\nseed\t9001\n" in shown[1], shown)
-        ran = self.uniq(b"b\nc\n", *LARGE, "--key", "000102030405060708090a0b0c0d0e0f")
+        ran = self.uniq(b"b\nc\n", "--no-note", "--key", "000102030405060708090a0b0c0d0e0f")
         again = self.tests.run(["show", "state"])
         self.check("state: the image's own sizes and seed", ran[1] == b"c\n" and again[1].splitlines()[:4] == shown[1].splitlines()[:4], (ran, again))
         image = self.bytes_of("state")
@@ -98,13 +98,13 @@ class States:
             ("an empty filter of 16 GiB", empty, b"TableTooLarge"),
         ]:
             self.tests.file("state", bad)
-            ran = self.uniq(b"a\n", *LARGE)
+            ran = self.uniq(b"a\n", "--no-note")
             self.check(f"state of {name}", ran[:2] == (2, b"") and ran[2].startswith(b"sketches: state: ") and said in ran[2], ran)
             self.check(f"state of {name}: unchanged", self.bytes_of("state") == bad)
         self.tests.file("state", image)
-        ran = self.uniq(b"a\n", *LARGE, "--max-bytes", len(image) - 1)
+        ran = self.uniq(b"a\n", "--no-note", "--max-bytes", len(image) - 1)
         self.check("a state over the limit", ran[:3] == (2, b"", b"sketches: state: the image is longer than --max-bytes\n"), ran)
-        ran = self.uniq(b"a\nq\n", *LARGE, "--max-bytes", len(image))
+        ran = self.uniq(b"a\nq\n", "--no-note", "--max-bytes", len(image))
         self.check("a state at the limit", ran[:2] == (0, b"q\n"), ran)
         ran = self.tests.run(["uniq", "--state", "-"], b"a\n")
         self.check("a state of standard input", ran[:3] == (2, b"", b"sketches: --state must name a file\n"), ran)
@@ -149,4 +149,4 @@ class States:
         self.check("state: the lines that were read are kept", ran[:2] == (0, b"d\n"), ran)
         ran = self.tests.run(["uniq", *LARGE, "--state", "none/state"], b"a\na\n")
         said = b"sketches: none/state: No such file or directory (os error 2)\n"
-        self.check("a state that cannot be saved", ran[:3] == (2, b"a\n", said), ran)
+        self.check("a state that cannot be saved", ran[:3] == (2, b"", said), ran)

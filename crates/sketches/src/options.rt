@@ -93,7 +93,7 @@ fn uniq_command<'a>(alloc: Global) -> Result<Command<'a>, AllocError> {
     let command = with_size(
         alloc,
         command,
-        "Makes the filter for N distinct items; by default for a quarter more than their lines, else 10000000",
+        "Makes the filter for N distinct items; by default for a quarter more than the lines of regular files, else 10000000",
     )?;
     let command = with_state(alloc, with_max_line(alloc, command)?)?
         .arg(key(alloc))?
