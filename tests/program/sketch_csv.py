@@ -240,6 +240,16 @@ class Tests:
                 else:
                     self.is_exact(f"a quote that is not closed, {length} of {size}", ran, counts_of([data], 1), 10)
 
+    def long_headers(self):
+        """Checks headers of more than `--max-line` bytes: they end the run as other lines do."""
+        for name, data in [("a line", b"page\n1\n"), ("a quote that is not closed", b'"' + 200000 * b"x\n")]:
+            for command, status in [("top", 2), ("uniq", 2)]:
+                ran = self.run(command, "--csv", "-f", 1, "--max-line", 3, data=data)
+                self.check(f"{command} with the header {name}", ran == (status, b"", b"sketches: -: a line is longer than --max-line\n"), ran)
+        one, long = self.file("short.csv", b"a\n1\n2\n"), self.file("long.csv", b"abcdef\n3\n")
+        ran = self.run("uniq", "--csv", "--no-note", "-f", 1, "--max-line", 3, one, long)
+        self.check("a later header that is too long", ran == (1, b"a\n1\n2\n", b"sketches: long.csv: a line is longer than --max-line\n"), ran)
+
     def headers(self):
         """Checks names of fields in several files."""
         one = self.file("one.csv", b"a,b\n1,x\n2,y\n")
@@ -440,6 +450,7 @@ def main():
         tests.random_weights()
         tests.blocks()
         tests.limits()
+        tests.long_headers()
         tests.headers()
         tests.wrong_use()
         tests.saved()

@@ -50,10 +50,13 @@ impl Headed {
                 break;
             }
         }
-        let len = match next_csv_record(&front, delimiter) {
-            Some((raw, _, _)) => raw.len(),
-            None => 0,
+        let (len, text) = match next_csv_record(&front, delimiter) {
+            Some((raw, row, _)) => (raw.len(), row.len()),
+            None => (0, 0),
         };
+        if text > limit {
+            return Err(io::Error::from(ErrorKind::InvalidData));
+        }
         Ok(Headed {
             front,
             len,
