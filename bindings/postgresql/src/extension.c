@@ -41,9 +41,10 @@ void _PG_init(void)
                  "Strings count at most 64 bytes each. Larger sketches take longer to cancel.", &max_frequent_bytes,
                  8 * 1024 * 1024, PGC_USERSET);
     define_bytes("sketches_rattle.max_user_bytes", "Sets the most bytes that a sketch may take, whatever a user sets.",
-                 "Only superusers can change it.", &max_user_bytes, MAX_BYTES, PGC_SUSET);
+                 "Sketches in text and binary form, as dumps have them, keep to this limit alone. Only superusers can change it.",
+                 &max_user_bytes, MAX_BYTES, PGC_SUSET);
     DefineCustomIntVariable("sketches_rattle.max_statement_memory",
-                            "Sets the most memory that all sketches of a statement may take.",
+                            "Sets the most memory that all sketches of a statement and their stored forms may take.",
                             "A parallel worker has as much again. Only superusers can change it.", &max_statement_kilobytes,
                             1024 * 1024, 1024, MAX_KILOBYTES, PGC_SUSET, GUC_UNIT_KB, NULL, NULL, NULL);
 #if PG_VERSION_NUM >= 150000

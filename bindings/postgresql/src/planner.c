@@ -1,18 +1,30 @@
-/* The planner's estimate of the rows that pass `sketch_contains(filter, item)`.
+/* The planner's support for `sketch_contains(filter, item)`: the estimate of the rows that pass, and a short form of a long constant.
  *
- * If the filter is known when the query is planned, `contains` is evaluated for the most common values of the item's column and
- * for the values of its histogram. If there are too few, the filter's number of items is compared with the column's distinct
- * values, and the false-positive rate is added. If the filter is not known, the default below is the estimate. */
+ * If the filter is known when the query is planned, the most common values of the item's column and those of its histogram are looked
+ * up in it. If there are too few, the filter's number of items is compared with the column's distinct
+ * values, and the false-positive rate is added. If the filter is not known, the default below is the estimate.
+ *
+ * A plan prints its constants, and a filter has some 100 kB. So a long one gets another type in the plan, whose output is short. */
 #include "extension.h"
 
 #include <math.h>
 
+#include "access/detoast.h"
 #include "access/htup_details.h"
+#include "catalog/dependency.h"
+#include "catalog/namespace.h"
+#include "catalog/pg_class.h"
+#include "catalog/pg_inherits.h"
+#include "catalog/pg_proc.h"
 #include "catalog/pg_statistic.h"
 #include "catalog/pg_type.h"
+#include "miscadmin.h"
 #include "nodes/nodeFuncs.h"
+#include "nodes/pathnodes.h"
 #include "nodes/supportnodes.h"
 #include "optimizer/optimizer.h"
+#include "utils/acl.h"
+#include "utils/lsyscache.h"
 #include "utils/selfuncs.h"
 
 /* The share of rows that pass a filter that is not known when the query is planned. PostgreSQL's own default is one third. */
@@ -21,6 +33,13 @@
 /* As in PostgreSQL's own estimates: a histogram with fewer values is not used, and one with fewer than 100 only in part. */
 #define MIN_HISTOGRAM 10
 #define FULL_HISTOGRAM 100
+
+/* A filter, and the form of the values that are looked up in it. */
+typedef struct Known {
+    const Sketch *filter;
+    Form form;
+    ds_status status;
+} Known;
 
 /* Returns the item's expression without a cast that keeps it: to bigint from a smaller integer. */
 static Node *without_cast(Node *item)
@@ -31,6 +50,16 @@ static Node *without_cast(Node *item)
         if (type == INT4OID || type == INT2OID) return inner;
     }
     return item;
+}
+
+/* Returns whether the filter of `Known`, in `fn_extra`, contains a value of a column's statistics, the second argument. The query may
+ * read no row with such a value. So what is an error there is none here: the value is taken as contained. */
+static Datum contains_value(PG_FUNCTION_ARGS)
+{
+    const Known *known = fcinfo->flinfo->fn_extra;
+    SketchItem item;
+    read_item(fcinfo, 1, known->form, &item);
+    PG_RETURN_BOOL(filter_contains(known->filter, &item) != DS_NO);
 }
 
 /* Returns the share of a column's values that a filter contains, by its number of items and its false-positive rate. */
@@ -46,12 +75,13 @@ static double modelled(ds_status status, VariableStatData *column)
     return share + (1 - share) * false_positives;
 }
 
-/* Returns the share of rows of a column that a filter contains. */
-static double estimated(ds_status status, VariableStatData *column, FmgrInfo *contains, Oid collation, Datum filter)
+/* Returns the share of rows of a column that a filter contains. `contains` is `contains_value`. */
+static double estimated(const Known *known, VariableStatData *column, FmgrInfo *contains, Oid collation)
 {
     double common = 0, of_common, others, nulls = 0;
     int size = 0;
-    double model = modelled(status, column);
+    double model = modelled(known->status, column);
+    Datum filter = PointerGetDatum(known->filter);
     if (!HeapTupleIsValid(column->statsTuple)) return model;
     nulls = ((Form_pg_statistic)GETSTRUCT(column->statsTuple))->stanullfrac;
     of_common = mcv_selectivity(column, contains, collation, filter, false, &common);
@@ -62,49 +92,138 @@ static double estimated(ds_status status, VariableStatData *column, FmgrInfo *co
     return of_common + others * Max(0, 1 - nulls - common);
 }
 
-/* Reads the numbers of a filter. Returns whether it is within the limit. */
+/* Reads the numbers of a filter. Returns whether there are any within the limits, and memory. */
 static bool read_status(const Sketch *sketch, ds_status *status)
 {
     ds_sketch handle = DS_NONE;
-    ds_image_options options = {.max_bytes = limit_of(DS_BLOOM)};
+    ds_image_options options = {.max_bytes = limit_of(DS_BLOOM, USERS_LIMITS)};
     int32_t result = ds_deserialize(&handle, DS_BLOOM, sketch->image, IMAGE_BYTES(sketch), &options);
-    if (result == DS_TABLE_TOO_LARGE) return false;
-    check_result(result);
+    take_refused();
+    if (result < 0) return false;
     *status = status_of(&handle);
     ds_free(&handle);
     return true;
 }
 
-/* Returns the share of rows for a filter that is known. One that exceeds the limit is not read. */
+/* Returns the share of rows for a filter that is known. The default is taken for one that is not read, or has no items of the type,
+ * which is an error if a row is read. */
 static double known_share(SupportRequestSelectivity *request, Const *filter)
 {
-    Sketch *sketch = detoast_sketch(filter->constvalue, DS_BLOOM);
-    Datum value = PointerGetDatum(sketch);
-    ds_status status = {0};
+    Sketch *sketch = (Sketch *)counted_detoast(filter->constvalue);
+    Node *item = without_cast(lsecond(request->args));
+    Known known = {sketch, form_of(exprType(item)), {0}};
+    FmgrInfo contains = {.fn_addr = contains_value,
+                         .fn_oid = request->funcid,
+                         .fn_nargs = 2,
+                         .fn_strict = true,
+                         .fn_extra = &known,
+                         .fn_mcxt = CurrentMemoryContext};
+    double share = DEFAULT_SHARE;
     VariableStatData column;
-    FmgrInfo contains;
-    double share;
-    if (!read_status(sketch, &status)) return DEFAULT_SHARE;
-    fmgr_info(request->funcid, &contains);
-    examine_variable(request->root, without_cast(lsecond(request->args)), request->varRelid, &column);
-    share = estimated(status, &column, &contains, request->inputcollid, value);
-    ReleaseVariableStats(column);
+    if (known.form != NO_FORM && is_sound(sketch, DS_BLOOM) && may_have(sketch, type_of(known.form)) &&
+        read_status(sketch, &known.status)) {
+        examine_variable(request->root, item, request->varRelid, &column);
+        share = estimated(&known, &column, &contains, request->inputcollid);
+        ReleaseVariableStats(column);
+    }
+    free_copy(sketch, filter->constvalue);
     return share;
 }
 
-PG_FUNCTION_INFO_V1(bloom_filter_contains_support);
+/* A shorter constant stays as it is. */
+#define LONG_CONSTANT 1024
+
+/* Returns whether the user may call a function. */
+static bool may_call(Oid function)
+{
+#if PG_VERSION_NUM >= 160000
+    return object_aclcheck(ProcedureRelationId, function, GetUserId(), ACL_EXECUTE) == ACLCHECK_OK;
+#else
+    return pg_proc_aclcheck(function, GetUserId(), ACL_EXECUTE) == ACLCHECK_OK;
+#endif
+}
+
+/* Returns whether a query reads foreign tables, or partitions that may be. Another server would get the short form. */
+static bool may_be_foreign(PlannerInfo *root)
+{
+    ListCell *cell;
+    if (root == NULL) return false;
+    foreach (cell, root->parse->rtable) {
+        RangeTblEntry *table = lfirst(cell);
+        if (table->rtekind == RTE_RELATION && table->relkind != RELKIND_RELATION && table->relkind != RELKIND_MATVIEW) return true;
+        if (table->rtekind == RTE_RELATION && table->inh && has_subclass(table->relid)) return true;
+    }
+    return false;
+}
+
+/* Returns the extension's function `sketch_contains_constant`, or null. It is in the schema of `contains`. */
+static FuncCandidateList constant_function(Oid contains)
+{
+    char *schema = get_namespace_name(get_func_namespace(contains));
+    List *name = list_make2(makeString(schema), makeString("sketch_contains_constant"));
+    FuncCandidateList found = schema == NULL ? NULL : FuncnameGetCandidates(name, 2, NIL, false, false, false, true);
+    Oid extension = getExtensionOfObject(ProcedureRelationId, contains);
+    while (found != NULL && getExtensionOfObject(ProcedureRelationId, found->oid) != extension) found = found->next;
+    return OidIsValid(extension) ? found : NULL;
+}
+
+/* Returns the call of `contains` with the constant filter in its short form, or null if the call stays as it is. */
+static Node *with_short_constant(SupportRequestSimplify *request)
+{
+    FuncExpr *call = request->fcall, *changed;
+    Const *filter = linitial(call->args), *constant;
+    FuncCandidateList function;
+    if (!IsA(filter, Const) || filter->constisnull || toast_raw_datum_size(filter->constvalue) < LONG_CONSTANT) return NULL;
+    if (may_be_foreign(request->root)) return NULL;
+    function = constant_function(call->funcid);
+    if (function == NULL || function->oid == call->funcid || !may_call(function->oid) || !may_call(call->funcid)) return NULL;
+    constant = copyObject(filter);
+    constant->consttype = function->args[0];
+    changed = copyObject(call);
+    changed->funcid = function->oid;
+    linitial(changed->args) = constant;
+    return (Node *)changed;
+}
+
+PG_FUNCTION_INFO_V1(bloom_filter_constant_in);
+
+/* Raises an error: there is no text of a filter in a plan. */
+Datum bloom_filter_constant_in(PG_FUNCTION_ARGS)
+{
+    (void)fcinfo;
+    ereport(ERROR, (errcode(ERRCODE_FEATURE_NOT_SUPPORTED), errmsg("a filter in a plan is not read")));
+    pg_unreachable();
+}
+
+PG_FUNCTION_INFO_V1(bloom_filter_constant_out);
+
+/* Returns what a plan shows of a filter: its size. */
+Datum bloom_filter_constant_out(PG_FUNCTION_ARGS)
+{
+    PG_RETURN_CSTRING(psprintf("%zu bytes", toast_raw_datum_size(PG_GETARG_DATUM(0)) - VARHDRSZ));
+}
 
 /* Serves the planner's request for the selectivity of `contains`. */
-Datum bloom_filter_contains_support(PG_FUNCTION_ARGS)
+static void estimate(SupportRequestSelectivity *request)
 {
-    Node *node = (Node *)PG_GETARG_POINTER(0);
-    SupportRequestSelectivity *request = (SupportRequestSelectivity *)node;
-    Node *filter;
-    if (!IsA(node, SupportRequestSelectivity) || list_length(request->args) != 2) PG_RETURN_POINTER(NULL);
-    filter = estimate_expression_value(request->root, linitial(request->args));
+    Node *filter = estimate_expression_value(request->root, linitial(request->args));
     if (!IsA(filter, Const)) request->selectivity = DEFAULT_SHARE;
     else if (((Const *)filter)->constisnull) request->selectivity = 0;
     else request->selectivity = known_share(request, (Const *)filter);
     request->selectivity = Min(1, Max(0, request->selectivity));
-    PG_RETURN_POINTER(request);
+}
+
+PG_FUNCTION_INFO_V1(bloom_filter_contains_support);
+
+/* Serves the planner's requests for `contains`. */
+Datum bloom_filter_contains_support(PG_FUNCTION_ARGS)
+{
+    Node *node = (Node *)PG_GETARG_POINTER(0), *answer = NULL;
+    if (IsA(node, SupportRequestSelectivity) && list_length(((SupportRequestSelectivity *)node)->args) == 2) {
+        estimate((SupportRequestSelectivity *)node);
+        answer = node;
+    } else if (IsA(node, SupportRequestSimplify) && list_length(((SupportRequestSimplify *)node)->fcall->args) == 2) {
+        answer = with_short_constant((SupportRequestSimplify *)node);
+    }
+    PG_RETURN_POINTER(answer);
 }

@@ -6,9 +6,6 @@ import psycopg2
 import golden
 from ends import code_of
 
-# The version from which an update leads to this one.
-BEFORE = "0.2.0"
-
 TYPES = {"strings": "frequent_strings", "bigints": "frequent_bigints", "counts": "count_min", "signed_counts": "signed_count_min",
          "filter": "bloom_filter"}
 BYTES = ", ".join(f"{name}::bytea" for name in TYPES)
@@ -194,7 +191,7 @@ def versions(tests):
         tests.check("an update keeps each sketch", everything(cursor) == before)
         cursor.execute("SELECT path FROM pg_extension_update_paths('sketches_rattle') WHERE path IS NOT NULL")
         paths = cursor.fetchall()
-        tests.check("updates come from the version before alone", paths == [(f"{BEFORE}--{offered}",)], paths)
+        tests.check("no version was published before", paths == [], paths)
         for name, sketch in golden.SKETCHES.items():
             for form, value in [("bytea", sketch), ("text", golden.text(sketch))]:
                 literal = cursor.mogrify(f"%s::{form if form == 'bytea' else name}::{name}", (value,)).decode()
