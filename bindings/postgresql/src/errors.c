@@ -61,10 +61,14 @@ static int state_of(int32_t result)
 
 void raise_total(size_t bytes)
 {
-    ereport(ERROR, (errcode(ERRCODE_OUT_OF_MEMORY),
-                    errmsg("the sketches of a statement would take %zu bytes, more than sketches_rattle.max_statement_memory, "
-                           "which is %zu bytes",
-                           bytes, (size_t)max_statement_kilobytes * 1024)));
+    ereport(
+        ERROR,
+        (errcode(ERRCODE_OUT_OF_MEMORY),
+         errmsg(
+             "the sketches of a statement would take %zu bytes, more than sketches_rattle.max_statement_memory, which is %zu bytes",
+             bytes, (size_t)max_statement_kilobytes * 1024),
+         errdetail("The stored forms that functions read, keep or return are counted."),
+         errhint("A superuser raises it by ALTER DATABASE .. SET sketches_rattle.max_statement_memory = .. for all sessions.")));
     pg_unreachable();
 }
 

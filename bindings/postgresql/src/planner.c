@@ -143,15 +143,25 @@ static bool may_call(Oid function)
 #endif
 }
 
-/* Returns whether a query reads foreign tables, or partitions that may be. Another server would get the short form. */
-static bool may_be_foreign(PlannerInfo *root)
+/* Returns whether a table is foreign, or one that inherits from it is, as a partition may be. */
+static bool is_foreign(const RangeTblEntry *table)
 {
     ListCell *cell;
-    if (root == NULL) return false;
-    foreach (cell, root->parse->rtable) {
-        RangeTblEntry *table = lfirst(cell);
-        if (table->rtekind == RTE_RELATION && table->relkind != RELKIND_RELATION && table->relkind != RELKIND_MATVIEW) return true;
-        if (table->rtekind == RTE_RELATION && table->inh && has_subclass(table->relid)) return true;
+    if (table->relkind == RELKIND_FOREIGN_TABLE) return true;
+    if (!table->inh || !has_subclass(table->relid)) return false;
+    foreach (cell, find_all_inheritors(table->relid, NoLock, NULL))
+        if (get_rel_relkind(lfirst_oid(cell)) == RELKIND_FOREIGN_TABLE) return true;
+    return false;
+}
+
+/* Returns whether a query reads foreign tables. Their servers would get the short form. */
+static bool reads_foreign(const Query *query)
+{
+    ListCell *cell;
+    foreach (cell, query->rtable) {
+        const RangeTblEntry *table = lfirst(cell);
+        if (table->rtekind == RTE_RELATION && is_foreign(table)) return true;
+        if (table->rtekind == RTE_SUBQUERY && table->subquery != NULL && reads_foreign(table->subquery)) return true;
     }
     return false;
 }
@@ -174,7 +184,7 @@ static Node *with_short_constant(SupportRequestSimplify *request)
     Const *filter = linitial(call->args), *constant;
     FuncCandidateList function;
     if (!IsA(filter, Const) || filter->constisnull || toast_raw_datum_size(filter->constvalue) < LONG_CONSTANT) return NULL;
-    if (may_be_foreign(request->root)) return NULL;
+    if (request->root != NULL && reads_foreign(request->root->parse)) return NULL;
     function = constant_function(call->funcid);
     if (function == NULL || function->oid == call->funcid || !may_call(function->oid) || !may_call(call->funcid)) return NULL;
     constant = copyObject(filter);

@@ -211,3 +211,18 @@ def versions(tests):
                             cursor.execute(f"SELECT {literal}")
                         except psycopg2.Error as error:
                             tests.check(f"the message of {what}", what in str(error), error)
+
+
+def compressed(tests):
+    """Columns with `lz4`, if the server has it, and without compression: the values are those of other columns."""
+    with database(tests.main, "compressed") as session, session.cursor() as cursor:
+        cursor.execute("SELECT enumvals FROM pg_settings WHERE name = 'default_toast_compression'")
+        methods = cursor.fetchone()[0]
+        tests.check("Debian's server has lz4", "lz4" in methods, methods)
+        for method in methods:
+            cursor.execute(f"DROP TABLE IF EXISTS counted; CREATE TABLE counted (counts count_min COMPRESSION {method});"
+                           "INSERT INTO counted SELECT count_min_agg_sized(i, i, 4, 20000) FROM generate_series(1, 1000) AS i")
+            cursor.execute("SELECT pg_column_compression(counts), sketch_estimate(counts, 7) >= 7, pg_column_size(counts) < length(counts::bytea) / 4, "
+                           "counts = (SELECT count_min_agg_sized(i, i, 4, 20000) FROM generate_series(1, 1000) AS i) FROM counted")
+            row = cursor.fetchone()
+            tests.check(f"a column of counts by {method}", row == (method, True, True, True), row)
