@@ -31,9 +31,9 @@ SQL
     comment_function AGGREGATE "$1"
 }
 
-# begin_type TYPE DESCRIPTION STORAGE SPACE [SEED]: the type, its forms and its image. SEED is an argument of the import. A COST is the time
-# of a call in times of an operator of integers. `whole` is that of a call that reads or writes a whole sketch of the usual size: 1024 slots,
-# or 100 kB.
+# begin_type TYPE DESCRIPTION STORAGE SPACE [SEED]: the type, its forms and its image. SEED is an argument of the import. A COST is the
+# time of a call in times of an operator of integers. `whole` is that of a call that reads or writes a whole sketch of the usual size:
+# 1024 slots, or 100 kB.
 begin_type() {
     type=$1 space=$4 whole=5000
     case $type in frequent_*) whole=1000 ;; esac
@@ -140,7 +140,8 @@ frequent() {
     function_of "${type}_add($internal, $any_item) RETURNS $internal" "${type}_add_by_size" IMMUTABLE ' COST 5'
     function_of "${type}_add($internal, $any_item, $any_weight) RETURNS $internal" "${type}_add_by_size" IMMUTABLE ' COST 5'
     function_of "${type}_add($internal, $any_item, $any_weight, integer) RETURNS $internal" "${type}_add_by_size" IMMUTABLE ' COST 5'
-    function_of "${type}_add($internal, $any_item, $any_weight, double precision) RETURNS $internal" "${type}_add_by_error" IMMUTABLE ' COST 5'
+    function_of "${type}_add($internal, $any_item, $any_weight, double precision) RETURNS $internal" "${type}_add_by_error" IMMUTABLE \
+        ' COST 5'
     for more in '' ", weight $any_weight" ", weight $any_weight, max_map_size integer" \
         ", weight $any_weight, relative_error double precision"; do
         aggregate "${type}_agg(item $any_item$more)" "${type}_add"
@@ -234,7 +235,8 @@ SQL
     operator - 'FUNCTION = sketch_difference' 'a filter without the positions of another one'
     comparisons
     function_of "sketch_contains_support($internal) RETURNS $internal" "${type}_contains_support"
-    function_of "sketch_contains(filter $type, item $any_item) RETURNS boolean" "${type}_contains" '' ' COST 5 SUPPORT sketch_contains_support'
+    function_of "sketch_contains(filter $type, item $any_item) RETURNS boolean" "${type}_contains" '' \
+        ' COST 5 SUPPORT sketch_contains_support'
     cat <<SQL
 
 -- A long filter that is a constant of a plan has this type there, whose output EXPLAIN prints: it is short.

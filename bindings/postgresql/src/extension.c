@@ -3,6 +3,7 @@
 
 #include <limits.h>
 
+#include "miscadmin.h"
 #include "utils/guc.h"
 #include "utils/memutils.h"
 
@@ -19,13 +20,15 @@ PGDLLEXPORT void _PG_init(void);
 #define MAX_BYTES (1024 * 1024 * 1024)
 
 /* Defines a setting of a number of bytes. A value that was set before the library was loaded is an error here if it is no number of
- * this range: PostgreSQL would only warn, and take the default. */
+ * this range: PostgreSQL would only warn, and take the default. It warns if the library is loaded before sessions, or before a session's
+ * first statement: an error would end them. */
 static void define_bytes(const char *name, const char *description, const char *more, int *variable, int initial,
                          GucContext context)
 {
     const char *given = GetConfigOption(name, true, false), *hint = NULL;
     int bytes = initial;
-    if (given != NULL && (!parse_int(given, &bytes, GUC_UNIT_BYTE, &hint) || bytes < MIN_BYTES || bytes > MAX_BYTES))
+    if (given != NULL && IsNormalProcessingMode() &&
+        (!parse_int(given, &bytes, GUC_UNIT_BYTE, &hint) || bytes < MIN_BYTES || bytes > MAX_BYTES))
         ereport(ERROR, (errcode(ERRCODE_INVALID_PARAMETER_VALUE), errmsg("invalid value for parameter \"%s\": \"%s\"", name, given),
                         errdetail("It is a number of bytes from %d to %d.", MIN_BYTES, MAX_BYTES), hint ? errhint("%s", hint) : 0));
     DefineCustomIntVariable(name, description, more, variable, initial, MIN_BYTES, MAX_BYTES, context, GUC_UNIT_BYTE, NULL, NULL,

@@ -12,7 +12,8 @@
 #include "nodes/memnodes.h"
 #include "utils/memutils.h"
 
-/* The bytes that sketches and stored forms hold in a context. It lies in the context, whose end takes them off, and is found by its callback. */
+/* The bytes that sketches and stored forms hold in a context. It lies in the context, whose end takes them off, and is found by its
+ * callback. */
 typedef struct Account {
     MemoryContext context;
     size_t bytes;

@@ -12,7 +12,6 @@
 #include "access/detoast.h"
 #include "access/htup_details.h"
 #include "catalog/dependency.h"
-#include "catalog/namespace.h"
 #include "catalog/pg_class.h"
 #include "catalog/pg_inherits.h"
 #include "catalog/pg_proc.h"
@@ -24,8 +23,10 @@
 #include "nodes/supportnodes.h"
 #include "optimizer/optimizer.h"
 #include "utils/acl.h"
+#include "utils/catcache.h"
 #include "utils/lsyscache.h"
 #include "utils/selfuncs.h"
+#include "utils/syscache.h"
 
 /* The share of rows that pass a filter that is not known when the query is planned. PostgreSQL's own default is one third. */
 #define DEFAULT_SHARE 0.05
@@ -83,6 +84,7 @@ static double estimated(const Known *known, VariableStatData *column, FmgrInfo *
     double model = modelled(known->status, column);
     Datum filter = PointerGetDatum(known->filter);
     if (!HeapTupleIsValid(column->statsTuple)) return model;
+    if (type_of(known->form) == STRINGS && GetDatabaseEncoding() != PG_UTF8) return model; /* a value may have no place in UTF-8 */
     nulls = ((Form_pg_statistic)GETSTRUCT(column->statsTuple))->stanullfrac;
     of_common = mcv_selectivity(column, contains, collation, filter, false, &common);
     others = histogram_selectivity(column, contains, collation, filter, false, MIN_HISTOGRAM, 1, &size);
@@ -166,15 +168,20 @@ static bool reads_foreign(const Query *query)
     return false;
 }
 
-/* Returns the extension's function `sketch_contains_constant`, or null. It is in the schema of `contains`. */
-static FuncCandidateList constant_function(Oid contains)
+/* Returns the extension's function `sketch_contains_constant`, or InvalidOid, and the type of its filter. The user may have no rights to
+ * the schema, so names are not resolved. */
+static Oid constant_function(Oid contains, Oid *type)
 {
-    char *schema = get_namespace_name(get_func_namespace(contains));
-    List *name = list_make2(makeString(schema), makeString("sketch_contains_constant"));
-    FuncCandidateList found = schema == NULL ? NULL : FuncnameGetCandidates(name, 2, NIL, false, false, false, true);
-    Oid extension = getExtensionOfObject(ProcedureRelationId, contains);
-    while (found != NULL && getExtensionOfObject(ProcedureRelationId, found->oid) != extension) found = found->next;
-    return OidIsValid(extension) ? found : NULL;
+    Oid schema = get_func_namespace(contains), extension = getExtensionOfObject(ProcedureRelationId, contains), found = InvalidOid;
+    CatCList *list = SearchSysCacheList1(PROCNAMEARGSNSP, CStringGetDatum("sketch_contains_constant"));
+    for (int i = 0; i < list->n_members && OidIsValid(extension); i++) {
+        Form_pg_proc function = (Form_pg_proc)GETSTRUCT(&list->members[i]->tuple);
+        if (function->pronamespace != schema || getExtensionOfObject(ProcedureRelationId, function->oid) != extension) continue;
+        found = function->oid;
+        *type = function->proargtypes.values[0];
+    }
+    ReleaseSysCacheList(list);
+    return found;
 }
 
 /* Returns the call of `contains` with the constant filter in its short form, or null if the call stays as it is. */
@@ -182,15 +189,15 @@ static Node *with_short_constant(SupportRequestSimplify *request)
 {
     FuncExpr *call = request->fcall, *changed;
     Const *filter = linitial(call->args), *constant;
-    FuncCandidateList function;
+    Oid function, type = InvalidOid;
     if (!IsA(filter, Const) || filter->constisnull || toast_raw_datum_size(filter->constvalue) < LONG_CONSTANT) return NULL;
     if (request->root != NULL && reads_foreign(request->root->parse)) return NULL;
-    function = constant_function(call->funcid);
-    if (function == NULL || function->oid == call->funcid || !may_call(function->oid) || !may_call(call->funcid)) return NULL;
+    function = constant_function(call->funcid, &type);
+    if (!OidIsValid(function) || function == call->funcid || !may_call(function) || !may_call(call->funcid)) return NULL;
     constant = copyObject(filter);
-    constant->consttype = function->args[0];
+    constant->consttype = type;
     changed = copyObject(call);
-    changed->funcid = function->oid;
+    changed->funcid = function;
     linitial(changed->args) = constant;
     return (Node *)changed;
 }

@@ -50,8 +50,8 @@ static inline void merge(ds_sketch *handle, ds_sketch *other)
     check_result(result);
 }
 
-/* Returns whether a union takes the size of a sketch of frequent items, which is merged into then, and not that of another one: it takes the
- * largest size whose full table is within the limits, and else the smallest. So it does not depend on the order. */
+/* Returns whether a union of frequent items takes the size of a sketch, into which the other one is merged then. It takes the largest
+ * size whose full table is within the limits, or else the smallest. So it does not depend on the order. */
 static inline bool has_size_of_union(ds_sketch *handle, ds_sketch *other)
 {
     ds_status status = status_of(handle);

@@ -237,5 +237,18 @@ def known(tests):
         cursor.execute("SELECT sketch_contains(bloom_filter_agg(7, 9, 0.1), 7)")
         tests.check("a sketch with the library loaded before", cursor.fetchone() == (True,))
     with tests.main.session() as session, session.cursor() as cursor:
+        cursor.execute("ALTER DATABASE preloaded SET sketches_rattle.max_image_bytes = 'lots'")
+    with tests.main.session("preloaded") as session, session.cursor() as cursor:
+        cursor.execute("SHOW sketches_rattle.max_image_bytes")
+        tests.check("a bad value of a database does not end its sessions", cursor.fetchone() == ("32MB",))
+    with tests.main.session() as session, session.cursor() as cursor:
         cursor.execute("DROP DATABASE preloaded")
         cursor.execute("DROP ROLE reader")
+    with tests.server("preloaded", shared_preload_libraries="'sketches_rattle'", **{"sketches_rattle.max_image_bytes": "'5MB'"}) as on:
+        with on.session() as session, session.cursor() as cursor:
+            cursor.execute("SHOW sketches_rattle.max_image_bytes")
+            tests.check("a setting of the server's file", cursor.fetchone() == ("5MB",))
+            cursor.execute("ALTER SYSTEM SET sketches_rattle.max_user_bytes = '7MB'")
+            cursor.execute("CREATE EXTENSION sketches_rattle")
+            cursor.execute("SELECT item, estimate FROM frequent_rows((SELECT frequent_strings_agg(i % 3 || '') FROM generate_series(1, 10) AS i), 1)")
+            tests.check("a sketch with the library loaded by the server", cursor.fetchone() == ("1", 4))

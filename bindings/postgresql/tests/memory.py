@@ -68,9 +68,10 @@ def statements(tests):
         tests.check(f"each row has the limit anew, {repeat}", error is None and rows == [(ROWS,) * 3], error)
         tests.check(f"rows keep to the limit, {repeat}", grown < 200 * MB + BESIDE, grown)
     with on.session() as session, session.cursor() as cursor:
-        cursor.execute("CREATE FUNCTION pg_temp.grown() RETURNS text LANGUAGE plpgsql AS $$DECLARE f bloom_filter; BEGIN "
+        cursor.execute("SET sketches_rattle.max_statement_memory = '200MB'; CREATE FUNCTION pg_temp.grown() RETURNS text "
+                       "LANGUAGE plpgsql AS $$DECLARE f bloom_filter; BEGIN "
                        "SELECT filter INTO f FROM large_filters WHERE number = 7; FOR i IN 1 .. 40 LOOP f := sketch_add(f, i); END LOOP; "
-                       "RETURN sketch_contains(f, 40) AND NOT sketch_contains(f, 41); END$$; SET sketches_rattle.max_statement_memory = '200MB'")
+                       "RETURN sketch_contains(f, 40) AND NOT sketch_contains(f, 41); END$$")
         code = code_of(cursor, "SELECT pg_temp.grown()")
         tests.check("a variable that grows in a loop", code is None and cursor.fetchone() == ("true",), code)
         cursor.execute("DROP TABLE large_filters, large_counts; DROP ROLE ordinary")

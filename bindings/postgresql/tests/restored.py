@@ -40,22 +40,24 @@ def dumps(tests):
             cursor.copy_expert(f"COPY large TO STDOUT (FORMAT {form})", file)
             file.seek(0)
             cursor.copy_expert(f"COPY copies FROM STDIN (FORMAT {form})", file)
-        cursor.execute("SELECT count(*), count(DISTINCT l.filter), bool_and(c.filter = l.filter) FROM copies AS c JOIN large AS l USING (size)")
+        cursor.execute("SELECT count(*), count(DISTINCT l.filter), bool_and(c.filter = l.filter) "
+                       "FROM copies AS c JOIN large AS l USING (size)")
         tests.check("copies are equal", cursor.fetchone() == (4, 2, True))
         # What a session computes keeps to its own settings, and the error names how to raise them.
-        for statement in ("SELECT sketch_status(filter) FROM large", "SELECT filter | filter FROM large", "SELECT filter::bytea::bloom_filter FROM large",
-                          "SELECT sketch_status(strings) FROM large"):
+        for statement in ("SELECT sketch_status(filter) FROM large", "SELECT filter | filter FROM large",
+                          "SELECT filter::bytea::bloom_filter FROM large", "SELECT sketch_status(strings) FROM large"):
             error = error_of(cursor, statement)
             tests.check(f"a session's own limit: {statement}", error is not None and error[0] == "54000", error)
             try:
                 cursor.execute(statement)
             except Exception as error:
-                hint = error.diag.message_hint or ""
-                tests.check("the hint names SET and ALTER DATABASE", "SET" in hint and "ALTER DATABASE" in hint and "sketches_rattle." in hint, hint)
+                hint = str(error.diag.message_hint)
+                tests.check("the hint names SET and ALTER DATABASE", "by SET" in hint and "ALTER DATABASE .. SET sketches_rattle." in hint, hint)
     with on.session("restored") as session, session.cursor() as cursor:
         tests.check("a dump is restored with the settings of another session", digests(cursor) == before)
         # A session can lower its limits, and still reads what was stored.
-        cursor.execute("SET sketches_rattle.max_image_bytes = '1MB'; SET sketches_rattle.max_frequent_bytes = '1MB'; CREATE TABLE again (LIKE large)")
+        cursor.execute("SET sketches_rattle.max_image_bytes = '1MB'; SET sketches_rattle.max_frequent_bytes = '1MB';"
+                       "CREATE TABLE again (LIKE large)")
         code = code_of(cursor, "INSERT INTO again SELECT size, filter::text::bloom_filter, strings::text::frequent_strings FROM large")
         tests.check("a text form under lower settings", code is None, code)
     # The administrator's limit is of a database, and names itself.

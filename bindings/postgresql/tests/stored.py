@@ -222,7 +222,8 @@ def compressed(tests):
         for method in methods:
             cursor.execute(f"DROP TABLE IF EXISTS counted; CREATE TABLE counted (counts count_min COMPRESSION {method});"
                            "INSERT INTO counted SELECT count_min_agg_sized(i, i, 4, 20000) FROM generate_series(1, 1000) AS i")
-            cursor.execute("SELECT pg_column_compression(counts), sketch_estimate(counts, 7) >= 7, pg_column_size(counts) < length(counts::bytea) / 4, "
+            cursor.execute("SELECT pg_column_compression(counts), sketch_estimate(counts, 7) >= 7, "
+                           "pg_column_size(counts) < length(counts::bytea) / 4, "
                            "counts = (SELECT count_min_agg_sized(i, i, 4, 20000) FROM generate_series(1, 1000) AS i) FROM counted")
             row = cursor.fetchone()
             tests.check(f"a column of counts by {method}", row == (method, True, True, True), row)
