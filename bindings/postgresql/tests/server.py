@@ -67,7 +67,7 @@ def install(tree, archive, work, **settings):
     sources = tempfile.mkdtemp(dir=work)
     os.mkdir(f"{sources}/src")
     for name in os.listdir(EXTENSION):
-        if name == "Makefile" or name.endswith((".control", ".sh")):
+        if name == "Makefile" or name.endswith((".control", ".sql", ".sh")):
             shutil.copy(f"{EXTENSION}/{name}", sources)
     for name in os.listdir(f"{EXTENSION}/src"):
         if name.endswith((".c", ".h")):
