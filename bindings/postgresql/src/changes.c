@@ -139,7 +139,7 @@ static Datum part(FunctionCallInfo fcinfo, Leave leave, bool is_common)
     uint8 others = read_argument(fcinfo, 1, DS_BLOOM, &other).items;
     int32_t result;
     if ((items & others) == NO_ITEMS && items != NO_ITEMS && others != NO_ITEMS)
-        raise_items("one filter has strings as items, the other one bigints");
+        raise_items("one filter has strings as items, the other one bigints", NULL);
     result = leave(&handle, &other);
     if (result == DS_MISMATCH) raise_mismatch(&handle, &other);
     check_result(result);

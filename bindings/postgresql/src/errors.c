@@ -87,9 +87,9 @@ void raise_argument(const char *message)
     pg_unreachable();
 }
 
-void raise_items(const char *message)
+void raise_items(const char *message, const char *hint)
 {
-    ereport(ERROR, (errcode(SK(2)), errmsg("%s", message)));
+    ereport(ERROR, (errcode(SK(2)), errmsg("%s", message), hint != NULL ? errhint("%s", hint) : 0));
     pg_unreachable();
 }
 

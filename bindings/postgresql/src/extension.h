@@ -71,8 +71,8 @@ void raise_total(size_t bytes) __attribute__((noreturn));
 /* Raises an error of an argument: 22023, with this message. */
 void raise_argument(const char *message) __attribute__((noreturn));
 
-/* Raises an error of items: a sketch of one type of items was used as one of another type. */
-void raise_items(const char *message) __attribute__((noreturn));
+/* Raises an error of items: a sketch of one type of items was used as one of another type. The hint may be null. */
+void raise_items(const char *message, const char *hint) __attribute__((noreturn));
 
 /* Raises an error of a value that is no sketch of this type. */
 void raise_kind(const char *message) __attribute__((noreturn));

@@ -1,8 +1,8 @@
 /* The planner's support for `sketch_contains(filter, item)`: the estimate of the rows that pass, and a short form of a long constant.
  *
  * If the filter is known when the query is planned, the most common values of the item's column and those of its histogram are looked
- * up in it. If there are too few, the filter's number of items is compared with the column's distinct
- * values, and the false-positive rate is added. If the filter is not known, the default below is the estimate.
+ * up in it. If there are too few, the filter's number of items is compared with the column's distinct values, and the false-positive
+ * rate is added. If the filter is not known, the default below is the estimate.
  *
  * A plan prints its constants, and a filter has some 100 kB. So a long one gets another type in the plan, whose output is short. */
 #include "extension.h"
@@ -14,6 +14,7 @@
 #include "catalog/dependency.h"
 #include "catalog/pg_class.h"
 #include "catalog/pg_inherits.h"
+#include "catalog/pg_language.h"
 #include "catalog/pg_proc.h"
 #include "catalog/pg_statistic.h"
 #include "catalog/pg_type.h"
@@ -169,14 +170,15 @@ static bool reads_foreign(const Query *query)
 }
 
 /* Returns the extension's function `sketch_contains_constant`, or InvalidOid, and the type of its filter. The user may have no rights to
- * the schema, so names are not resolved. */
+ * the schema, so names are not resolved. The owner of an extension can add functions to it, but only a superuser has any in C. */
 static Oid constant_function(Oid contains, Oid *type)
 {
     Oid schema = get_func_namespace(contains), extension = getExtensionOfObject(ProcedureRelationId, contains), found = InvalidOid;
     CatCList *list = SearchSysCacheList1(PROCNAMEARGSNSP, CStringGetDatum("sketch_contains_constant"));
     for (int i = 0; i < list->n_members && OidIsValid(extension); i++) {
         Form_pg_proc function = (Form_pg_proc)GETSTRUCT(&list->members[i]->tuple);
-        if (function->pronamespace != schema || getExtensionOfObject(ProcedureRelationId, function->oid) != extension) continue;
+        if (function->pronamespace != schema || function->prolang != ClanguageId) continue;
+        if (getExtensionOfObject(ProcedureRelationId, function->oid) != extension) continue;
         found = function->oid;
         *type = function->proargtypes.values[0];
     }

@@ -410,8 +410,10 @@ FORMS(bloom_filter, DS_BLOOM)
 
 void check_items(const Sketch *sketch, uint8 items)
 {
-    if (!may_have(sketch, items))
-        raise_items(items == STRINGS ? "the sketch has no strings as items" : "the sketch has no bigints as items");
+    if (may_have(sketch, items)) return;
+    if (items == BIGINTS) raise_items("the sketch has no bigints as items", "Cast the item to text.");
+    raise_items("the sketch has no strings as items",
+                "Integers are bigints, and items of all other types are strings. Cast the item to bigint.");
 }
 
 Datum items_name(const Sketch *sketch)
