@@ -23,8 +23,11 @@ said() {
     *_bounds) echo 'bounds that enclose the weight of an item, and the estimate' ;;
     frequent_rows) echo 'the items above a threshold with their bounds' ;;
     sketch_contains_support) echo 'estimates for the planner how many rows a filter keeps' ;;
+    bloom_filter_constant) echo 'a long filter that is a constant of a plan' ;;
+    sketch_contains_constant) echo 'sketch_contains of a long filter that is a constant of a plan' ;;
     *_contains) echo 'whether an item may have been added; false only if it was not' ;;
     *_status) echo 'total weight, error and sizes of a sketch' ;;
+    *_row) echo 'an item with its bounds' ;;
     sketch_image) echo 'the image of a sketch, which the libraries and the program read' ;;
     *_from_image) echo 'a sketch of an image that the libraries or the program wrote' ;;
     *_from_bytea) echo 'a sketch of its binary form' ;;

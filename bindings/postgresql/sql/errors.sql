@@ -1,14 +1,14 @@
 \set VERBOSITY sqlstate
 
 -- Weights.
-SELECT frequent_strings_agg('a', -1);
+SELECT frequent_strings_agg('a', -1, 64);
 SELECT count_min_agg_sized(1, -1, 3, 64);
 SELECT sketch_estimate(signed_count_min_agg_sized(1, -1, 3, 64), 1);
-SELECT frequent_bigints_agg(i, 9223372036854775807) FROM generate_series(1, 3) AS i;
+SELECT frequent_bigints_agg(i, 9223372036854775807, 64) FROM generate_series(1, 3) AS i;
 SELECT count_min_agg_sized(i, 9223372036854775807, 3, 64) FROM generate_series(1, 3) AS i;
 SELECT signed_count_min_agg_sized(i, -9223372036854775807, 3, 64) FROM generate_series(1, 2) AS i;
 SELECT signed_count_min_agg_sized(1, (-9223372036854775807) - 1, 3, 64);
-SELECT sketch_status(frequent_bigints_agg(i, 9223372036854775807)) FROM generate_series(1, 2) AS i;
+SELECT sketch_status(frequent_bigints_agg(i, 9223372036854775807, 64)) FROM generate_series(1, 2) AS i;
 SELECT frequent_strings_agg('a', 1.5);
 
 -- Images: too short, of another kind, of another version, and with a number of set bits that is wrong.

@@ -38,3 +38,45 @@ SELECT expected FROM planned('SELECT FROM orders WHERE sketch_contains(NULL::blo
 -- A filter with all bits set passes all rows.
 SELECT expected FROM planned(format('SELECT FROM orders WHERE sketch_contains(%L::bloom_filter, customer)',
     (SELECT bloom_filter_agg_sized(i, 64, 5) FROM generate_series(1, 1000) AS i)));
+
+-- Planning raises no error that running does not: of a filter without items of the column's type, or of a type that has no items.
+SELECT count(*) FROM orders WHERE name = 'none' AND sketch_contains(:'ids'::bloom_filter, name);
+SELECT count(*) FROM orders WHERE customer = -1 AND sketch_contains(:'names'::bloom_filter, customer);
+CREATE TABLE rates AS SELECT (i % 10)::double precision AS rate FROM generate_series(1, 1000) AS i;
+ANALYZE rates;
+SELECT count(*) FROM rates WHERE rate = -1 AND sketch_contains(:'ids'::bloom_filter, rate);
+
+-- A plan does not print a long filter. It finds what the filter has, also by an index on the call, and in workers.
+SELECT ids AS long FROM (SELECT bloom_filter_agg(i, 100000, 0.01) AS ids FROM generate_series(1::bigint, 30) AS i) AS f \gset
+CREATE FUNCTION explained(query text) RETURNS SETOF text LANGUAGE plpgsql AS $$BEGIN RETURN QUERY EXECUTE 'EXPLAIN (VERBOSE, COSTS off) ' || query; END$$;
+SELECT explained(format('SELECT id FROM orders WHERE sketch_contains(%L::bloom_filter, customer)', :'long'));
+SELECT length(:'long') > 120000 AS is_long, count(*) AS by_text FROM orders WHERE sketch_contains(:'long', customer);
+SELECT actual, expected BETWEEN actual / 2 AND 2 * actual AS is_near
+FROM planned(format('SELECT FROM orders WHERE sketch_contains(%L::bloom_filter, customer)', :'long'));
+CREATE INDEX only_chosen ON orders (id) WHERE sketch_contains(:'long'::bloom_filter, customer);
+CREATE INDEX is_chosen ON orders (sketch_contains(:'long'::bloom_filter, customer));
+SET enable_seqscan = off;
+SELECT explained(format('SELECT id FROM orders WHERE sketch_contains(%L::bloom_filter, customer) AND id < 100', :'long'));
+SELECT count(*) FROM orders WHERE sketch_contains(:'long'::bloom_filter, customer) AND id < 1000;
+RESET enable_seqscan;
+CREATE VIEW by_view AS SELECT id FROM orders WHERE sketch_contains(:'long'::bloom_filter, customer);
+SELECT length(pg_get_viewdef('by_view'::regclass)) > 120000 AS view_is_whole, count(*) FROM by_view;
+SET parallel_setup_cost = 0;
+SET parallel_tuple_cost = 0;
+SET min_parallel_table_scan_size = 0;
+SET enable_indexscan = off;
+SET enable_bitmapscan = off;
+SELECT count(*) FROM orders WHERE sketch_contains(:'long'::bloom_filter, customer);
+RESET parallel_setup_cost;
+RESET parallel_tuple_cost;
+RESET min_parallel_table_scan_size;
+RESET enable_indexscan;
+RESET enable_bitmapscan;
+\set VERBOSITY sqlstate
+SELECT '7 bytes'::bloom_filter_constant;
+\set VERBOSITY default
+
+-- Costs are those of the work: a look-up costs little, and a call that reads and writes a whole sketch much.
+SELECT proname, min(procost), max(procost) FROM pg_proc WHERE proname IN ('sketch_contains', 'sketch_estimate', 'sketch_bounds', 'sketch_status',
+    'sketch_union', 'sketch_add', 'sketch_image', 'frequent_rows', 'bloom_filter_eq') GROUP BY proname ORDER BY 2, 3, 1;
+SELECT explained('SELECT id FROM orders, chosen WHERE sketch_contains(ids | ids, customer) AND sketch_contains(ids, customer) AND customer < 7');

@@ -27,6 +27,22 @@ SELECT f.* FROM words, frequent_rows(strings, 'no_false_positives') AS f;
 SELECT f.* FROM words, frequent_rows(strings, 'no_false_negatives', 3) AS f;
 SELECT f.* FROM words, frequent_rows(bigints, threshold => 8) AS f;
 SELECT (frequent_rows(strings)).item FROM words LIMIT 2;
+
+-- At most some rows. Those of equal estimates come in the order of their items.
+SELECT f.* FROM words, frequent_rows(strings, 2) AS f;
+SELECT f.item FROM words, frequent_rows(bigints, max_rows => 2) AS f;
+SELECT count(*) FROM words, frequent_rows(strings, 100) AS f;
+SELECT count(*) FROM words, frequent_rows(strings, 0) AS f;
+SELECT string_agg(f.item, ' ') AS items FROM (SELECT frequent_strings_agg(w) AS s FROM (VALUES ('ab'), ('b'), (''), ('a'), ('aa')) AS v(w)) AS t, frequent_rows(s, 4) AS f;
+SELECT array_agg(f.item) AS items FROM (SELECT frequent_bigints_agg(w) AS s FROM (VALUES (3), (-9223372036854775808), (9223372036854775807), (0), (-5)) AS v(w)) AS t, frequent_rows(s) AS f;
+
+-- Results of rows have types, so views and tables have them as columns.
+CREATE VIEW reports AS SELECT sketch_status(pages) AS pages, sketch_status(seconds) AS seconds, sketch_status(seen) AS seen,
+    sketch_bounds(pages, 'page 7') AS bounds, frequent_rows(pages, 1) AS top
+FROM days WHERE day = 2;
+CREATE TABLE kept_reports AS SELECT * FROM reports;
+SELECT (pages).total_weight, (seconds).num_buckets, (seen).capacity, (bounds).estimate, (top).lower_bound FROM kept_reports;
+SELECT pg_typeof(pages), pg_typeof(seconds), pg_typeof(seen), pg_typeof(bounds), pg_typeof(top) FROM reports;
 SELECT count(*) FROM frequent_rows(NULL::frequent_strings);
 
 -- With an error, rows of one mode have no false negatives, and rows of the other mode no false positives.
@@ -53,6 +69,7 @@ SELECT sketch_estimate(refunds, 'page 7') FROM days;
 SELECT sketch_estimate(pages, 7) FROM days;
 SELECT frequent_rows(strings, 'all') FROM words;
 SELECT frequent_rows(strings, 'no_false_positives', -1) FROM words;
+SELECT frequent_rows(strings, -1) FROM words;
 \set VERBOSITY default
 SELECT sketch_contains(bloom_filter_from_image(sketch_image(seen)), 207), sketch_contains(bloom_filter_from_image(sketch_image(seen)), '207')
 FROM days WHERE day = 2;

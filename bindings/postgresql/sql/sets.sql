@@ -12,6 +12,37 @@ SELECT (sketch_status(a.strings | b.strings)).total_weight, (sketch_status(a.big
     sketch_union(a.filter, b.filter) = a.filter | b.filter AS is_union
 FROM sets AS a, sets AS b, sets AS c WHERE a.name = 'low' AND b.name = 'high' AND c.name = 'all';
 
+-- A null is no sketch: the union is the other one, also in an upsert.
+SELECT (NULL | filter) = filter AS right_one, (filter | NULL) = filter AS left_one, (NULL::bloom_filter | NULL) IS NULL AS neither,
+    sketch_union(NULL, counts) = counts AS by_name
+FROM sets WHERE name = 'low';
+CREATE TABLE totals (day integer PRIMARY KEY, filter bloom_filter, strings frequent_strings);
+INSERT INTO totals VALUES (1, NULL, NULL);
+INSERT INTO totals SELECT 1, filter, strings FROM sets WHERE name = 'low'
+ON CONFLICT (day) DO UPDATE SET filter = totals.filter | excluded.filter, strings = totals.strings | excluded.strings;
+INSERT INTO totals SELECT 1, filter, strings FROM sets WHERE name = 'high'
+ON CONFLICT (day) DO UPDATE SET filter = totals.filter | excluded.filter, strings = totals.strings | excluded.strings;
+SELECT filter = (SELECT filter FROM sets WHERE name = 'all') AS filter, (sketch_status(strings)).total_weight FROM totals;
+
+-- A union of frequent items of unlike sizes has the larger size, in any order of rows, and within the limits.
+CREATE TABLE unlike AS
+SELECT size, frequent_strings_agg('item ' || i, 1, size) AS strings, frequent_bigints_agg(i, 1, size) AS bigints
+FROM (VALUES (16), (1024), (64), (256), (8)) AS v(size), generate_series(1, 200) AS i GROUP BY size;
+SELECT (sketch_status(frequent_strings_union(strings ORDER BY size))).max_map_size AS up,
+    (sketch_status(frequent_strings_union(strings ORDER BY size DESC))).max_map_size AS down,
+    (sketch_status(frequent_bigints_union(bigints ORDER BY size % 100))).max_map_size AS mixed,
+    (sketch_status(frequent_bigints_union(bigints))).total_weight
+FROM unlike;
+SELECT (sketch_status(a.strings | b.strings)).max_map_size AS small_first, (sketch_status(b.strings | a.strings)).max_map_size AS large_first,
+    (sketch_status(a.bigints | b.bigints)).max_map_size AS bigints, (sketch_status(a.strings | b.strings)).total_weight
+FROM unlike AS a, unlike AS b WHERE a.size = 16 AND b.size = 1024;
+CREATE TABLE short AS SELECT size, frequent_strings_agg('a', 1, size) AS strings FROM (VALUES (16), (256), (1024), (2048)) AS v(size) GROUP BY size;
+SET sketches_rattle.max_frequent_bytes = 20000;
+SELECT a.size, b.size, (sketch_status(a.strings | b.strings)).max_map_size FROM short AS a, short AS b WHERE a.size <> b.size ORDER BY 1, 2;
+SELECT (sketch_status(frequent_strings_union(strings ORDER BY size))).max_map_size AS up,
+    (sketch_status(frequent_strings_union(strings ORDER BY size DESC))).max_map_size AS down FROM short;
+RESET sketches_rattle.max_frequent_bytes;
+
 -- The intersection of two filters contains what both contain.
 SELECT bool_and(sketch_contains(a.filter & b.filter, i)) AS contained,
     bool_and(sketch_contains(sketch_intersection(a.filter, b.filter), i)) AS by_name
@@ -48,3 +79,9 @@ SELECT bloom_filter_union(f) FROM (SELECT bloom_filter_agg_sized(i, 64 * i, 5) A
 SELECT filter | counts FROM sets;
 SELECT strings | bigints FROM sets;
 \set VERBOSITY default
+
+-- An error of unlike shapes has both.
+SELECT bloom_filter_agg_sized('a', 1000, 5) | bloom_filter_agg_sized('a', 2000, 6);
+SELECT bloom_filter_agg_sized('a', 1000, 5) - bloom_filter_agg_sized('a', 2000, 5);
+SELECT count_min_agg_sized('a', 1, 3, 64) | count_min_agg_sized('a', 1, 4, 65);
+SELECT count_min_union(c) FROM (SELECT count_min_agg_sized(i, 3, CASE i WHEN 3 THEN 65 ELSE 64 END) AS c FROM generate_series(1, 4) AS i GROUP BY i) AS s;

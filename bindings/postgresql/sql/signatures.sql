@@ -31,8 +31,8 @@ CREATE TABLE weighted AS SELECT page, n AS large, n::integer AS medium, n::small
 FROM (VALUES ('a', 1::bigint), ('b', 20), ('a', 300), ('b', NULL), (NULL, 4000)) AS v(page, n);
 SELECT sketch_bounds(frequent_strings_agg(page, large), 'a') AS bigint, sketch_bounds(frequent_strings_agg(page, medium), 'a') AS integer,
     sketch_bounds(frequent_strings_agg(page, small), 'a') AS smallint, sketch_bounds(frequent_strings_agg(page, exact), 'a') AS numeric,
-    sketch_bounds(frequent_strings_agg(page, own), 'a') AS domain, sketch_bounds(frequent_strings_agg(page, 2), 'a') AS constant,
-    frequent_strings_agg(page, NULL) IS NULL AS no_weight
+    sketch_bounds(frequent_strings_agg(page, own), 'a') AS domain, sketch_bounds(frequent_strings_agg(page, 2, 64), 'a') AS constant,
+    frequent_strings_agg(page, NULL::bigint) IS NULL AS no_weight
 FROM weighted;
 SELECT (sketch_status(frequent_bigints_agg(large, medium, 64))).total_weight AS sized,
     (sketch_status(frequent_bigints_agg(large, exact, 0.1))).total_weight AS by_error,
@@ -72,7 +72,7 @@ SELECT frequent_strings_agg('a', 0.01, 64);
 SELECT frequent_strings_agg('a', 9223372036854775807.4);
 SELECT frequent_strings_agg('a', 9223372036854775808);
 SELECT frequent_strings_agg('a', 1e300::numeric);
-SELECT frequent_strings_agg('a', -1.0);
+SELECT frequent_strings_agg('a', -1.0, 64);
 SELECT signed_count_min_agg_sized('a', -9223372036854775808::numeric, 3, 64);
 SELECT signed_count_min_agg_sized('a', -9223372036854775809::numeric, 3, 64);
 SELECT count_min_agg('a', 'NaN'::numeric, 0.1, 0.9);
@@ -85,20 +85,25 @@ SELECT frequent_strings_agg('a', 1.5);
 SELECT frequent_strings_agg('a', true);
 \set VERBOSITY default
 
--- Items of other types by their own bytes. Equal items have equal bytes.
-CREATE TEMP TABLE others AS SELECT * FROM (VALUES ('f0eebc99-9c0b-4ef8-bb6d-6bb9bd380a11'::uuid, '\x00ff'::bytea, 1.5, date '2026-02-03',
-    timestamp '2026-02-03 04:05:06.000007', timestamptz '2026-02-03 04:05:06+01', '-0'::double precision, 4294967295::oid))
-    AS v(u, b, n, d, t, z, x, o);
-SELECT sketch_contains(bloom_filter_agg(encode(uuid_send(u), 'hex'), 10, 0.01),
-        encode(uuid_send('F0EEBC99-9C0B-4EF8-BB6D-6BB9BD380A11'), 'hex')) AS uuid,
-    sketch_contains(bloom_filter_agg(encode(b, 'hex'), 10, 0.01), encode('\x00ff', 'hex')) AS bytea,
-    sketch_contains(bloom_filter_agg(trim_scale(n)::text, 10, 0.01), trim_scale(1.50)::text) AS numeric,
-    sketch_contains(bloom_filter_agg(encode(date_send(d), 'hex'), 10, 0.01), encode(date_send('03 Feb 2026'), 'hex')) AS date
+-- A second argument that is the same number for items of many rows is meant as a size. It is an error, unless it is 1 or a size follows.
+CREATE TABLE others AS SELECT 'page ' || i % 3 AS page, i % 3 AS weight FROM generate_series(1, 30) AS i;
+SELECT frequent_strings_agg(page, 4096) FROM others;
+SELECT (sketch_status(frequent_strings_agg(page, 1, 4096))).max_map_size, (sketch_status(frequent_strings_agg(page, 1))).total_weight,
+    (sketch_status(frequent_strings_agg(page, 7, 1024))).total_weight AS of_sevens, (sketch_status(frequent_strings_agg(page, weight))).total_weight AS of_weights
 FROM others;
-SELECT sketch_contains(bloom_filter_agg(encode(timestamp_send(t), 'hex'), 10, 0.01),
-        encode(timestamp_send('2026-02-03 04:05:06.0000070'), 'hex')) AS timestamp,
-    sketch_contains(bloom_filter_agg(encode(timestamptz_send(z), 'hex'), 10, 0.01),
-        encode(timestamptz_send('2026-02-03 03:05:06+00'), 'hex')) AS timestamptz,
-    sketch_contains(bloom_filter_agg(encode(float8send(x + 0), 'hex'), 10, 0.01), encode(float8send(0.0 + 0), 'hex')) AS double,
-    sketch_contains(bloom_filter_agg(o::bigint, 10, 0.01), 4294967295) AS oid
-FROM others;
+SELECT sketch_estimate(frequent_strings_agg('one item', 7), 'one item');
+\set VERBOSITY sqlstate
+SELECT frequent_bigints_agg(weight, 512 * 2) FROM others;
+SELECT frequent_strings_agg(page, 64::numeric) FROM others;
+SELECT frequent_strings_agg(page, 64) OVER () FROM others;
+SELECT frequent_strings_agg(page, weight) OVER w, frequent_strings_agg(page, 64) OVER w FROM others WINDOW w AS (ORDER BY page);
+PREPARE sized(integer) AS SELECT (sketch_status(frequent_strings_agg(page, $1))).total_weight FROM others;
+SET plan_cache_mode = force_generic_plan;
+EXECUTE sized(64);
+EXECUTE sized(1);
+SET plan_cache_mode = force_custom_plan;
+EXECUTE sized(64);
+EXECUTE sized(1);
+RESET plan_cache_mode;
+\set VERBOSITY default
+SELECT count(s) FROM (SELECT frequent_strings_agg(page, weight) OVER w AS s, frequent_strings_agg(page, 64, 64) OVER w FROM others WINDOW w AS ()) AS t;

@@ -68,7 +68,9 @@ FROM generate_series(1, 100) AS i;
 SELECT (sketch_status(strings)).num_active_items, sketch_contains(filter, 7) FROM long;
 SET sketches_rattle.max_image_bytes = '64kB';
 SELECT sketch_status(strings) FROM long;
-SELECT strings::text::frequent_strings FROM long;
+-- What the types' own forms have was stored before: a user's settings do not limit it.
+SELECT strings::text::frequent_strings IS NOT NULL AS text, (strings::bytea)::frequent_strings IS NOT NULL AS bytea FROM long;
+SELECT strings::text::frequent_strings IS NOT NULL AS text FROM long;
 SELECT frequent_strings_from_image(sketch_image(strings)) FROM long;
 SELECT filter | filter FROM long;
 RESET sketches_rattle.max_image_bytes;

@@ -4,11 +4,17 @@
 #include "extension.h"
 #include "update.h"
 
+#include "access/htup_details.h"
+#include "catalog/pg_aggregate.h"
 #include "catalog/pg_type.h"
+#include "nodes/execnodes.h"
+#include "nodes/nodeFuncs.h"
+#include "optimizer/optimizer.h"
 #include "utils/builtins.h"
 #include "utils/lsyscache.h"
 #include "utils/memutils.h"
 #include "utils/numeric.h"
+#include "utils/syscache.h"
 
 /* Stored sketches are merged in batches. A merge of frequent items copies the table, so one merge of many sketches costs less than
  * many merges of one. A batch ends with the sketch that fills one of these limits. The bytes are those of the sketches: a short image
@@ -39,6 +45,7 @@ typedef struct State {
     uint8 kind;
     uint8 items;
     bool has_sketch;
+    Form form;          /* of the type of the call's items */
     WeightType weights; /* the type of the call's weights, if it has any */
     Datum sizes[2];     /* the size arguments of the first row */
     Frame frame;        /* of a frame that moves */
@@ -94,11 +101,10 @@ static State *new_state(FunctionCallInfo fcinfo, Kind kind, uint8 items)
 
 /* --- Weights. Their argument is polymorphic: overloads for bigint and numeric would leave a call with an integer ambiguous. --- */
 
-/* Returns the type of the call's weights. Raises an error for a type that weights do not have. */
-static WeightType type_of_weights(FunctionCallInfo fcinfo)
+/* Returns the type of weights whose expression has this type. Raises an error for a type that weights do not have. */
+static WeightType type_of_weights(Oid type)
 {
-    Oid type = getBaseType(get_fn_expr_argtype(fcinfo->flinfo, 2));
-    switch (type) {
+    switch (getBaseType(type)) {
     case INT8OID: return BIGINT_WEIGHT;
     case INT4OID: return INTEGER_WEIGHT;
     case INT2OID: return SMALLINT_WEIGHT;
@@ -125,13 +131,66 @@ static int64 numeric_weight(Datum datum)
     return whole;
 }
 
-/* Returns the weight of the call's row. */
-static inline int64 weight_argument(FunctionCallInfo fcinfo, const State *state)
+/* Returns a weight of some type as a bigint. */
+static inline int64 weight_of(Datum datum, WeightType type)
 {
-    if (likely(state->weights == BIGINT_WEIGHT)) return PG_GETARG_INT64(2);
-    if (state->weights == INTEGER_WEIGHT) return PG_GETARG_INT32(2);
-    if (state->weights == SMALLINT_WEIGHT) return PG_GETARG_INT16(2);
-    return numeric_weight(PG_GETARG_DATUM(2));
+    if (likely(type == BIGINT_WEIGHT)) return DatumGetInt64(datum);
+    if (type == INTEGER_WEIGHT) return DatumGetInt32(datum);
+    if (type == SMALLINT_WEIGHT) return DatumGetInt16(datum);
+    return numeric_weight(datum);
+}
+
+/* Raises an error if a weight of a call without sizes is the same number for items of many rows, and is not 1: it is meant as the size. */
+static void check_constant(Node *item, const Node *weight, WeightType type, Datum datum)
+{
+    int64 number;
+    if (!contain_var_clause(item)) return;
+    if (IsA(weight, Const)) {
+        if (((const Const *)weight)->constisnull) return;
+        datum = ((const Const *)weight)->constvalue;
+    } else if (!IsA(weight, Param) || ((const Param *)weight)->paramkind != PARAM_EXTERN) {
+        return;
+    }
+    number = weight_of(datum, type);
+    if (number != 1)
+        ereport(ERROR, (errcode(ERRCODE_INVALID_PARAMETER_VALUE),
+                        errmsg("the second argument is a weight, and " INT64_FORMAT " is that of each row", number),
+                        errdetail("The size is the third argument."),
+                        errhint("Write (item, 1, " INT64_FORMAT ") for this size, or (item, " INT64_FORMAT ", %d) for this weight.",
+                                number, number, DEFAULT_MAX_MAP_SIZE)));
+}
+
+/* Returns an argument of an aggregate's call. */
+static Node *argument_of(const Aggref *call, int number)
+{
+    return (Node *)list_nth_node(TargetEntry, call->args, number)->expr;
+}
+
+/* Returns whether an aggregate has this transition function. */
+static bool has_step(Oid aggregate, Oid function)
+{
+    HeapTuple tuple = SearchSysCache1(AGGFNOID, ObjectIdGetDatum(aggregate));
+    bool has = HeapTupleIsValid(tuple) && ((Form_pg_aggregate)GETSTRUCT(tuple))->aggtransfn == function;
+    if (HeapTupleIsValid(tuple)) ReleaseSysCache(tuple);
+    return has;
+}
+
+/* Checks the weight of a call that has no size, by `check_constant`. Calls over one window share their functions, so all of them
+ * are checked that have as many arguments. */
+static void check_weight_argument(FunctionCallInfo fcinfo, WeightType type)
+{
+    Aggref *aggregate = AggGetAggref(fcinfo);
+    ListCell *cell;
+    if (aggregate != NULL) {
+        check_constant(argument_of(aggregate, 0), argument_of(aggregate, 1), type, PG_GETARG_DATUM(2));
+    } else if (fcinfo->context != NULL && IsA(fcinfo->context, WindowAggState)) {
+        foreach (cell, ((WindowAggState *)fcinfo->context)->funcs) {
+            WindowFunc *call = ((WindowFuncExprState *)lfirst(cell))->wfunc;
+            Node *weight = list_length(call->args) == 2 ? lsecond(call->args) : NULL;
+            if (call->winagg && weight != NULL && IsA(weight, Const) && has_step(call->winfnoid, fcinfo->flinfo->fn_oid))
+                check_constant(linitial(call->args), weight, type_of_weights(exprType(weight)), (Datum)0);
+        }
+    }
 }
 
 /* --- Rows. --- */
@@ -147,7 +206,6 @@ static inline void check_size(FunctionCallInfo fcinfo, int number)
  * filters do not have, and sizes. */
 typedef struct Row {
     Kind kind;
-    uint8 items;
     int number; /* of the first argument that is a size: 3 after a weight, and 2 otherwise */
     Make make;
 } Row;
@@ -162,8 +220,10 @@ static inline bool has_weights(FunctionCallInfo fcinfo, Row row)
 static void begin(FunctionCallInfo fcinfo, State *state, Row row)
 {
     MemoryContext before;
-    check_equality(fcinfo, 1);
-    if (has_weights(fcinfo, row)) state->weights = type_of_weights(fcinfo);
+    state->form = form_argument(fcinfo, 1, row.kind);
+    state->items = type_of(state->form);
+    if (has_weights(fcinfo, row)) state->weights = type_of_weights(get_fn_expr_argtype(fcinfo->flinfo, 2));
+    if (is_frequent(row.kind) && PG_NARGS() == 3) check_weight_argument(fcinfo, state->weights);
     for (int i = row.number; i < PG_NARGS(); i++) {
         check_size(fcinfo, i);
         state->sizes[i - row.number] = PG_GETARG_DATUM(i);
@@ -188,8 +248,8 @@ static inline void check_sizes(FunctionCallInfo fcinfo, const State *state, int 
 static inline void check_strings(State *state, size_t length)
 {
     state->unchecked += length;
-    if (likely(state->unchecked < limit_of(DS_FREQUENT_ITEMS_STRING) / 4)) return;
-    check_limit(&state->handle);
+    if (likely(state->unchecked < limit_of(DS_FREQUENT_ITEMS_STRING, USERS_LIMITS) / 4)) return;
+    check_limit(&state->handle, USERS_LIMITS);
     state->unchecked = 0;
 }
 
@@ -202,21 +262,14 @@ static inline bool is_counted(FunctionCallInfo fcinfo, Row row)
 /* Returns the row's weight, which is 1 if the call has none. */
 static inline int64 row_weight(FunctionCallInfo fcinfo, const State *state, Row row)
 {
-    return has_weights(fcinfo, row) ? weight_argument(fcinfo, state) : 1;
-}
-
-/* Returns the row's item if it is a string. */
-static inline ds_string row_string(FunctionCallInfo fcinfo, uint8 items)
-{
-    return items == STRINGS ? string_argument(fcinfo, 1) : (ds_string){NULL, 0};
+    return has_weights(fcinfo, row) ? weight_of(PG_GETARG_DATUM(2), state->weights) : 1;
 }
 
 /* Adds the row's item to the state's sketch. Returns the library's result. */
-static pg_attribute_always_inline int32_t add_item(FunctionCallInfo fcinfo, State *state, Row row, ds_string string, int64 weight)
+static pg_attribute_always_inline int32_t add_to_state(State *state, Kind kind, const SketchItem *item, int64 weight)
 {
     MemoryContext before = MemoryContextSwitchTo(state->context);
-    int32_t result = row.items == STRINGS ? add_string(row.kind, &state->handle, string, weight)
-                                          : add_bigint(row.kind, &state->handle, PG_GETARG_INT64(1), weight);
+    int32_t result = add_item(kind, &state->handle, item, weight);
     MemoryContextSwitchTo(before);
     return result;
 }
@@ -226,35 +279,30 @@ static pg_attribute_always_inline Datum add_row(FunctionCallInfo fcinfo, Row row
 {
     State *state = state_argument(fcinfo, 0);
     int64 weight;
-    ds_string string;
+    SketchItem item;
     if (!is_counted(fcinfo, row)) return state_result(fcinfo, state);
-    if (unlikely(state == NULL)) begin(fcinfo, state = new_state(fcinfo, row.kind, row.items), row);
+    if (unlikely(state == NULL)) begin(fcinfo, state = new_state(fcinfo, row.kind, NO_ITEMS), row);
     else check_sizes(fcinfo, state, row.number);
     weight = row_weight(fcinfo, state, row);
     check_weight(row.kind, weight);
-    string = row_string(fcinfo, row.items);
-    check_result(add_item(fcinfo, state, row, string, weight));
-    if (row.kind == DS_FREQUENT_ITEMS_STRING) check_strings(state, string.length);
+    read_item(fcinfo, 1, state->form, &item);
+    check_result(add_to_state(state, row.kind, &item, weight));
+    if (row.kind == DS_FREQUENT_ITEMS_STRING) check_strings(state, item.string.length);
     PG_RETURN_POINTER(state);
 }
 
 #define ROW(name, add, ...) FUNCTION(name, add, ((Row){__VA_ARGS__}))
-#define ROWS(name, add, kind, items, number, prefix) \
-    ROW(name##_by_size, add, kind, items, number, prefix##_by_size) \
-    ROW(name##_by_error, add, kind, items, number, prefix##_by_error)
+#define ROWS(name, add, kind, number, prefix) \
+    ROW(name##_by_size, add, kind, number, prefix##_by_size) \
+    ROW(name##_by_error, add, kind, number, prefix##_by_error)
 
-ROWS(frequent_strings_add, add_row, DS_FREQUENT_ITEMS_STRING, STRINGS, 3, frequent)
-ROWS(frequent_bigints_add, add_row, DS_FREQUENT_ITEMS_I64, BIGINTS, 3, frequent)
-ROWS(count_min_add_string, add_row, DS_COUNT_MIN_U64, STRINGS, 2, count)
-ROWS(count_min_add_weighted_string, add_row, DS_COUNT_MIN_U64, STRINGS, 3, count)
-ROWS(count_min_add_bigint, add_row, DS_COUNT_MIN_U64, BIGINTS, 2, count)
-ROWS(count_min_add_weighted_bigint, add_row, DS_COUNT_MIN_U64, BIGINTS, 3, count)
-ROWS(signed_count_min_add_string, add_row, DS_COUNT_MIN_I64, STRINGS, 2, count)
-ROWS(signed_count_min_add_weighted_string, add_row, DS_COUNT_MIN_I64, STRINGS, 3, count)
-ROWS(signed_count_min_add_bigint, add_row, DS_COUNT_MIN_I64, BIGINTS, 2, count)
-ROWS(signed_count_min_add_weighted_bigint, add_row, DS_COUNT_MIN_I64, BIGINTS, 3, count)
-ROWS(bloom_filter_add_string, add_row, DS_BLOOM, STRINGS, 2, filter)
-ROWS(bloom_filter_add_bigint, add_row, DS_BLOOM, BIGINTS, 2, filter)
+ROWS(frequent_strings_add, add_row, DS_FREQUENT_ITEMS_STRING, 3, frequent)
+ROWS(frequent_bigints_add, add_row, DS_FREQUENT_ITEMS_I64, 3, frequent)
+ROWS(count_min_add, add_row, DS_COUNT_MIN_U64, 2, count)
+ROWS(count_min_add_weighted, add_row, DS_COUNT_MIN_U64, 3, count)
+ROWS(signed_count_min_add, add_row, DS_COUNT_MIN_I64, 2, count)
+ROWS(signed_count_min_add_weighted, add_row, DS_COUNT_MIN_I64, 3, count)
+ROWS(bloom_filter_add, add_row, DS_BLOOM, 2, filter)
 
 /* --- Frames of windows that move: a row that leaves a frame is added again with its weight negated, so each row costs two updates.
  * The cells are then those of the frame's rows. The library's total counts all weights without their signs, so it is more than that
@@ -271,8 +319,8 @@ static void settle(State *state)
         struct varlena *image = write_image(&state->handle, VARHDRSZ);
         for (int i = 0; i < 8; i++) VARDATA(image)[TOTAL + i] = state->frame.total >> 8 * i & 0xff;
         ds_free(&state->handle);
-        read_image(state->kind, &state->handle, VARDATA(image), VARSIZE(image) - VARHDRSZ, status.seed, false);
-        pfree(image);
+        read_image(state->kind, &state->handle, VARDATA(image), VARSIZE(image) - VARHDRSZ, status.seed, NO_LIMITS);
+        counted_free(image);
     }
     MemoryContextSwitchTo(before);
 }
@@ -288,18 +336,18 @@ static pg_attribute_always_inline Datum enter_row(FunctionCallInfo fcinfo, Row r
 {
     State *state = state_argument(fcinfo, 0);
     int64 weight;
-    ds_string string;
     int32_t result;
-    if (state == NULL) state = new_state(fcinfo, row.kind, row.items);
+    SketchItem item;
+    if (state == NULL) state = new_state(fcinfo, row.kind, NO_ITEMS);
     if (!is_counted(fcinfo, row)) PG_RETURN_POINTER(state);
     if (unlikely(!state->has_sketch)) begin(fcinfo, state, row);
     else check_sizes(fcinfo, state, row.number);
     weight = row_weight(fcinfo, state, row);
-    string = row_string(fcinfo, row.items);
-    result = add_item(fcinfo, state, row, string, weight);
+    read_item(fcinfo, 1, state->form, &item);
+    result = add_to_state(state, row.kind, &item, weight);
     if (unlikely(result == DS_WEIGHT_OVERFLOW)) {
         settle(state);
-        result = add_item(fcinfo, state, row, string, weight);
+        result = add_to_state(state, row.kind, &item, weight);
     }
     check_result(result);
     state->frame.rows++;
@@ -313,6 +361,7 @@ static pg_attribute_always_inline Datum leave_row(FunctionCallInfo fcinfo, Row r
     State *state = state_argument(fcinfo, 0);
     int64 weight;
     int32_t result;
+    SketchItem item;
     if (!is_counted(fcinfo, row)) return state_result(fcinfo, state);
     if (state == NULL || !state->has_sketch) elog(ERROR, "a row left a frame that does not have it");
     weight = row_weight(fcinfo, state, row);
@@ -322,20 +371,17 @@ static pg_attribute_always_inline Datum leave_row(FunctionCallInfo fcinfo, Row r
         state->has_sketch = false;
         PG_RETURN_POINTER(state);
     }
-    result = add_item(fcinfo, state, row, row_string(fcinfo, row.items), (int64) - (uint64)weight);
+    read_item(fcinfo, 1, state->form, &item);
+    result = add_to_state(state, row.kind, &item, (int64) - (uint64)weight);
     if (result == DS_WEIGHT_OVERFLOW) PG_RETURN_NULL();
     check_result(result);
     PG_RETURN_POINTER(state);
 }
 
-ROWS(signed_count_min_enter_string, enter_row, DS_COUNT_MIN_I64, STRINGS, 2, count)
-ROWS(signed_count_min_enter_weighted_string, enter_row, DS_COUNT_MIN_I64, STRINGS, 3, count)
-ROWS(signed_count_min_enter_bigint, enter_row, DS_COUNT_MIN_I64, BIGINTS, 2, count)
-ROWS(signed_count_min_enter_weighted_bigint, enter_row, DS_COUNT_MIN_I64, BIGINTS, 3, count)
-ROW(signed_count_min_leave_string, leave_row, DS_COUNT_MIN_I64, STRINGS, 2, NULL)
-ROW(signed_count_min_leave_weighted_string, leave_row, DS_COUNT_MIN_I64, STRINGS, 3, NULL)
-ROW(signed_count_min_leave_bigint, leave_row, DS_COUNT_MIN_I64, BIGINTS, 2, NULL)
-ROW(signed_count_min_leave_weighted_bigint, leave_row, DS_COUNT_MIN_I64, BIGINTS, 3, NULL)
+ROWS(signed_count_min_enter, enter_row, DS_COUNT_MIN_I64, 2, count)
+ROWS(signed_count_min_enter_weighted, enter_row, DS_COUNT_MIN_I64, 3, count)
+ROW(signed_count_min_leave, leave_row, DS_COUNT_MIN_I64, 2, NULL)
+ROW(signed_count_min_leave_weighted, leave_row, DS_COUNT_MIN_I64, 3, NULL)
 
 PG_FUNCTION_INFO_V1(signed_count_min_of_frame);
 
@@ -351,6 +397,18 @@ Datum signed_count_min_of_frame(PG_FUNCTION_ARGS)
 
 /* --- Unions. --- */
 
+/* Raises the error of a merge: the first sketch of a batch that has another shape than the state's is named. */
+static void raise_merge(State *state, int32_t result)
+{
+    for (size_t i = 0; result == DS_MISMATCH && i < state->batch->count; i++) {
+        ds_status one = status_of(&state->handle), other = status_of(&state->batch->handles[i]);
+        if (one.num_bits != other.num_bits || one.num_buckets != other.num_buckets || one.num_hashes != other.num_hashes ||
+            one.seed != other.seed)
+            raise_mismatch(&state->handle, &state->batch->handles[i]);
+    }
+    raise_result(result);
+}
+
 /* Merges the sketches of a state's batch, if any, into its sketch. */
 static void flush(State *state)
 {
@@ -361,24 +419,38 @@ static void flush(State *state)
     before = MemoryContextSwitchTo(state->context);
     result = ds_merge_all(&state->handle, batch->handles, batch->count);
     MemoryContextSwitchTo(before);
-    check_result(result);
+    if (unlikely(result < 0)) raise_merge(state, result);
     for (size_t i = 0; i < batch->count; i++) ds_free(&batch->handles[i]);
     batch->count = batch->bytes = 0;
 }
 
+/* Merges the state's sketch into another one, which then replaces it. */
+static void merge_into(ds_sketch *other, State *state)
+{
+    merge(other, &state->handle);
+    check_result(ds_clone(&state->handle, other));
+    ds_free(other);
+}
+
 /* Reads an image into a state that has no sketch, or else into its batch. */
-static void add_image(State *state, const void *image, size_t bytes, uint64 seed, bool has_limits)
+static void add_image(State *state, const void *image, size_t bytes, uint64 seed, Limits limits)
 {
     MemoryContext before = MemoryContextSwitchTo(state->context);
     if (!state->has_sketch) {
-        read_image(state->kind, &state->handle, image, bytes, seed, has_limits);
+        read_image(state->kind, &state->handle, image, bytes, seed, limits);
         state->has_sketch = true;
     } else {
         Batch *batch = state->batch;
+        ds_sketch *next;
         if (batch == NULL) batch = state->batch = palloc0(sizeof(Batch));
-        read_image(state->kind, &batch->handles[batch->count], image, bytes, seed, has_limits);
-        batch->bytes += bytes_of(&batch->handles[batch->count]);
-        batch->count++;
+        next = &batch->handles[batch->count];
+        read_image(state->kind, next, image, bytes, seed, limits);
+        if (is_frequent(state->kind) && has_size_of_union(next, &state->handle)) {
+            merge_into(next, state);
+        } else {
+            batch->bytes += bytes_of(next);
+            batch->count++;
+        }
         if (batch->count == MAX_IN_BATCH || batch->bytes >= BYTES_IN_BATCH) flush(state);
     }
     MemoryContextSwitchTo(before);
@@ -394,9 +466,9 @@ Datum state_add_sketch(PG_FUNCTION_ARGS)
     if (PG_ARGISNULL(1)) return state_result(fcinfo, state);
     sketch = detoast_sketch(PG_GETARG_DATUM(1), state == NULL ? ANY_KIND : state->kind);
     if (state == NULL) state = new_state(fcinfo, kind_of(sketch), sketch->items);
-    add_image(state, sketch->image, IMAGE_BYTES(sketch), seed_of(sketch), true);
+    add_image(state, sketch->image, IMAGE_BYTES(sketch), seed_of(sketch), USERS_LIMITS);
     state->items |= sketch->items;
-    PG_FREE_IF_COPY(sketch, 1);
+    free_copy(sketch, PG_GETARG_DATUM(1));
     PG_RETURN_POINTER(state);
 }
 
@@ -467,7 +539,7 @@ Datum state_combine(PG_FUNCTION_ARGS)
     }
     if (state->kind != other->kind) elog(ERROR, "states of different kinds were combined");
     if (memcmp(state->sizes, other->sizes, sizeof state->sizes) != 0) raise_sizes();
-    add_image(state, other->image, other->image_bytes, other->seed, false);
+    add_image(state, other->image, other->image_bytes, other->seed, NO_LIMITS);
     state->items |= other->items;
     PG_RETURN_POINTER(state);
 }

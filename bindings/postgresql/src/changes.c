@@ -2,12 +2,20 @@
 #include "extension.h"
 #include "update.h"
 
-/* Reads the stored sketch of an argument into a handle that has no sketch. Returns the stored sketch, detoasted. */
-static const Sketch *read_argument(FunctionCallInfo fcinfo, int number, Kind kind, ds_sketch *handle)
+/* What is read of a stored sketch beside its handle. */
+typedef struct Header {
+    Kind kind;
+    uint8 items;
+} Header;
+
+/* Reads the stored sketch of an argument into a handle that has no sketch. */
+static Header read_argument(FunctionCallInfo fcinfo, int number, Kind kind, ds_sketch *handle)
 {
     Sketch *sketch = detoast_sketch(PG_GETARG_DATUM(number), kind);
+    Header header = {kind_of(sketch), sketch->items};
     load(sketch, handle);
-    return sketch;
+    free_copy(sketch, PG_GETARG_DATUM(number));
+    return header;
 }
 
 /* Returns a stored sketch from a handle, and frees the handle's. */
@@ -44,7 +52,7 @@ PG_FUNCTION_INFO_V1(sketch_reset);
 Datum sketch_reset(PG_FUNCTION_ARGS)
 {
     ds_sketch handle = DS_NONE;
-    Kind kind = kind_of(read_argument(fcinfo, 0, ANY_KIND, &handle));
+    Kind kind = read_argument(fcinfo, 0, ANY_KIND, &handle).kind;
     check_result(ds_reset(&handle));
     return stored(items_of(kind, NO_ITEMS), &handle);
 }
@@ -52,27 +60,28 @@ Datum sketch_reset(PG_FUNCTION_ARGS)
 /* --- One more item. --- */
 
 /* Returns a sketch with an item added: the second argument, with the weight in the third one, which filters do not have. */
-static Datum with_item(FunctionCallInfo fcinfo, Kind kind, uint8 items)
+static Datum with_item(FunctionCallInfo fcinfo, Kind kind)
 {
+    Form form = form_argument(fcinfo, 1, kind);
     int64 weight = kind == DS_BLOOM ? 1 : PG_GETARG_INT64(2);
     ds_sketch handle = DS_NONE;
-    const Sketch *sketch = read_argument(fcinfo, 0, kind, &handle);
-    check_equality(fcinfo, 1);
-    check_items(sketch, items);
+    Sketch *sketch = detoast_sketch(PG_GETARG_DATUM(0), kind);
+    uint8 items = sketch->items | type_of(form);
+    SketchItem item;
+    check_items(sketch, type_of(form));
     check_weight(kind, weight);
-    check_result(items == STRINGS ? add_string(kind, &handle, string_argument(fcinfo, 1), weight)
-                                  : add_bigint(kind, &handle, PG_GETARG_INT64(1), weight));
-    return stored(sketch->items | items, &handle);
+    load(sketch, &handle);
+    free_copy(sketch, PG_GETARG_DATUM(0));
+    read_item(fcinfo, 1, form, &item);
+    check_result(add_item(kind, &handle, &item, weight));
+    return stored(items, &handle);
 }
 
-FUNCTION(frequent_strings_with_item, with_item, DS_FREQUENT_ITEMS_STRING, STRINGS)
-FUNCTION(frequent_bigints_with_item, with_item, DS_FREQUENT_ITEMS_I64, BIGINTS)
-FUNCTION(count_min_with_string, with_item, DS_COUNT_MIN_U64, STRINGS)
-FUNCTION(count_min_with_bigint, with_item, DS_COUNT_MIN_U64, BIGINTS)
-FUNCTION(signed_count_min_with_string, with_item, DS_COUNT_MIN_I64, STRINGS)
-FUNCTION(signed_count_min_with_bigint, with_item, DS_COUNT_MIN_I64, BIGINTS)
-FUNCTION(bloom_filter_with_string, with_item, DS_BLOOM, STRINGS)
-FUNCTION(bloom_filter_with_bigint, with_item, DS_BLOOM, BIGINTS)
+FUNCTION(frequent_strings_with_item, with_item, DS_FREQUENT_ITEMS_STRING)
+FUNCTION(frequent_bigints_with_item, with_item, DS_FREQUENT_ITEMS_I64)
+FUNCTION(count_min_with_item, with_item, DS_COUNT_MIN_U64)
+FUNCTION(signed_count_min_with_item, with_item, DS_COUNT_MIN_I64)
+FUNCTION(bloom_filter_with_item, with_item, DS_BLOOM)
 
 /* --- Smaller weights. --- */
 
@@ -82,9 +91,9 @@ PG_FUNCTION_INFO_V1(count_min_halve);
 Datum count_min_halve(PG_FUNCTION_ARGS)
 {
     ds_sketch handle = DS_NONE;
-    const Sketch *sketch = read_argument(fcinfo, 0, DS_COUNT_MIN_U64, &handle);
+    uint8 items = read_argument(fcinfo, 0, DS_COUNT_MIN_U64, &handle).items;
     check_result(ds_count_min_u64_halve(&handle));
-    return stored(sketch->items, &handle);
+    return stored(items, &handle);
 }
 
 PG_FUNCTION_INFO_V1(count_min_decay);
@@ -94,24 +103,28 @@ Datum count_min_decay(PG_FUNCTION_ARGS)
 {
     int64 numerator = PG_GETARG_INT64(1), denominator = PG_GETARG_INT64(2);
     ds_sketch handle = DS_NONE;
-    const Sketch *sketch = read_argument(fcinfo, 0, DS_COUNT_MIN_U64, &handle);
+    uint8 items = read_argument(fcinfo, 0, DS_COUNT_MIN_U64, &handle).items;
     check_result(numerator < 0 || denominator < 0 ? DS_BAD_FRACTION : ds_count_min_u64_decay(&handle, numerator, denominator));
-    return stored(sketch->items, &handle);
+    return stored(items, &handle);
 }
 
 /* --- Two sketches. --- */
 
 PG_FUNCTION_INFO_V1(sketch_union);
 
-/* Returns the union of two sketches of one kind. */
+/* Returns the union of two sketches of one kind, or the one that is not null. */
 Datum sketch_union(PG_FUNCTION_ARGS)
 {
-    ds_sketch handle = DS_NONE, other = DS_NONE;
-    const Sketch *sketch = read_argument(fcinfo, 0, ANY_KIND, &handle);
-    uint8 items = sketch->items | read_argument(fcinfo, 1, kind_of(sketch), &other)->items;
-    check_result(ds_merge(&handle, &other));
-    ds_free(&other);
-    return stored(items, &handle);
+    ds_sketch one = DS_NONE, other = DS_NONE, *into = &one, *from = &other;
+    Header header;
+    if (PG_ARGISNULL(0) && PG_ARGISNULL(1)) PG_RETURN_NULL();
+    if (PG_ARGISNULL(0) || PG_ARGISNULL(1)) PG_RETURN_DATUM(PG_GETARG_DATUM(PG_ARGISNULL(0) ? 1 : 0));
+    header = read_argument(fcinfo, 0, ANY_KIND, &one);
+    header.items |= read_argument(fcinfo, 1, header.kind, &other).items;
+    if (is_frequent(header.kind) && has_size_of_union(&other, &one)) into = &other, from = &one;
+    merge(into, from);
+    ds_free(from);
+    return stored(header.items, into);
 }
 
 /* A call of the library that leaves a part of the first filter. */
@@ -122,11 +135,14 @@ typedef int32_t (*Leave)(ds_sketch *handle, ds_sketch *other);
 static Datum part(FunctionCallInfo fcinfo, Leave leave, bool is_common)
 {
     ds_sketch handle = DS_NONE, other = DS_NONE;
-    uint8 items = read_argument(fcinfo, 0, DS_BLOOM, &handle)->items;
-    uint8 others = read_argument(fcinfo, 1, DS_BLOOM, &other)->items;
+    uint8 items = read_argument(fcinfo, 0, DS_BLOOM, &handle).items;
+    uint8 others = read_argument(fcinfo, 1, DS_BLOOM, &other).items;
+    int32_t result;
     if ((items & others) == NO_ITEMS && items != NO_ITEMS && others != NO_ITEMS)
-        raise_items("one filter has strings as items, the other one bigints");
-    check_result(leave(&handle, &other));
+        raise_items("one filter has strings as items, the other one bigints", NULL);
+    result = leave(&handle, &other);
+    if (result == DS_MISMATCH) raise_mismatch(&handle, &other);
+    check_result(result);
     ds_free(&other);
     return stored(is_common ? items & others : items, &handle);
 }

@@ -1,11 +1,12 @@
 /* Queries of Count-Min sketches: estimates, upper bounds and status. */
 #include "extension.h"
 
-/* Returns the sketch of the call, with a handle. It may have items of this type. */
-static ds_sketch *counts(FunctionCallInfo fcinfo, Kind kind, uint8 items)
+/* Returns the sketch of the call, with a handle, and reads the call's item. */
+static ds_sketch *counts(FunctionCallInfo fcinfo, Kind kind, SketchItem *item)
 {
     Kept *kept = kept_handle(fcinfo, kind);
-    check_items(kept->sketch, items);
+    kept_item(fcinfo, item);
+    check_items(kept->sketch, item->type);
     return &kept->handle;
 }
 
@@ -15,48 +16,32 @@ typedef int32_t (*OfBigint)(ds_sketch *handle, int64_t item, uint64_t *number);
 typedef int32_t (*SignedOfString)(ds_sketch *handle, const uint8_t *item, size_t length, int64_t *number);
 typedef int32_t (*SignedOfBigint)(ds_sketch *handle, int64_t item, int64_t *number);
 
-/* These return the call's number of an item, for each type of weights and of items. */
+/* These return the call's number of an item, for each type of weights. */
 
-static Datum of_string(FunctionCallInfo fcinfo, OfString call)
+static Datum of_item(FunctionCallInfo fcinfo, OfString of_string, OfBigint of_bigint)
 {
-    ds_sketch *handle = counts(fcinfo, DS_COUNT_MIN_U64, STRINGS);
-    ds_string item = string_argument(fcinfo, 1);
+    SketchItem item;
+    ds_sketch *handle = counts(fcinfo, DS_COUNT_MIN_U64, &item);
     uint64_t number = 0;
-    check_result(call(handle, item.bytes, item.length, &number));
+    check_result(item.type == STRINGS ? of_string(handle, item.string.bytes, item.string.length, &number)
+                                      : of_bigint(handle, item.bigint, &number));
     PG_RETURN_INT64(as_bigint(number));
 }
 
-static Datum of_bigint(FunctionCallInfo fcinfo, OfBigint call)
+static Datum signed_of_item(FunctionCallInfo fcinfo, SignedOfString of_string, SignedOfBigint of_bigint)
 {
-    uint64_t number = 0;
-    check_result(call(counts(fcinfo, DS_COUNT_MIN_U64, BIGINTS), PG_GETARG_INT64(1), &number));
-    PG_RETURN_INT64(as_bigint(number));
-}
-
-static Datum signed_of_string(FunctionCallInfo fcinfo, SignedOfString call)
-{
-    ds_sketch *handle = counts(fcinfo, DS_COUNT_MIN_I64, STRINGS);
-    ds_string item = string_argument(fcinfo, 1);
+    SketchItem item;
+    ds_sketch *handle = counts(fcinfo, DS_COUNT_MIN_I64, &item);
     int64_t number = 0;
-    check_result(call(handle, item.bytes, item.length, &number));
+    check_result(item.type == STRINGS ? of_string(handle, item.string.bytes, item.string.length, &number)
+                                      : of_bigint(handle, item.bigint, &number));
     PG_RETURN_INT64(number);
 }
 
-static Datum signed_of_bigint(FunctionCallInfo fcinfo, SignedOfBigint call)
-{
-    int64_t number = 0;
-    check_result(call(counts(fcinfo, DS_COUNT_MIN_I64, BIGINTS), PG_GETARG_INT64(1), &number));
-    PG_RETURN_INT64(number);
-}
-
-FUNCTION(count_min_estimate_string, of_string, ds_count_min_u64_estimate_string)
-FUNCTION(count_min_estimate_bigint, of_bigint, ds_count_min_u64_estimate_i64)
-FUNCTION(count_min_upper_bound_string, of_string, ds_count_min_u64_upper_bound_string)
-FUNCTION(count_min_upper_bound_bigint, of_bigint, ds_count_min_u64_upper_bound_i64)
-FUNCTION(signed_count_min_estimate_string, signed_of_string, ds_count_min_i64_estimate_string)
-FUNCTION(signed_count_min_estimate_bigint, signed_of_bigint, ds_count_min_i64_estimate_i64)
-FUNCTION(signed_count_min_upper_bound_string, signed_of_string, ds_count_min_i64_upper_bound_string)
-FUNCTION(signed_count_min_upper_bound_bigint, signed_of_bigint, ds_count_min_i64_upper_bound_i64)
+FUNCTION(count_min_estimate, of_item, ds_count_min_u64_estimate_string, ds_count_min_u64_estimate_i64)
+FUNCTION(count_min_upper_bound, of_item, ds_count_min_u64_upper_bound_string, ds_count_min_u64_upper_bound_i64)
+FUNCTION(signed_count_min_estimate, signed_of_item, ds_count_min_i64_estimate_string, ds_count_min_i64_estimate_i64)
+FUNCTION(signed_count_min_upper_bound, signed_of_item, ds_count_min_i64_upper_bound_string, ds_count_min_i64_upper_bound_i64)
 
 /* Returns a sketch's numbers as a row. */
 static Datum status_row(FunctionCallInfo fcinfo, Kind kind)

@@ -14,11 +14,11 @@
  * | 22021 | a string is not UTF-8, or has a zero byte |
  * | 22023 | a size, a fraction, a threshold, a mode or a seed is out of range, the hash of the seed is 0, or a weight is not whole |
  * | 22P02, 22P03 | the text or the binary form is damaged |
- * | 0A000 | the collation of strings is nondeterministic, or the equality of their type is not that of bytes |
+ * | 0A000 | the collation of strings is nondeterministic, or values of the item's type are no items |
  * | 22P05 | a string of a sketch has a character that is not in the database's encoding |
- * | 42804 | weights are of another type than an integer or numeric |
+ * | 42804 | weights are of another type than an integer or numeric, or items of another type than those of the sketch |
  * | 53200 | out of memory, or all sketches of a statement take more than `sketches_rattle.max_statement_memory` |
- * | 54000 | a sketch takes more than `sketches_rattle.max_image_bytes`, `max_frequent_bytes` or `max_user_bytes`, or than 1 GB |
+ * | 54000 | a sketch takes more than `sketches_rattle.max_image_bytes`, `max_frequent_bytes` or `max_user_bytes`, or than is stored |
  * | 58000 | the system has no random bytes for a key |
  * | XX000 | an error of the extension itself |
  * | XX001 | a stored sketch is damaged: its checksum is wrong |
@@ -59,13 +59,17 @@ static int state_of(int32_t result)
     return ERRCODE_INTERNAL_ERROR;
 }
 
-/* Raises the error of sketches that would take more memory together than they may. */
-static void raise_total(size_t bytes)
+void raise_total(size_t bytes)
 {
-    ereport(ERROR, (errcode(ERRCODE_OUT_OF_MEMORY),
-                    errmsg("the sketches of a statement would take %zu bytes, more than sketches_rattle.max_statement_memory, "
-                           "which is %zu bytes",
-                           bytes, (size_t)max_statement_kilobytes * 1024)));
+    ereport(
+        ERROR,
+        (errcode(ERRCODE_OUT_OF_MEMORY),
+         errmsg(
+             "the sketches of a statement would take %zu bytes, more than sketches_rattle.max_statement_memory, which is %zu bytes",
+             bytes, (size_t)max_statement_kilobytes * 1024),
+         errdetail("The stored forms that functions read, keep or return are counted."),
+         errhint("A superuser raises it by ALTER DATABASE .. SET sketches_rattle.max_statement_memory = .. for all sessions.")));
+    pg_unreachable();
 }
 
 void raise_result(int32_t result)
@@ -83,9 +87,9 @@ void raise_argument(const char *message)
     pg_unreachable();
 }
 
-void raise_items(const char *message)
+void raise_items(const char *message, const char *hint)
 {
-    ereport(ERROR, (errcode(SK(2)), errmsg("%s", message)));
+    ereport(ERROR, (errcode(SK(2)), errmsg("%s", message), hint != NULL ? errhint("%s", hint) : 0));
     pg_unreachable();
 }
 
@@ -110,21 +114,37 @@ void raise_sizes(void)
 
 void raise_limit(size_t limit, uint64 bytes)
 {
-    const char *setting = limit == (size_t)max_user_bytes    ? "sketches_rattle.max_user_bytes"
+    bool is_users = limit != (size_t)max_user_bytes;
+    const char *setting = !is_users                          ? "sketches_rattle.max_user_bytes"
                           : limit == (size_t)max_image_bytes ? "sketches_rattle.max_image_bytes"
                                                              : "sketches_rattle.max_frequent_bytes";
-    if (bytes == 0)
-        ereport(ERROR, (errcode(ERRCODE_PROGRAM_LIMIT_EXCEEDED),
-                        errmsg("a sketch takes more than %s, which is %zu bytes", setting, limit)));
-    ereport(ERROR, (errcode(ERRCODE_PROGRAM_LIMIT_EXCEEDED),
-                    errmsg("a sketch takes " UINT64_FORMAT " bytes, more than %s, which is %zu", bytes, setting, limit)));
+    ereport(ERROR,
+            (errcode(ERRCODE_PROGRAM_LIMIT_EXCEEDED),
+             bytes == 0 ? errmsg("a sketch takes more than %s, which is %zu bytes", setting, limit)
+                        : errmsg("a sketch takes " UINT64_FORMAT " bytes, more than %s, which is %zu", bytes, setting, limit),
+             is_users ? errhint("Raise it by SET for this session, or by ALTER DATABASE .. SET %s = .. for all.", setting)
+                      : errhint("A superuser raises it by ALTER DATABASE .. SET %s = .. for all sessions.", setting)));
     pg_unreachable();
 }
 
 void raise_stored(uint64 bytes)
 {
     ereport(ERROR, (errcode(ERRCODE_PROGRAM_LIMIT_EXCEEDED),
-                    errmsg("a sketch of " UINT64_FORMAT " bytes is larger than a value of PostgreSQL, 1 GB", bytes)));
+                    errmsg("a sketch of " UINT64_FORMAT " bytes is not stored: the limit is %d bytes", bytes, MAX_STORED_BYTES),
+                    errdetail("Its text form, which pg_dump writes, would have about 1 GB or more.")));
+    pg_unreachable();
+}
+
+void raise_mismatch(ds_sketch *handle, ds_sketch *other)
+{
+    ds_status a = status_of(handle), b = status_of(other);
+    bool is_filter = a.kind == DS_BLOOM;
+    uint64 size = is_filter ? a.num_bits : a.num_buckets, other_size = is_filter ? b.num_bits : b.num_buckets;
+    const char *name = is_filter ? "bits" : "buckets";
+    ereport(ERROR, (errcode(SK(-DS_MISMATCH)), errmsg("the shapes or seeds of two sketches differ"),
+                    errdetail("One has " UINT64_FORMAT " %s, %u hashes and the seed " UINT64_FORMAT ", the other " UINT64_FORMAT
+                              " %s, %u hashes and the seed " UINT64_FORMAT ".",
+                              size, name, a.num_hashes, a.seed, other_size, name, b.num_hashes, b.seed)));
     pg_unreachable();
 }
 

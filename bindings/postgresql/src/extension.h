@@ -19,8 +19,9 @@ StaticAssertDecl(SIZEOF_DATUM == 8, "a Datum has 64 bits");
 
 #define DEFAULT_MAX_MAP_SIZE 1024
 
-/* What a slot of a table of strings takes, by the formula of `ds_memory_bytes`. */
+/* What a slot of a table of strings takes, and one of a table of bigints, by the formula of `ds_memory_bytes`. */
 #define BYTES_OF_SLOT 44
+#define BYTES_OF_BIGINT_SLOT 28
 
 /* What strings count for `max_frequent_bytes` at most, each on average: calls take longer by their number than by their bytes. */
 #define COUNTED_BYTES 64
@@ -30,14 +31,30 @@ StaticAssertDecl(SIZEOF_DATUM == 8, "a Datum has 64 bits");
 
 /* --- heap.c --- */
 
-/* The most memory that all sketches of a session or of a worker may take together. */
+/* The most memory that all sketches of a session or of a worker, and their stored forms, may take together. */
 extern int max_statement_kilobytes;
 
 /* Makes the library allocate from memory contexts: each call from the context that is current then. */
 void set_allocator(void);
 
-/* Returns the bytes that all sketches together take, without their stored forms. */
+/* Returns the bytes that all sketches together take, and the stored forms that functions read, keep or return. */
 size_t total_bytes(void);
+
+/* Allocates a block in the current context, and counts it with the sketches. Raises an error if all together would take more than a
+ * statement may. */
+void *counted_alloc(size_t bytes);
+
+/* Returns a value detoasted. A copy is counted. */
+struct varlena *counted_detoast(Datum datum);
+
+/* Frees a counted block. */
+void counted_free(void *block);
+
+/* Frees what `counted_detoast` returned for a value, if it is a copy. */
+static inline void free_copy(void *detoasted, Datum datum)
+{
+    if (detoasted != DatumGetPointer(datum)) counted_free(detoasted);
+}
 
 /* Returns the bytes that all sketches together would have taken when a request was refused for that, and forgets them. Returns 0 if
  * none was refused. */
@@ -48,11 +65,14 @@ size_t take_refused(void);
 /* Raises the error of a result below 0. */
 void raise_result(int32_t result) __attribute__((noreturn));
 
+/* Raises the error of sketches that would take more memory together than they may. */
+void raise_total(size_t bytes) __attribute__((noreturn));
+
 /* Raises an error of an argument: 22023, with this message. */
 void raise_argument(const char *message) __attribute__((noreturn));
 
-/* Raises an error of items: a sketch of one type of items was used as one of another type. */
-void raise_items(const char *message) __attribute__((noreturn));
+/* Raises an error of items: a sketch of one type of items was used as one of another type. The hint may be null. */
+void raise_items(const char *message, const char *hint) __attribute__((noreturn));
 
 /* Raises an error of a value that is no sketch of this type. */
 void raise_kind(const char *message) __attribute__((noreturn));
@@ -63,8 +83,11 @@ void raise_version(int version, int read) __attribute__((noreturn));
 /* Raises the error of sizes that differ between rows of a group. */
 void raise_sizes(void) __attribute__((noreturn));
 
-/* Raises the error of a sketch of more bytes than PostgreSQL stores. */
+/* Raises the error of a sketch of more bytes than a stored one has. */
 void raise_stored(uint64 bytes) __attribute__((noreturn));
+
+/* Raises the error of two sketches that do not merge, with the shapes of both. */
+void raise_mismatch(ds_sketch *handle, ds_sketch *other) __attribute__((noreturn));
 
 static inline void check_result(int32_t result)
 {
@@ -130,16 +153,27 @@ extern int max_frequent_bytes;
 /* The greatest value that users can give to both limits. */
 extern int max_user_bytes;
 
+/* The most bytes of a stored sketch. Its text form then leaves 24 MB to the other columns of a row, which `COPY` and `pg_dump` write in
+ * less than 1 GB. */
+#define MAX_STORED_BYTES (750 * 1024 * 1024)
+
+/* The limits that a sketch keeps to. What the type's own text and binary forms have was stored before, in this database or another one,
+ * and restores and replicas read it with the settings of their sessions. So a user's settings do not limit it. */
+typedef enum Limits { USERS_LIMITS, ADMINISTRATORS_LIMITS, NO_LIMITS } Limits;
+
 /* Returns the limit of all that a sketch takes. */
-static inline size_t limit_of_all(void)
+static inline size_t limit_of_all(Limits limits)
 {
-    return Min(max_user_bytes, max_image_bytes);
+    return limits == NO_LIMITS               ? SIZE_MAX
+           : limits == ADMINISTRATORS_LIMITS ? (size_t)max_user_bytes
+                                             : Min(max_user_bytes, max_image_bytes);
 }
 
 /* Returns the limit of a kind, for which strings count in part. */
-static inline size_t limit_of(Kind kind)
+static inline size_t limit_of(Kind kind, Limits limits)
 {
-    return is_frequent(kind) ? Min(limit_of_all(), (size_t)max_frequent_bytes) : limit_of_all();
+    size_t all = limit_of_all(limits);
+    return is_frequent(kind) && limits == USERS_LIMITS ? Min(all, (size_t)max_frequent_bytes) : all;
 }
 
 /* Raises the error of a sketch that exceeds a limit. `bytes` is 0 if they are not known. */
@@ -152,8 +186,8 @@ static inline void check_bytes(size_t limit, uint64 bytes)
 }
 
 /* Reads an image into a handle that has no sketch, in the current context. The seed is that of Count-Min, and not read for other
- * kinds. Raises an error if the sketch exceeds the limits of its kind, if it has any here. */
-void read_image(Kind kind, ds_sketch *handle, const void *image, size_t length, uint64 seed, bool has_limits);
+ * kinds. Raises an error if the sketch exceeds the limits of its kind. */
+void read_image(Kind kind, ds_sketch *handle, const void *image, size_t length, uint64 seed, Limits limits);
 
 /* Returns the bytes that a handle's sketch takes. */
 size_t bytes_of(ds_sketch *handle);
@@ -165,36 +199,28 @@ ds_status status_of(ds_sketch *handle);
 struct varlena *write_image(ds_sketch *handle, size_t header);
 
 /* Raises an error if a handle's sketch exceeds the limits of its kind. */
-void check_limit(ds_sketch *handle);
+void check_limit(ds_sketch *handle, Limits limits);
 
-/* Returns a stored sketch from a handle. Raises an error if the sketch exceeds the limit. */
+/* Returns a stored sketch from a handle. Raises an error if the sketch exceeds the limits of users. */
 Sketch *store(uint8 items, ds_sketch *handle);
 
 /* Returns the kind of a stored sketch, or 0 if its header has none. */
 Kind kind_of(const Sketch *sketch);
 
-/* Returns a stored sketch of a kind, or of ANY_KIND, detoasted. Raises an error if its header or its checksum is wrong. */
+/* Returns whether a detoasted value is a stored sketch of a kind, or of ANY_KIND, with the checksum of its bytes. */
+bool is_sound(const Sketch *sketch, Kind kind);
+
+/* Returns a stored sketch of a kind, or of ANY_KIND, detoasted. Raises an error if its header or its checksum is wrong. `free_copy` frees
+ * it. */
 Sketch *detoast_sketch(Datum datum, Kind kind);
 
 /* Reads a stored sketch, whose checksum was verified, into a handle that has no sketch. */
 void load(const Sketch *sketch, ds_sketch *handle);
 
-/* The encoding of the database, or -1 if no string was read yet. */
-extern int database_encoding;
-
-/* Returns a string of the database in UTF-8. */
-ds_string converted(ds_string string);
-
-/* Returns an argument's string in UTF-8, whatever the database's encoding is. */
-static inline ds_string string_argument(FunctionCallInfo fcinfo, int number)
+/* Returns whether a sketch may have items of this type. */
+static inline bool may_have(const Sketch *sketch, uint8 items)
 {
-    struct varlena *argument = PG_GETARG_RAW_VARLENA_P(number);
-    ds_string string;
-    if (unlikely(VARATT_IS_COMPRESSED(argument) || VARATT_IS_EXTERNAL(argument)))
-        argument = PG_DETOAST_DATUM_PACKED(PointerGetDatum(argument));
-    string.bytes = (const uint8_t *)VARDATA_ANY(argument);
-    string.length = VARSIZE_ANY_EXHDR(argument);
-    return likely(database_encoding == PG_UTF8) ? string : converted(string);
+    return (sketch->items & items) != 0 || sketch->items == NO_ITEMS;
 }
 
 /* Raises an error unless the sketch may have items of this type. */
@@ -227,10 +253,81 @@ void count_by_error(FunctionCallInfo fcinfo, Kind kind, ds_sketch *handle, int n
 void filter_by_size(FunctionCallInfo fcinfo, Kind kind, ds_sketch *handle, int number);
 void filter_by_error(FunctionCallInfo fcinfo, Kind kind, ds_sketch *handle, int number);
 
-/* --- equality.c --- */
+/* --- items.c --- */
 
-/* Raises an error if the equality of an argument's collation or type is not that of the bytes of its text. */
-void check_equality(FunctionCallInfo fcinfo, int number);
+/* How the values of a type become items: as bigints, or as strings. */
+typedef enum Form {
+    NO_FORM, /* the values are no items */
+    OF_SMALLINT,
+    OF_INTEGER,
+    OF_BIGINT,
+    OF_OID,
+    OF_NUMERAL, /* a text that is a bigint */
+    OF_TEXT,
+    OF_BPCHAR,
+    OF_NAME,
+    OF_CHAR,
+    OF_UUID,
+    OF_BYTEA,
+    OF_DATE,
+    OF_TIMESTAMPTZ,
+    OF_NUMERIC
+} Form;
+
+/* Returns the type of items of a form. */
+static inline uint8 type_of(Form form)
+{
+    return form <= OF_NUMERAL ? BIGINTS : STRINGS;
+}
+
+/* Returns the form of a type or of a domain over it, or NO_FORM. */
+Form form_of(Oid type);
+
+/* Returns the form of an argument's type. Raises an error if its values are no items of the kind, or if the collation compares
+ * otherwise than by bytes. For frequent bigints a text is a number: a parameter without a type comes as text. */
+Form form_argument(FunctionCallInfo fcinfo, int number, Kind kind);
+
+#define ROOM_FOR_ITEM 144
+
+/* An item: a string in UTF-8, or a bigint. */
+typedef struct SketchItem {
+    uint8 type; /* STRINGS or BIGINTS */
+    ds_string string;
+    int64 bigint;
+    char room[ROOM_FOR_ITEM]; /* of some strings */
+} SketchItem;
+
+/* The encoding of the database, or -1 if no string was read yet. */
+extern int database_encoding;
+
+/* Returns a string of the database in UTF-8. */
+ds_string converted(ds_string string);
+
+/* Reads a value of any form but NO_FORM into an item. */
+void convert_item(Datum datum, Form form, SketchItem *item);
+
+/* Reads an argument into an item. */
+static inline void read_item(FunctionCallInfo fcinfo, int number, Form form, SketchItem *item)
+{
+    if (likely(form == OF_TEXT)) {
+        struct varlena *text = PG_GETARG_RAW_VARLENA_P(number);
+        if (unlikely(VARATT_IS_COMPRESSED(text) || VARATT_IS_EXTERNAL(text))) text = PG_DETOAST_DATUM_PACKED(PointerGetDatum(text));
+        item->type = STRINGS;
+        item->string.bytes = (const uint8_t *)VARDATA_ANY(text);
+        item->string.length = VARSIZE_ANY_EXHDR(text);
+        if (unlikely(database_encoding != PG_UTF8)) item->string = converted(item->string);
+    } else if (form == OF_BIGINT) {
+        item->type = BIGINTS;
+        item->bigint = PG_GETARG_INT64(number);
+    } else {
+        convert_item(PG_GETARG_DATUM(number), form, item);
+    }
+}
+
+/* --- filter.c --- */
+
+/* Returns whether a verified filter contains an item, as the library's result. */
+int32_t filter_contains(const Sketch *filter, const SketchItem *item);
 
 /* --- kept.c --- */
 
@@ -254,6 +351,9 @@ Kept *kept_argument(FunctionCallInfo fcinfo, Kind kind);
 
 /* The same, and its handle has the sketch. */
 Kept *kept_handle(FunctionCallInfo fcinfo, Kind kind);
+
+/* Reads the call's second argument into an item. The call has called `kept_argument` before. */
+void kept_item(FunctionCallInfo fcinfo, SketchItem *item);
 
 /* Returns a row of the call's result type. The call has called `kept_argument` before. */
 Datum kept_row(FunctionCallInfo fcinfo, Datum *values, bool *nulls);

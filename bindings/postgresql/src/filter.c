@@ -1,29 +1,24 @@
 /* Queries of Bloom filters. `contains` reads the image in place. */
 #include "extension.h"
 
-PG_FUNCTION_INFO_V1(bloom_filter_contains_string);
-
-/* Returns whether a filter contains a string. */
-Datum bloom_filter_contains_string(PG_FUNCTION_ARGS)
+int32_t filter_contains(const Sketch *filter, const SketchItem *item)
 {
-    Sketch *sketch = kept_argument(fcinfo, DS_BLOOM)->sketch;
-    ds_string item = string_argument(fcinfo, 1);
-    int32_t result;
-    check_items(sketch, STRINGS);
-    result = ds_bloom_image_contains_string(sketch->image, IMAGE_BYTES(sketch), item.bytes, item.length);
-    check_result(result);
-    PG_RETURN_BOOL(result == DS_YES);
+    if (item->type == STRINGS)
+        return ds_bloom_image_contains_string(filter->image, IMAGE_BYTES(filter), item->string.bytes, item->string.length);
+    return ds_bloom_image_contains_i64(filter->image, IMAGE_BYTES(filter), item->bigint);
 }
 
-PG_FUNCTION_INFO_V1(bloom_filter_contains_bigint);
+PG_FUNCTION_INFO_V1(bloom_filter_contains);
 
-/* Returns whether a filter contains a bigint. */
-Datum bloom_filter_contains_bigint(PG_FUNCTION_ARGS)
+/* Returns whether a filter contains an item. */
+Datum bloom_filter_contains(PG_FUNCTION_ARGS)
 {
     Sketch *sketch = kept_argument(fcinfo, DS_BLOOM)->sketch;
     int32_t result;
-    check_items(sketch, BIGINTS);
-    result = ds_bloom_image_contains_i64(sketch->image, IMAGE_BYTES(sketch), PG_GETARG_INT64(1));
+    SketchItem item;
+    kept_item(fcinfo, &item);
+    check_items(sketch, item.type);
+    result = filter_contains(sketch, &item);
     check_result(result);
     PG_RETURN_BOOL(result == DS_YES);
 }

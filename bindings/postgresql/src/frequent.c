@@ -12,16 +12,13 @@
 /* Returns the bounds of the call's item. */
 static ds_frequent_items_bounds bounds_of(FunctionCallInfo fcinfo, Kind kind)
 {
-    Kept *kept = kept_handle(fcinfo, kind);
+    ds_sketch *handle = &kept_handle(fcinfo, kind)->handle;
     ds_frequent_items_bounds bounds = {0, 0, 0};
-    int32_t result;
-    if (kind == DS_FREQUENT_ITEMS_STRING) {
-        ds_string item = string_argument(fcinfo, 1);
-        result = ds_frequent_items_string_bounds(&kept->handle, item.bytes, item.length, &bounds);
-    } else {
-        result = ds_frequent_items_i64_bounds(&kept->handle, PG_GETARG_INT64(1), &bounds);
-    }
-    check_result(result);
+    SketchItem item;
+    kept_item(fcinfo, &item);
+    check_result(kind == DS_FREQUENT_ITEMS_STRING
+                     ? ds_frequent_items_string_bounds(handle, item.string.bytes, item.string.length, &bounds)
+                     : ds_frequent_items_i64_bounds(handle, item.bigint, &bounds));
     return bounds;
 }
 
@@ -81,12 +78,13 @@ typedef struct Rows {
     int64_t *bigints;
     uint8_t *bytes;
     uint64_t *offsets;
+    size_t *order; /* the numbers of the rows in the order of the result */
 } Rows;
 
 /* Allocates room for a number of values. */
 static void *room_for(size_t count, size_t bytes)
 {
-    return palloc_extended((count + 1) * bytes, MCXT_ALLOC_HUGE);
+    return counted_alloc((count + 1) * bytes);
 }
 
 /* Returns the rows of a sketch of bigints. */
@@ -113,36 +111,74 @@ static Rows string_rows(ds_sketch *handle, bool negatives, uint64 threshold, siz
     return rows;
 }
 
-/* Puts the rows of a sketch into the call's result, in descending order of estimates. `estimate` is the column of the estimate, 1 or
- * 2, and the other one has the lower bound. */
-static Datum rows_of(FunctionCallInfo fcinfo, Kind kind, int estimate)
+/* Frees the rows of a sketch. */
+static void free_rows(Rows *rows)
 {
-    bool negatives = no_false_negatives(fcinfo), has_strings = kind == DS_FREQUENT_ITEMS_STRING;
-    bool nulls[4] = {false, false, false, false};
-    int64 threshold = PG_GETARG_INT64(2);
+    void *blocks[] = {rows->bounds, rows->bigints, rows->bytes, rows->offsets, rows->order};
+    for (size_t i = 0; i < lengthof(blocks); i++)
+        if (blocks[i] != NULL) counted_free(blocks[i]);
+}
+
+/* Compares the items of two rows, by their numbers: strings by their bytes. */
+static int compare_items(const void *one, const void *other, void *argument)
+{
+    const Rows *rows = argument;
+    size_t i = *(const size_t *)one, j = *(const size_t *)other, first, second;
+    int order;
+    if (rows->bigints != NULL) return (rows->bigints[i] > rows->bigints[j]) - (rows->bigints[i] < rows->bigints[j]);
+    first = rows->offsets[i + 1] - rows->offsets[i];
+    second = rows->offsets[j + 1] - rows->offsets[j];
+    order = memcmp(rows->bytes + rows->offsets[i], rows->bytes + rows->offsets[j], Min(first, second));
+    return order != 0 ? order : (first > second) - (first < second);
+}
+
+/* Orders the rows, which come in descending order of estimates: those of equal ones by their items. */
+static void order_rows(Rows *rows)
+{
+    rows->order = room_for(rows->count, sizeof *rows->order);
+    for (size_t i = 0; i < rows->count; i++) rows->order[i] = i;
+    for (size_t i = 0, end; i < rows->count; i = end) {
+        for (end = i + 1; end < rows->count && rows->bounds[end].estimate == rows->bounds[i].estimate;) end++;
+        if (end - i > 1) qsort_interruptible(rows->order + i, end - i, sizeof *rows->order, compare_items, rows);
+    }
+}
+
+/* Puts the rows of a sketch into the call's result, in descending order of estimates. The call has a mode and a threshold, or the most
+ * rows to return. */
+static Datum rows_of(FunctionCallInfo fcinfo, Kind kind)
+{
+    bool has_limit = PG_NARGS() == 2, has_strings = kind == DS_FREQUENT_ITEMS_STRING;
+    bool negatives = has_limit || no_false_negatives(fcinfo), nulls[4] = {false, false, false, false};
+    int64 threshold = has_limit ? 0 : PG_GETARG_INT64(2), limit = has_limit ? PG_GETARG_INT64(1) : PG_INT64_MAX;
     ds_sketch handle = DS_NONE;
     TupleDesc row;
     Tuplestorestate *store;
     Sketch *sketch;
     Rows rows;
+    size_t bytes;
     if (threshold < 0) raise_argument("the threshold must not be below 0");
+    if (limit < 0) raise_argument("max_rows must not be below 0");
     store = begin_rows(fcinfo, &row);
     sketch = detoast_sketch(PG_GETARG_DATUM(0), kind);
+    bytes = IMAGE_BYTES(sketch);
     load(sketch, &handle);
-    rows =
-        has_strings ? string_rows(&handle, negatives, threshold, IMAGE_BYTES(sketch)) : bigint_rows(&handle, negatives, threshold);
+    free_copy(sketch, PG_GETARG_DATUM(0));
+    rows = has_strings ? string_rows(&handle, negatives, threshold, bytes) : bigint_rows(&handle, negatives, threshold);
     ds_free(&handle);
-    for (size_t i = 0; i < rows.count; i++) {
+    order_rows(&rows);
+    for (size_t k = 0; k < Min(rows.count, (uint64)limit); k++) {
+        size_t i = rows.order[k];
         Datum values[4];
         CHECK_FOR_INTERRUPTS();
         values[0] = has_strings ? string_value(rows.bytes + rows.offsets[i], rows.offsets[i + 1] - rows.offsets[i])
                                 : Int64GetDatum(rows.bigints[i]);
-        values[3 - estimate] = Int64GetDatum(as_bigint(rows.bounds[i].lower_bound));
-        values[estimate] = Int64GetDatum(as_bigint(rows.bounds[i].estimate));
+        values[1] = Int64GetDatum(as_bigint(rows.bounds[i].lower_bound));
+        values[2] = Int64GetDatum(as_bigint(rows.bounds[i].estimate));
         values[3] = Int64GetDatum(as_bigint(rows.bounds[i].upper_bound));
         tuplestore_putvalues(store, row, values, nulls);
         if (has_strings) pfree(DatumGetPointer(values[0]));
     }
+    free_rows(&rows);
     return (Datum)0;
 }
 
@@ -170,14 +206,12 @@ static Datum status_row(FunctionCallInfo fcinfo, Kind kind)
     { \
         PG_RETURN_INT64(as_bigint(bounds_of(fcinfo, kind).bound)); \
     }
-/* `_rows` is called by the SQL functions of 0.2.0, until they are updated. */
 #define QUERIES(type, kind) \
     BOUND(type##_lower_bound, kind, lower_bound) \
     BOUND(type##_estimate, kind, estimate) \
     BOUND(type##_upper_bound, kind, upper_bound) \
     FUNCTION(type##_bounds, bounds_row, kind) \
-    FUNCTION(type##_report, rows_of, kind, 2) \
-    FUNCTION(type##_rows, rows_of, kind, 1) \
+    FUNCTION(type##_rows, rows_of, kind) \
     FUNCTION(type##_status, status_row, kind)
 
 QUERIES(frequent_strings, DS_FREQUENT_ITEMS_STRING)

@@ -1,14 +1,19 @@
 /* The allocator of the library: PostgreSQL's memory contexts.
  *
  * A call allocates from the context that is current when it is made. So what a sketch holds is seen by `work_mem`, and goes with
- * its context after an error. The bytes of all sketches together are counted, and limited. No function here raises an error, since
- * that would jump through the library. */
+ * its context after an error. The bytes of all sketches together are counted, and limited. No function that the library calls raises
+ * an error, since that would jump through the library.
+ *
+ * Stored forms that functions read, keep or return are counted too. A result is counted until its context is reset, as it is before
+ * the next row. */
 #include "extension.h"
 
+#include "access/detoast.h"
 #include "nodes/memnodes.h"
 #include "utils/memutils.h"
 
-/* The bytes that sketches hold in a context. It lies in the context, whose end takes them off, and is found by its callback. */
+/* The bytes that sketches and stored forms hold in a context. It lies in the context, whose end takes them off, and is found by its
+ * callback. */
 typedef struct Account {
     MemoryContext context;
     size_t bytes;
@@ -19,7 +24,7 @@ static Account *last; /* the one that was used last, or null if its context ende
 static size_t total;
 static size_t refused;
 
-/* Takes off what sketches held in a context that ends. */
+/* Takes off what was held in a context that ends. */
 static void close_account(void *argument)
 {
     Account *account = argument;
@@ -103,19 +108,53 @@ static void *reallocate(void *unused, void *block, size_t kept, size_t size)
 /* Frees a block. */
 static void deallocate(void *unused, void *block)
 {
-    Account *account = account_of(GetMemoryChunkContext(block));
     (void)unused;
-    if (account != NULL) {
-        account->bytes -= GetMemoryChunkSpace(block);
-        total -= GetMemoryChunkSpace(block);
-    }
-    pfree(block);
+    counted_free(block);
 }
 
 void set_allocator(void)
 {
     static const ds_allocator contexts = {allocate, reallocate, deallocate, NULL};
     check_result(ds_set_allocator(&contexts));
+}
+
+/* Returns the account of the current context if `more` bytes have room. Raises an error otherwise. */
+static Account *account_or_error(size_t more)
+{
+    Account *account = account_with_room(CurrentMemoryContext, more);
+    if (account != NULL) return account;
+    if (refused > 0) raise_total(take_refused());
+    ereport(ERROR, (errcode(ERRCODE_OUT_OF_MEMORY), errmsg("out of memory"), errdetail("Failed on a request of %zu bytes.", more)));
+    pg_unreachable();
+}
+
+void *counted_alloc(size_t bytes)
+{
+    Account *account = account_or_error(bytes);
+    void *block = palloc_extended(bytes, MCXT_ALLOC_HUGE);
+    count_block(account, block, 0);
+    return block;
+}
+
+struct varlena *counted_detoast(Datum datum)
+{
+    struct varlena *value = (struct varlena *)DatumGetPointer(datum), *copy;
+    Account *account;
+    if (likely(!VARATT_IS_EXTENDED(value))) return value;
+    account = account_or_error(toast_raw_datum_size(datum));
+    copy = PG_DETOAST_DATUM(datum);
+    count_block(account, copy, 0);
+    return copy;
+}
+
+void counted_free(void *block)
+{
+    Account *account = account_of(GetMemoryChunkContext(block));
+    if (account != NULL) {
+        account->bytes -= GetMemoryChunkSpace(block);
+        total -= GetMemoryChunkSpace(block);
+    }
+    pfree(block);
 }
 
 size_t total_bytes(void)

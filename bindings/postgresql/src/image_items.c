@@ -52,5 +52,5 @@ void check_bigints(const void *bytes, size_t length)
     ds_string string;
     if (count == 0 || length == WEIGHTS + 16 * count) return;
     for (; i < count && string_at(image, length, at, &string); i++) at += 4 + string.length;
-    if (i == count && at == length) raise_items("the image is of strings, not of bigints");
+    if (i == count && at == length) raise_items("the image is of strings, not of bigints", NULL);
 }

@@ -18,7 +18,8 @@
 #define USUAL_SKETCHES 32
 #define USUAL_BYTES ((size_t)16 * 1024 * 1024)
 
-/* With those that came again they take at most these bytes, and at most a quarter of what a statement may take. */
+/* With those that came again they take at most these bytes, and at most a quarter of what a statement may take. What all functions of
+ * the process keep takes at most half of it, or is one sketch. */
 #define MAX_BYTES ((size_t)256 * 1024 * 1024)
 
 /* If there is no more room, a sketch that comes again is the next to be forgotten, but for each 8th one. That one stays, so that a
@@ -57,6 +58,9 @@ typedef struct Place {
 
 /* A function's sketches, of which no two keys have one hash. */
 typedef struct Cache {
+    dlist_node of_process;
+    MemoryContext context;
+    Form form;         /* of the call's second argument, if there is one */
     Kept *last;        /* the one that was used last, or null if it was forgotten */
     dlist_head by_use; /* the next one to be forgotten comes last */
     Kept *spare;       /* empty, or null */
@@ -70,29 +74,35 @@ typedef struct Cache {
     MemoryContextCallback at_end;
 } Cache;
 
-/* The bytes of all sketches that functions keep, with their stored forms. */
+/* The caches of the process, and the bytes of all sketches that functions keep, with their stored forms. */
+static dlist_head caches = DLIST_STATIC_INIT(caches);
 static size_t all_bytes;
 
 /* Takes off what a function kept, when its expression ends. */
 static void end_cache(void *argument)
 {
-    all_bytes -= ((Cache *)argument)->bytes;
+    Cache *cache = argument;
+    dlist_delete(&cache->of_process);
+    all_bytes -= cache->bytes;
 }
 
 /* Returns the function's cache, which lives as long as the expression. */
-static Cache *cache_of(FunctionCallInfo fcinfo)
+static Cache *cache_of(FunctionCallInfo fcinfo, Kind kind)
 {
     Cache *cache = fcinfo->flinfo->fn_extra;
     if (unlikely(cache == NULL)) {
         MemoryContext context = fcinfo->flinfo->fn_mcxt;
-        check_equality(fcinfo, 1);
+        Form form = PG_NARGS() > 1 ? form_argument(fcinfo, 1, kind) : NO_FORM;
         cache = MemoryContextAllocZero(context, sizeof(Cache));
+        cache->context = context;
+        cache->form = form;
         dlist_init(&cache->by_use);
         cache->places = places_create(context, USUAL_SKETCHES, NULL);
         cache->max_sketches = USUAL_SKETCHES;
         cache->at_end.func = end_cache;
         cache->at_end.arg = cache;
         MemoryContextRegisterResetCallback(context, &cache->at_end);
+        dlist_push_head(&caches, &cache->of_process);
         fcinfo->flinfo->fn_extra = cache;
     }
     return cache;
@@ -125,10 +135,9 @@ static void count_bytes(Cache *cache, Kept *kept)
 }
 
 /* Forgets a kept sketch. Leaves an empty `Kept` for the next one. */
-static void forget(FunctionCallInfo fcinfo, Cache *cache, Kept *kept)
+static void forget(Cache *cache, Kept *kept)
 {
-    if (cache->forgotten == NULL)
-        cache->forgotten = MemoryContextAllocZero(fcinfo->flinfo->fn_mcxt, NUM_FORGOTTEN * sizeof(Forgotten));
+    if (cache->forgotten == NULL) cache->forgotten = MemoryContextAllocZero(cache->context, NUM_FORGOTTEN * sizeof(Forgotten));
     cache->forgotten[kept->hash % NUM_FORGOTTEN] = (Forgotten){kept->hash, kept->bytes};
     if (cache->last == kept) cache->last = NULL;
     places_delete(cache->places, kept->hash);
@@ -176,18 +185,47 @@ static bool grow(Cache *cache, uint64 hash)
     return true;
 }
 
+/* Returns the sketch of a cache that is the next to be forgotten and is not `used`, or null. */
+static Kept *next_to_forget(Cache *cache, const Kept *used)
+{
+    dlist_iter iter;
+    dlist_reverse_foreach(iter, &cache->by_use)
+    {
+        Kept *kept = dlist_container(Kept, by_use, iter.cur);
+        if (kept != used) return kept;
+    }
+    return NULL;
+}
+
+/* Forgets sketches of all functions until `bytes` more bytes fit, those first of the functions that keep most. `used` stays. */
+static void make_common_room(const Kept *used, size_t bytes)
+{
+    while (all_bytes + bytes > statement_bytes() / 2) {
+        Cache *largest = NULL;
+        dlist_iter iter;
+        dlist_foreach(iter, &caches)
+        {
+            Cache *cache = dlist_container(Cache, of_process, iter.cur);
+            if ((largest == NULL || cache->bytes > largest->bytes) && next_to_forget(cache, used) != NULL) largest = cache;
+        }
+        if (largest == NULL) return;
+        forget(largest, next_to_forget(largest, used));
+    }
+}
+
 /* Forgets sketches until another one of `bytes` bytes fits. */
-static void make_room(FunctionCallInfo fcinfo, Cache *cache, size_t bytes)
+static void make_room(Cache *cache, size_t bytes)
 {
     size_t limit = room(cache);
     while (!dlist_is_empty(&cache->by_use) && (cache->bytes + bytes > limit || cache->places->members >= cache->max_sketches))
-        forget(fcinfo, cache, dlist_tail_element(Kept, by_use, &cache->by_use));
+        forget(cache, dlist_tail_element(Kept, by_use, &cache->by_use));
+    make_common_room(NULL, bytes);
 }
 
 /* Returns an empty `Kept`. Frees what an error left in its context. */
-static Kept *spare(FunctionCallInfo fcinfo, Cache *cache)
+static Kept *spare(Cache *cache)
 {
-    MemoryContext context = fcinfo->flinfo->fn_mcxt;
+    MemoryContext context = cache->context;
     if (cache->spare == NULL) cache->spare = MemoryContextAllocZero(context, sizeof(Kept));
     if (cache->spare->context == NULL) cache->spare->context = AllocSetContextCreate(context, "kept sketch", ALLOCSET_SMALL_SIZES);
     MemoryContextReset(cache->spare->context);
@@ -196,15 +234,15 @@ static Kept *spare(FunctionCallInfo fcinfo, Cache *cache)
 }
 
 /* Keeps a sketch. After an error it is not kept. */
-static Kept *keep(FunctionCallInfo fcinfo, Cache *cache, uint64 hash, struct varlena *datum, size_t bytes, Kind kind)
+static Kept *keep(Cache *cache, uint64 hash, struct varlena *datum, size_t bytes, Kind kind)
 {
     bool stays = grow(cache, hash) || cache->turn++ % TURNS == 0, found;
     MemoryContext before;
     Kept *kept;
-    make_room(fcinfo, cache, toast_raw_datum_size(PointerGetDatum(datum)));
-    kept = spare(fcinfo, cache);
+    make_room(cache, VARATT_IS_EXTENDED(datum) ? bytes + toast_raw_datum_size(PointerGetDatum(datum)) : bytes);
+    kept = spare(cache);
     before = MemoryContextSwitchTo(kept->context);
-    kept->key = palloc_extended(bytes, MCXT_ALLOC_HUGE);
+    kept->key = counted_alloc(bytes);
     memcpy(kept->key, datum, bytes);
     kept->sketch = detoast_sketch(PointerGetDatum(kept->key), kind);
     MemoryContextSwitchTo(before);
@@ -222,14 +260,14 @@ static Kept *keep(FunctionCallInfo fcinfo, Cache *cache, uint64 hash, struct var
 
 /* Returns the kept sketch of a datum that is not the last one's, or keeps it. In a loop, the next one is the one that was not used
  * for the longest time. */
-static Kept *look_up(FunctionCallInfo fcinfo, Cache *cache, struct varlena *datum, size_t bytes, Kind kind)
+static Kept *look_up(Cache *cache, struct varlena *datum, size_t bytes, Kind kind)
 {
     Kept *kept = dlist_is_empty(&cache->by_use) ? NULL : dlist_tail_element(Kept, by_use, &cache->by_use);
     if (kept == NULL || !is_key(kept, datum, bytes)) {
         uint64 hash = hash_of(datum, bytes);
         Place *place = places_lookup(cache->places, hash);
-        if (place != NULL && !is_key(place->kept, datum, bytes)) forget(fcinfo, cache, place->kept), place = NULL;
-        if (place == NULL) return keep(fcinfo, cache, hash, datum, bytes, kind);
+        if (place != NULL && !is_key(place->kept, datum, bytes)) forget(cache, place->kept), place = NULL;
+        if (place == NULL) return keep(cache, hash, datum, bytes, kind);
         kept = place->kept;
     }
     kept->address = datum;
@@ -240,17 +278,17 @@ static Kept *look_up(FunctionCallInfo fcinfo, Cache *cache, struct varlena *datu
 
 Kept *kept_argument(FunctionCallInfo fcinfo, Kind kind)
 {
-    Cache *cache = cache_of(fcinfo);
+    Cache *cache = cache_of(fcinfo, kind);
     struct varlena *datum = (struct varlena *)PG_GETARG_POINTER(0);
     size_t bytes;
     /* A pointer to memory is no key. */
-    if (VARATT_IS_EXTERNAL(datum) && !VARATT_IS_EXTERNAL_ONDISK(datum)) datum = PG_DETOAST_DATUM(PointerGetDatum(datum));
+    if (VARATT_IS_EXTERNAL(datum) && !VARATT_IS_EXTERNAL_ONDISK(datum)) datum = counted_detoast(PointerGetDatum(datum));
     bytes = VARSIZE_ANY(datum);
     if (likely(cache->last != NULL && is_key(cache->last, datum, bytes))) {
         cache->last->address = datum;
         return cache->last;
     }
-    return look_up(fcinfo, cache, datum, bytes, kind);
+    return look_up(cache, datum, bytes, kind);
 }
 
 Kept *kept_handle(FunctionCallInfo fcinfo, Kind kind)
@@ -261,14 +299,20 @@ Kept *kept_handle(FunctionCallInfo fcinfo, Kind kind)
         load(kept->sketch, &kept->handle);
         MemoryContextSwitchTo(before);
         kept->is_loaded = true;
-        count_bytes(cache_of(fcinfo), kept);
+        count_bytes(fcinfo->flinfo->fn_extra, kept);
+        make_common_room(kept, 0);
     }
     return kept;
 }
 
+void kept_item(FunctionCallInfo fcinfo, SketchItem *item)
+{
+    read_item(fcinfo, 1, ((const Cache *)fcinfo->flinfo->fn_extra)->form, item);
+}
+
 Datum kept_row(FunctionCallInfo fcinfo, Datum *values, bool *nulls)
 {
-    Cache *cache = cache_of(fcinfo);
+    Cache *cache = fcinfo->flinfo->fn_extra;
     if (cache->row == NULL) {
         TupleDesc row;
         MemoryContext before;

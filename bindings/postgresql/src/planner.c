@@ -1,19 +1,33 @@
-/* The planner's estimate of the rows that pass `sketch_contains(filter, item)`.
+/* The planner's support for `sketch_contains(filter, item)`: the estimate of the rows that pass, and a short form of a long constant.
  *
- * If the filter is known when the query is planned, `contains` is evaluated for the most common values of the item's column and
- * for the values of its histogram. If there are too few, the filter's number of items is compared with the column's distinct
- * values, and the false-positive rate is added. If the filter is not known, the default below is the estimate. */
+ * If the filter is known when the query is planned, the most common values of the item's column and those of its histogram are looked
+ * up in it. If there are too few, the filter's number of items is compared with the column's distinct values, and the false-positive
+ * rate is added. If the filter is not known, the default below is the estimate.
+ *
+ * A plan prints its constants, and a filter has some 100 kB. So a long one gets another type in the plan, whose output is short. */
 #include "extension.h"
 
 #include <math.h>
 
+#include "access/detoast.h"
 #include "access/htup_details.h"
+#include "catalog/dependency.h"
+#include "catalog/pg_class.h"
+#include "catalog/pg_inherits.h"
+#include "catalog/pg_language.h"
+#include "catalog/pg_proc.h"
 #include "catalog/pg_statistic.h"
 #include "catalog/pg_type.h"
+#include "miscadmin.h"
 #include "nodes/nodeFuncs.h"
+#include "nodes/pathnodes.h"
 #include "nodes/supportnodes.h"
 #include "optimizer/optimizer.h"
+#include "utils/acl.h"
+#include "utils/catcache.h"
+#include "utils/lsyscache.h"
 #include "utils/selfuncs.h"
+#include "utils/syscache.h"
 
 /* The share of rows that pass a filter that is not known when the query is planned. PostgreSQL's own default is one third. */
 #define DEFAULT_SHARE 0.05
@@ -21,6 +35,13 @@
 /* As in PostgreSQL's own estimates: a histogram with fewer values is not used, and one with fewer than 100 only in part. */
 #define MIN_HISTOGRAM 10
 #define FULL_HISTOGRAM 100
+
+/* A filter, and the form of the values that are looked up in it. */
+typedef struct Known {
+    const Sketch *filter;
+    Form form;
+    ds_status status;
+} Known;
 
 /* Returns the item's expression without a cast that keeps it: to bigint from a smaller integer. */
 static Node *without_cast(Node *item)
@@ -31,6 +52,16 @@ static Node *without_cast(Node *item)
         if (type == INT4OID || type == INT2OID) return inner;
     }
     return item;
+}
+
+/* Returns whether the filter of `Known`, in `fn_extra`, contains a value of a column's statistics, the second argument. The query may
+ * read no row with such a value. So what is an error there is none here: the value is taken as contained. */
+static Datum contains_value(PG_FUNCTION_ARGS)
+{
+    const Known *known = fcinfo->flinfo->fn_extra;
+    SketchItem item;
+    read_item(fcinfo, 1, known->form, &item);
+    PG_RETURN_BOOL(filter_contains(known->filter, &item) != DS_NO);
 }
 
 /* Returns the share of a column's values that a filter contains, by its number of items and its false-positive rate. */
@@ -46,13 +77,15 @@ static double modelled(ds_status status, VariableStatData *column)
     return share + (1 - share) * false_positives;
 }
 
-/* Returns the share of rows of a column that a filter contains. */
-static double estimated(ds_status status, VariableStatData *column, FmgrInfo *contains, Oid collation, Datum filter)
+/* Returns the share of rows of a column that a filter contains. `contains` is `contains_value`. */
+static double estimated(const Known *known, VariableStatData *column, FmgrInfo *contains, Oid collation)
 {
     double common = 0, of_common, others, nulls = 0;
     int size = 0;
-    double model = modelled(status, column);
+    double model = modelled(known->status, column);
+    Datum filter = PointerGetDatum(known->filter);
     if (!HeapTupleIsValid(column->statsTuple)) return model;
+    if (type_of(known->form) == STRINGS && GetDatabaseEncoding() != PG_UTF8) return model; /* a value may have no place in UTF-8 */
     nulls = ((Form_pg_statistic)GETSTRUCT(column->statsTuple))->stanullfrac;
     of_common = mcv_selectivity(column, contains, collation, filter, false, &common);
     others = histogram_selectivity(column, contains, collation, filter, false, MIN_HISTOGRAM, 1, &size);
@@ -62,49 +95,154 @@ static double estimated(ds_status status, VariableStatData *column, FmgrInfo *co
     return of_common + others * Max(0, 1 - nulls - common);
 }
 
-/* Reads the numbers of a filter. Returns whether it is within the limit. */
+/* Reads the numbers of a filter. Returns whether there are any within the limits, and memory. */
 static bool read_status(const Sketch *sketch, ds_status *status)
 {
     ds_sketch handle = DS_NONE;
-    ds_image_options options = {.max_bytes = limit_of(DS_BLOOM)};
+    ds_image_options options = {.max_bytes = limit_of(DS_BLOOM, USERS_LIMITS)};
     int32_t result = ds_deserialize(&handle, DS_BLOOM, sketch->image, IMAGE_BYTES(sketch), &options);
-    if (result == DS_TABLE_TOO_LARGE) return false;
-    check_result(result);
+    take_refused();
+    if (result < 0) return false;
     *status = status_of(&handle);
     ds_free(&handle);
     return true;
 }
 
-/* Returns the share of rows for a filter that is known. One that exceeds the limit is not read. */
+/* Returns the share of rows for a filter that is known. The default is taken for one that is not read, or has no items of the type,
+ * which is an error if a row is read. */
 static double known_share(SupportRequestSelectivity *request, Const *filter)
 {
-    Sketch *sketch = detoast_sketch(filter->constvalue, DS_BLOOM);
-    Datum value = PointerGetDatum(sketch);
-    ds_status status = {0};
+    Sketch *sketch = (Sketch *)counted_detoast(filter->constvalue);
+    Node *item = without_cast(lsecond(request->args));
+    Known known = {sketch, form_of(exprType(item)), {0}};
+    FmgrInfo contains = {.fn_addr = contains_value,
+                         .fn_oid = request->funcid,
+                         .fn_nargs = 2,
+                         .fn_strict = true,
+                         .fn_extra = &known,
+                         .fn_mcxt = CurrentMemoryContext};
+    double share = DEFAULT_SHARE;
     VariableStatData column;
-    FmgrInfo contains;
-    double share;
-    if (!read_status(sketch, &status)) return DEFAULT_SHARE;
-    fmgr_info(request->funcid, &contains);
-    examine_variable(request->root, without_cast(lsecond(request->args)), request->varRelid, &column);
-    share = estimated(status, &column, &contains, request->inputcollid, value);
-    ReleaseVariableStats(column);
+    if (known.form != NO_FORM && is_sound(sketch, DS_BLOOM) && may_have(sketch, type_of(known.form)) &&
+        read_status(sketch, &known.status)) {
+        examine_variable(request->root, item, request->varRelid, &column);
+        share = estimated(&known, &column, &contains, request->inputcollid);
+        ReleaseVariableStats(column);
+    }
+    free_copy(sketch, filter->constvalue);
     return share;
 }
 
-PG_FUNCTION_INFO_V1(bloom_filter_contains_support);
+/* A shorter constant stays as it is. */
+#define LONG_CONSTANT 1024
+
+/* Returns whether the user may call a function. */
+static bool may_call(Oid function)
+{
+#if PG_VERSION_NUM >= 160000
+    return object_aclcheck(ProcedureRelationId, function, GetUserId(), ACL_EXECUTE) == ACLCHECK_OK;
+#else
+    return pg_proc_aclcheck(function, GetUserId(), ACL_EXECUTE) == ACLCHECK_OK;
+#endif
+}
+
+/* Returns whether a table is foreign, or one that inherits from it is, as a partition may be. */
+static bool is_foreign(const RangeTblEntry *table)
+{
+    ListCell *cell;
+    if (table->relkind == RELKIND_FOREIGN_TABLE) return true;
+    if (!table->inh || !has_subclass(table->relid)) return false;
+    foreach (cell, find_all_inheritors(table->relid, NoLock, NULL))
+        if (get_rel_relkind(lfirst_oid(cell)) == RELKIND_FOREIGN_TABLE) return true;
+    return false;
+}
+
+/* Returns whether a query reads foreign tables. Their servers would get the short form. */
+static bool reads_foreign(const Query *query)
+{
+    ListCell *cell;
+    foreach (cell, query->rtable) {
+        const RangeTblEntry *table = lfirst(cell);
+        if (table->rtekind == RTE_RELATION && is_foreign(table)) return true;
+        if (table->rtekind == RTE_SUBQUERY && table->subquery != NULL && reads_foreign(table->subquery)) return true;
+    }
+    return false;
+}
+
+/* Returns the extension's function `sketch_contains_constant`, or InvalidOid, and the type of its filter. The user may have no rights to
+ * the schema, so names are not resolved. The owner of an extension can add functions to it, but only a superuser has any in C. */
+static Oid constant_function(Oid contains, Oid *type)
+{
+    Oid schema = get_func_namespace(contains), extension = getExtensionOfObject(ProcedureRelationId, contains), found = InvalidOid;
+    CatCList *list = SearchSysCacheList1(PROCNAMEARGSNSP, CStringGetDatum("sketch_contains_constant"));
+    for (int i = 0; i < list->n_members && OidIsValid(extension); i++) {
+        Form_pg_proc function = (Form_pg_proc)GETSTRUCT(&list->members[i]->tuple);
+        if (function->pronamespace != schema || function->prolang != ClanguageId) continue;
+        if (getExtensionOfObject(ProcedureRelationId, function->oid) != extension) continue;
+        found = function->oid;
+        *type = function->proargtypes.values[0];
+    }
+    ReleaseSysCacheList(list);
+    return found;
+}
+
+/* Returns the call of `contains` with the constant filter in its short form, or null if the call stays as it is. */
+static Node *with_short_constant(SupportRequestSimplify *request)
+{
+    FuncExpr *call = request->fcall, *changed;
+    Const *filter = linitial(call->args), *constant;
+    Oid function, type = InvalidOid;
+    if (!IsA(filter, Const) || filter->constisnull || toast_raw_datum_size(filter->constvalue) < LONG_CONSTANT) return NULL;
+    if (request->root != NULL && reads_foreign(request->root->parse)) return NULL;
+    function = constant_function(call->funcid, &type);
+    if (!OidIsValid(function) || function == call->funcid || !may_call(function) || !may_call(call->funcid)) return NULL;
+    constant = copyObject(filter);
+    constant->consttype = type;
+    changed = copyObject(call);
+    changed->funcid = function;
+    linitial(changed->args) = constant;
+    return (Node *)changed;
+}
+
+PG_FUNCTION_INFO_V1(bloom_filter_constant_in);
+
+/* Raises an error: there is no text of a filter in a plan. */
+Datum bloom_filter_constant_in(PG_FUNCTION_ARGS)
+{
+    (void)fcinfo;
+    ereport(ERROR, (errcode(ERRCODE_FEATURE_NOT_SUPPORTED), errmsg("a filter in a plan is not read")));
+    pg_unreachable();
+}
+
+PG_FUNCTION_INFO_V1(bloom_filter_constant_out);
+
+/* Returns what a plan shows of a filter: its size. */
+Datum bloom_filter_constant_out(PG_FUNCTION_ARGS)
+{
+    PG_RETURN_CSTRING(psprintf("%zu bytes", toast_raw_datum_size(PG_GETARG_DATUM(0)) - VARHDRSZ));
+}
 
 /* Serves the planner's request for the selectivity of `contains`. */
-Datum bloom_filter_contains_support(PG_FUNCTION_ARGS)
+static void estimate(SupportRequestSelectivity *request)
 {
-    Node *node = (Node *)PG_GETARG_POINTER(0);
-    SupportRequestSelectivity *request = (SupportRequestSelectivity *)node;
-    Node *filter;
-    if (!IsA(node, SupportRequestSelectivity) || list_length(request->args) != 2) PG_RETURN_POINTER(NULL);
-    filter = estimate_expression_value(request->root, linitial(request->args));
+    Node *filter = estimate_expression_value(request->root, linitial(request->args));
     if (!IsA(filter, Const)) request->selectivity = DEFAULT_SHARE;
     else if (((Const *)filter)->constisnull) request->selectivity = 0;
     else request->selectivity = known_share(request, (Const *)filter);
     request->selectivity = Min(1, Max(0, request->selectivity));
-    PG_RETURN_POINTER(request);
+}
+
+PG_FUNCTION_INFO_V1(bloom_filter_contains_support);
+
+/* Serves the planner's requests for `contains`. */
+Datum bloom_filter_contains_support(PG_FUNCTION_ARGS)
+{
+    Node *node = (Node *)PG_GETARG_POINTER(0), *answer = NULL;
+    if (IsA(node, SupportRequestSelectivity) && list_length(((SupportRequestSelectivity *)node)->args) == 2) {
+        estimate((SupportRequestSelectivity *)node);
+        answer = node;
+    } else if (IsA(node, SupportRequestSimplify) && list_length(((SupportRequestSimplify *)node)->fcall->args) == 2) {
+        answer = with_short_constant((SupportRequestSimplify *)node);
+    }
+    PG_RETURN_POINTER(answer);
 }

@@ -20,12 +20,20 @@ static uint64 parts_argument(FunctionCallInfo fcinfo, int number)
     return inverse(PG_GETARG_FLOAT8(number), "relative_error must be above 0 and below 1");
 }
 
+/* Raises an error if a sketch whose stored form has about as many bytes exceeds a limit, or what is stored. */
+static void check_stored(Kind kind, uint64 bytes)
+{
+    check_bytes(limit_of(kind, USERS_LIMITS), bytes);
+    if (bytes > MAX_STORED_BYTES - 64) raise_stored(bytes);
+}
+
 /* Makes the sketch of frequent items. */
 static void make_frequent(Kind kind, ds_sketch *handle, int64 max_map_size)
 {
     size_t sample = ds_frequent_items_max_sample_size(max_map_size);
     if (max_map_size < 0) check_result(DS_MAP_SIZE_TOO_SMALL);
-    check_bytes(limit_of(kind), (uint64)max_map_size * (kind == DS_FREQUENT_ITEMS_STRING ? BYTES_OF_SLOT : 28));
+    check_bytes(limit_of(kind, USERS_LIMITS),
+                (uint64)max_map_size * (kind == DS_FREQUENT_ITEMS_STRING ? BYTES_OF_SLOT : BYTES_OF_BIGINT_SLOT));
     check_result(ds_frequent_items_new(handle, kind, max_map_size, sample, NULL));
 }
 
@@ -34,7 +42,7 @@ static void make_count(Kind kind, ds_sketch *handle, int64 num_hashes, int64 num
 {
     if (num_hashes < 0 || num_hashes > UINT8_MAX) check_result(DS_BAD_NUM_HASHES);
     if (num_buckets < 0) check_result(DS_BAD_NUM_BUCKETS);
-    check_bytes(limit_of(kind), (uint64)num_hashes * (num_buckets + 1) * 8);
+    check_stored(kind, (uint64)num_hashes * (num_buckets + 1) * 8);
     check_result(ds_count_min_new(handle, kind, (uint8_t)num_hashes, (uint32_t)num_buckets, DS_DEFAULT_SEED));
 }
 
@@ -43,7 +51,7 @@ static void make_filter(Kind kind, ds_sketch *handle, int64 num_bits, int64 num_
 {
     if (num_bits < 0) check_result(DS_BAD_NUM_BITS);
     if (num_hashes < 0 || num_hashes > UINT16_MAX) check_result(DS_BAD_NUM_HASHES);
-    check_bytes(limit_of(kind), (uint64)num_bits / 8);
+    check_stored(kind, (uint64)num_bits / 8);
     check_result(ds_bloom_new(handle, num_bits, (uint16_t)num_hashes, DS_DEFAULT_SEED));
 }
 

@@ -14,13 +14,13 @@
 
 /* --- Images. --- */
 
-void read_image(Kind kind, ds_sketch *handle, const void *image, size_t length, uint64 seed, bool has_limits)
+void read_image(Kind kind, ds_sketch *handle, const void *image, size_t length, uint64 seed, Limits limits)
 {
     size_t uncounted = kind == DS_FREQUENT_ITEMS_STRING ? check_zero_bytes(image, length) : 0;
-    size_t max_bytes = Min(limit_of_all(), limit_of(kind) + uncounted);
-    ds_image_options options = {.max_bytes = has_limits ? max_bytes : SIZE_MAX, .seed = seed};
+    size_t all = limit_of_all(limits), of_kind = limit_of(kind, limits);
+    ds_image_options options = {.max_bytes = of_kind < all ? Min(all, of_kind + uncounted) : all, .seed = seed};
     int32_t result = ds_deserialize(handle, kind, image, length, &options);
-    if (result == DS_TABLE_TOO_LARGE && has_limits) raise_limit(max_bytes == limit_of_all() ? max_bytes : limit_of(kind), 0);
+    if (result == DS_TABLE_TOO_LARGE && limits != NO_LIMITS) raise_limit(options.max_bytes == all ? all : of_kind, 0);
     check_result(result);
     CHECK_FOR_INTERRUPTS();
 }
@@ -30,8 +30,8 @@ struct varlena *write_image(ds_sketch *handle, size_t header)
     struct varlena *whole;
     size_t bytes = 0;
     check_result(ds_serialized_bytes(handle, &bytes));
-    if (bytes > MaxAllocSize - header) raise_stored(bytes);
-    whole = palloc_extended(header + bytes, MCXT_ALLOC_HUGE);
+    if (bytes > MAX_STORED_BYTES - header) raise_stored(bytes);
+    whole = counted_alloc(header + bytes);
     check_result(ds_serialize(handle, (uint8_t *)whole + header, bytes, &bytes));
     SET_VARSIZE(whole, header + bytes);
     CHECK_FOR_INTERRUPTS();
@@ -122,21 +122,25 @@ static bool has_checksum(const Sketch *sketch)
     return true;
 }
 
+bool is_sound(const Sketch *sketch, Kind kind)
+{
+    return has_header(sketch, kind) && has_checksum(sketch);
+}
+
 Sketch *detoast_sketch(Datum datum, Kind kind)
 {
-    Sketch *sketch = (Sketch *)PG_DETOAST_DATUM(datum);
+    Sketch *sketch = (Sketch *)counted_detoast(datum);
     if (has_other_version(sketch))
         ereport(ERROR, (errcode(ERRCODE_DATA_CORRUPTED),
                         errmsg("a stored sketch is damaged, or has version %d of the stored form", sketch->format[3]),
                         errdetail("This version of the extension reads version %d.", format[3])));
-    if (!has_header(sketch, kind) || !has_checksum(sketch))
-        ereport(ERROR, (errcode(ERRCODE_DATA_CORRUPTED), errmsg("a stored sketch is damaged")));
+    if (!is_sound(sketch, kind)) ereport(ERROR, (errcode(ERRCODE_DATA_CORRUPTED), errmsg("a stored sketch is damaged")));
     return sketch;
 }
 
 void load(const Sketch *sketch, ds_sketch *handle)
 {
-    read_image(kind_of(sketch), handle, sketch->image, IMAGE_BYTES(sketch), seed_of(sketch), true);
+    read_image(kind_of(sketch), handle, sketch->image, IMAGE_BYTES(sketch), seed_of(sketch), USERS_LIMITS);
 }
 
 size_t bytes_of(ds_sketch *handle)
@@ -154,17 +158,17 @@ ds_status status_of(ds_sketch *handle)
 }
 
 /* The bytes are those that `ds_deserialize` counts, which adds 4 for the length of each string. */
-void check_limit(ds_sketch *handle)
+void check_limit(ds_sketch *handle, Limits limits)
 {
     ds_status status = status_of(handle);
     size_t bytes = bytes_of(handle);
     if (status.kind == DS_FREQUENT_ITEMS_STRING) {
         size_t table = status.current_map_capacity / 3 * 4 * BYTES_OF_SLOT;
         bytes += 4 * status.num_active_items;
-        check_bytes(limit_of_all(), bytes);
+        check_bytes(limit_of_all(limits), bytes);
         bytes = Min(bytes, table + COUNTED_BYTES * status.num_active_items);
     }
-    check_bytes(limit_of(status.kind), bytes);
+    check_bytes(limit_of(status.kind, limits), bytes);
 }
 
 /* Writes the header of a stored sketch, whose image is complete. */
@@ -182,7 +186,7 @@ Sketch *store(uint8 items, ds_sketch *handle)
 {
     ds_status status = status_of(handle);
     Sketch *sketch;
-    check_limit(handle);
+    check_limit(handle, USERS_LIMITS);
     sketch = (Sketch *)write_image(handle, offsetof(Sketch, image));
     write_header(sketch, status.kind, items, has_seed(status.kind) ? status.seed : 0);
     return sketch;
@@ -190,66 +194,59 @@ Sketch *store(uint8 items, ds_sketch *handle)
 
 /* --- Forms. --- */
 
-/* Returns whether a sketch of frequent items has all counters of the image that it was read from. */
-static bool has_whole_image(ds_sketch *handle, size_t length)
-{
-    size_t bytes = 0;
-    check_result(ds_serialized_bytes(handle, &bytes));
-    return bytes == length;
-}
-
-/* Returns a stored sketch of frequent items with a copy of their image. */
-static Sketch *with_image(Kind kind, uint8 items, const void *image, size_t length)
+/* Returns a new stored sketch without a header, with room for an image. */
+static Sketch *empty_stored(size_t length)
 {
     Sketch *sketch;
-    if (length > MaxAllocSize - offsetof(Sketch, image)) raise_stored(length);
-    sketch = palloc_extended(offsetof(Sketch, image) + length, MCXT_ALLOC_HUGE);
+    if (length > MAX_STORED_BYTES - offsetof(Sketch, image)) raise_stored(length);
+    sketch = counted_alloc(offsetof(Sketch, image) + length);
     SET_VARSIZE(sketch, offsetof(Sketch, image) + length);
-    memcpy(sketch->image, image, length);
-    write_header(sketch, kind, items, 0);
     return sketch;
 }
 
 /* Returns a stored sketch from an image that may be untrusted. Frequent items keep the bytes of the image, since the order of
  * items changes when an image is written again. Filters and counts get the bytes that the library writes, so equal ones have
- * equal images. `stored` is what the image is stored in, if it is: then frequent items are not copied. */
-static Sketch *import_image(Kind kind, uint8 items, const void *image, size_t length, uint64 seed, Sketch *stored)
+ * equal images. `stored` is what the image is stored in, if it is: then the result is there too, so that a sketch that a session made
+ * is read with no more memory. */
+static Sketch *import_image(Kind kind, uint8 items, const void *image, size_t length, uint64 seed, Sketch *stored, Limits limits)
 {
     ds_sketch handle = DS_NONE;
-    Sketch *sketch;
+    size_t bytes = 0;
     if (kind == DS_FREQUENT_ITEMS_I64) check_bigints(image, length);
-    read_image(kind, &handle, image, length, seed, true);
-    if (is_frequent(kind) && has_whole_image(&handle, length)) {
-        check_limit(&handle);
-        sketch = stored != NULL ? stored : with_image(kind, items, image, length);
+    read_image(kind, &handle, image, length, seed, limits);
+    check_limit(&handle, limits);
+    check_result(ds_serialized_bytes(&handle, &bytes));
+    if (stored == NULL) stored = empty_stored(bytes);
+    else if (bytes > length) elog(ERROR, "an image became longer");
+    if (is_frequent(kind) && bytes == length) {
+        if (image != stored->image) memcpy(stored->image, image, length);
     } else {
-        sketch = store(items, &handle);
+        check_result(ds_serialize(&handle, stored->image, bytes, &bytes));
     }
     ds_free(&handle);
-    return sketch;
+    SET_VARSIZE(stored, offsetof(Sketch, image) + bytes);
+    write_header(stored, kind, items, has_seed(kind) ? seed : 0);
+    return stored;
 }
 
 /* Returns a sketch with these bytes after its length, which are not checked. */
 static Sketch *unchecked(const void *bytes, size_t length)
 {
     Sketch *sketch;
-    if (length > MaxAllocSize - VARHDRSZ) raise_stored(length);
-    sketch = palloc(VARHDRSZ + length);
+    if (length > MAX_STORED_BYTES - VARHDRSZ) raise_stored(length);
+    sketch = counted_alloc(VARHDRSZ + length);
     SET_VARSIZE(sketch, VARHDRSZ + length);
     memcpy(VARDATA(sketch), bytes, length);
     return sketch;
 }
 
-/* Returns a stored sketch from one that may be untrusted, and keeps it or frees it. `damaged` is the SQLSTATE of an error. */
-static Sketch *import(Kind kind, Sketch *sketch, int damaged)
+/* Returns a stored sketch from one that may be untrusted, which it replaces. `damaged` is the SQLSTATE of an error. */
+static Sketch *import(Kind kind, Sketch *sketch, int damaged, Limits limits)
 {
-    Sketch *imported;
     if (has_other_version(sketch)) raise_version(sketch->format[3], format[3]);
     if (!has_header(sketch, kind)) raise_kind("the value is not a sketch of this type");
     if (!has_checksum(sketch)) ereport(ERROR, (errcode(damaged), errmsg("the sketch is damaged: its checksum is wrong")));
-    imported = import_image(kind, sketch->items, sketch->image, IMAGE_BYTES(sketch), seed_of(sketch), sketch);
-    if (imported != sketch) pfree(sketch);
-    return imported;
+    return import_image(kind, sketch->items, sketch->image, IMAGE_BYTES(sketch), seed_of(sketch), sketch, limits);
 }
 
 /* The text form is base64. It is converted in blocks, and interrupts are checked between them. */
@@ -261,8 +258,11 @@ static Datum type_in(FunctionCallInfo fcinfo, Kind kind)
 {
     const char *text = PG_GETARG_CSTRING(0);
     size_t length = strcspn(text, " \t\n\r"), written = 0;
-    Sketch *sketch = palloc(VARHDRSZ + length / 4 * 3 + 3);
-    char *bytes = VARDATA(sketch);
+    Sketch *sketch;
+    char *bytes;
+    if (length / 4 * 3 > MAX_STORED_BYTES) raise_stored(length / 4 * 3);
+    sketch = counted_alloc(VARHDRSZ + length / 4 * 3 + 3);
+    bytes = VARDATA(sketch);
     if (text[length] != '\0') ereport(ERROR, (errcode(ERRCODE_INVALID_TEXT_REPRESENTATION), errmsg("the sketch is not base64")));
     for (size_t start = 0; start < length; start += LETTERS_IN_BLOCK) {
         int part = pg_b64_decode(text + start, (int)Min(length - start, LETTERS_IN_BLOCK), (void *)(bytes + written),
@@ -272,7 +272,7 @@ static Datum type_in(FunctionCallInfo fcinfo, Kind kind)
         CHECK_FOR_INTERRUPTS();
     }
     SET_VARSIZE(sketch, VARHDRSZ + written);
-    PG_RETURN_POINTER(import(kind, sketch, ERRCODE_INVALID_TEXT_REPRESENTATION));
+    PG_RETURN_POINTER(import(kind, sketch, ERRCODE_INVALID_TEXT_REPRESENTATION, ADMINISTRATORS_LIMITS));
 }
 
 /* Returns the sketch of any kind that is the first argument, verified. */
@@ -291,7 +291,7 @@ Datum sketch_out(PG_FUNCTION_ARGS)
     size_t length = VARSIZE(sketch) - VARHDRSZ, capacity = (length + 2) / 3 * 4, written = 0;
     char *text;
     if (capacity >= MaxAllocSize) raise_stored(length);
-    text = palloc(capacity + 1);
+    text = counted_alloc(capacity + 1);
     for (size_t start = 0; start < length; start += BYTES_IN_BLOCK) {
         int part = pg_b64_encode((const void *)(bytes + start), (int)Min(length - start, BYTES_IN_BLOCK), text + written,
                                  (int)(capacity - written));
@@ -300,6 +300,7 @@ Datum sketch_out(PG_FUNCTION_ARGS)
         CHECK_FOR_INTERRUPTS();
     }
     text[written] = '\0';
+    free_copy(sketch, PG_GETARG_DATUM(0));
     PG_RETURN_CSTRING(text);
 }
 
@@ -309,13 +310,13 @@ static Datum type_recv(FunctionCallInfo fcinfo, Kind kind)
     StringInfo message = (StringInfo)PG_GETARG_POINTER(0);
     int length = message->len - message->cursor;
     Sketch *sketch = unchecked(pq_getmsgbytes(message, length), length);
-    PG_RETURN_POINTER(import(kind, sketch, ERRCODE_INVALID_BINARY_REPRESENTATION));
+    PG_RETURN_POINTER(import(kind, sketch, ERRCODE_INVALID_BINARY_REPRESENTATION, ADMINISTRATORS_LIMITS));
 }
 
 /* Returns a copy of bytes as a bytea. */
 static bytea *bytea_of(const void *bytes, size_t length)
 {
-    bytea *copy = palloc(VARHDRSZ + length);
+    bytea *copy = counted_alloc(VARHDRSZ + length);
     SET_VARSIZE(copy, VARHDRSZ + length);
     memcpy(VARDATA(copy), bytes, length);
     return copy;
@@ -327,15 +328,25 @@ PG_FUNCTION_INFO_V1(sketch_send);
 Datum sketch_send(PG_FUNCTION_ARGS)
 {
     Sketch *sketch = any_sketch(fcinfo);
-    PG_RETURN_BYTEA_P(bytea_of(VARDATA(sketch), VARSIZE(sketch) - VARHDRSZ));
+    bytea *bytes = bytea_of(VARDATA(sketch), VARSIZE(sketch) - VARHDRSZ);
+    free_copy(sketch, PG_GETARG_DATUM(0));
+    PG_RETURN_BYTEA_P(bytes);
+}
+
+/* Returns an argument detoasted, unless it only has a short length, which is read in place. */
+static bytea *packed_argument(FunctionCallInfo fcinfo, int number)
+{
+    struct varlena *value = (struct varlena *)PG_GETARG_POINTER(number);
+    return VARATT_IS_SHORT(value) ? value : counted_detoast(PointerGetDatum(value));
 }
 
 /* Returns a sketch from its bytea form. */
 static Datum type_from_bytea(FunctionCallInfo fcinfo, Kind kind)
 {
-    bytea *bytes = PG_GETARG_BYTEA_PP(0);
+    bytea *bytes = packed_argument(fcinfo, 0);
     Sketch *sketch = unchecked(VARDATA_ANY(bytes), VARSIZE_ANY_EXHDR(bytes));
-    PG_RETURN_POINTER(import(kind, sketch, ERRCODE_INVALID_BINARY_REPRESENTATION));
+    free_copy(bytes, PG_GETARG_DATUM(0));
+    PG_RETURN_POINTER(import(kind, sketch, ERRCODE_INVALID_BINARY_REPRESENTATION, USERS_LIMITS));
 }
 
 PG_FUNCTION_INFO_V1(sketch_image);
@@ -344,7 +355,9 @@ PG_FUNCTION_INFO_V1(sketch_image);
 Datum sketch_image(PG_FUNCTION_ARGS)
 {
     Sketch *sketch = any_sketch(fcinfo);
-    PG_RETURN_BYTEA_P(bytea_of(sketch->image, IMAGE_BYTES(sketch)));
+    bytea *image = bytea_of(sketch->image, IMAGE_BYTES(sketch));
+    free_copy(sketch, PG_GETARG_DATUM(0));
+    PG_RETURN_BYTEA_P(image);
 }
 
 /* Returns the seed in an argument of type numeric. */
@@ -373,10 +386,12 @@ Datum seed_value(uint64 seed)
  * so the sketch may have both. An image of Count-Min does not say its seed, which is the second argument. */
 static Datum type_from_image(FunctionCallInfo fcinfo, Kind kind)
 {
-    bytea *image = PG_GETARG_BYTEA_PP(0);
+    bytea *image = packed_argument(fcinfo, 0);
     uint8 items = items_of(kind, STRINGS | BIGINTS);
     uint64 seed = PG_NARGS() > 1 ? seed_argument(fcinfo, 1) : 0;
-    PG_RETURN_POINTER(import_image(kind, items, VARDATA_ANY(image), VARSIZE_ANY_EXHDR(image), seed, NULL));
+    Sketch *sketch = import_image(kind, items, VARDATA_ANY(image), VARSIZE_ANY_EXHDR(image), seed, NULL, USERS_LIMITS);
+    free_copy(image, PG_GETARG_DATUM(0));
+    PG_RETURN_POINTER(sketch);
 }
 
 #define FORMS(type, kind) \
@@ -391,23 +406,14 @@ FORMS(count_min, DS_COUNT_MIN_U64)
 FORMS(signed_count_min, DS_COUNT_MIN_I64)
 FORMS(bloom_filter, DS_BLOOM)
 
-/* --- Arguments. --- */
-
-int database_encoding = -1;
-
-ds_string converted(ds_string string)
-{
-    char *utf8;
-    database_encoding = GetDatabaseEncoding();
-    utf8 = pg_server_to_any((const char *)string.bytes, (int)string.length, PG_UTF8);
-    if (utf8 == (const char *)string.bytes) return string;
-    return (ds_string){(const uint8_t *)utf8, strlen(utf8)};
-}
+/* --- Items. --- */
 
 void check_items(const Sketch *sketch, uint8 items)
 {
-    if ((sketch->items & items) == 0 && sketch->items != NO_ITEMS)
-        raise_items(items == STRINGS ? "the sketch has no strings as items" : "the sketch has no bigints as items");
+    if (may_have(sketch, items)) return;
+    if (items == BIGINTS) raise_items("the sketch has no bigints as items", "Cast the item to text.");
+    raise_items("the sketch has no strings as items",
+                "Integers are bigints, and items of all other types are strings. Cast the item to bigint.");
 }
 
 Datum items_name(const Sketch *sketch)
@@ -427,8 +433,8 @@ static int compared(FunctionCallInfo fcinfo)
     int order = memcmp(left->image, right->image, Min(first, second));
     if (order == 0) order = (first > second) - (first < second);
     if (order == 0) order = memcmp(left->seed, right->seed, sizeof left->seed);
-    PG_FREE_IF_COPY(left, 0);
-    PG_FREE_IF_COPY(right, 1);
+    free_copy(left, PG_GETARG_DATUM(0));
+    free_copy(right, PG_GETARG_DATUM(1));
     return order;
 }
 
@@ -462,7 +468,7 @@ Datum sketch_hash(PG_FUNCTION_ARGS)
 {
     Sketch *sketch = any_sketch(fcinfo);
     Datum hash = hash_any(sketch->image, (int)IMAGE_BYTES(sketch));
-    PG_FREE_IF_COPY(sketch, 0);
+    free_copy(sketch, PG_GETARG_DATUM(0));
     return hash;
 }
 
@@ -473,6 +479,6 @@ Datum sketch_hash_extended(PG_FUNCTION_ARGS)
 {
     Sketch *sketch = any_sketch(fcinfo);
     Datum hash = hash_any_extended(sketch->image, (int)IMAGE_BYTES(sketch), (uint64)PG_GETARG_INT64(1));
-    PG_FREE_IF_COPY(sketch, 0);
+    free_copy(sketch, PG_GETARG_DATUM(0));
     return hash;
 }

@@ -136,15 +136,14 @@ def every_key(tests):
 def unlike_sizes(tests, ask):
     """Checks merges of frequent items of unlike sizes: both bounds and the error share of the smaller one."""
     for item, small, large in [("string", "strings_64", "strings_4096"), ("number", "bigints_64", "bigints_65536")]:
-        for name, union, size in [("small first", f"{small} | {large}", 64), ("large first", f"{large} | {small}", None)]:
+        for name, union in [("small first", f"{small} | {large}"), ("large first", f"{large} | {small}")]:
             total, error, sized, wrong = ask(f"""
                 SELECT (sketch_status(s)).total_weight, (sketch_status(s)).maximum_error, (sketch_status(s)).max_map_size,
                     count(*) FILTER (WHERE NOT 2 * weight BETWEEN sketch_lower_bound(s, {item}) AND sketch_upper_bound(s, {item}))
                 FROM (SELECT {union} AS s FROM sketches_serial OFFSET 0) AS merged, exact GROUP BY 1, 2, 3""")[0]
-            first = large if size is None else small
             tests.check(f"unlike sizes of {item}, {name}: bounds", wrong == 0, wrong)
             tests.check(f"unlike sizes of {item}, {name}: error", 3 * 64 * error <= 8 * total, (error, total))
-            tests.check(f"unlike sizes of {item}, {name}: size", sized == int(first.split("_")[1]), sized)
+            tests.check(f"unlike sizes of {item}, {name}: size", sized == int(large.split("_")[1]), sized)
 
 
 def groups(tests, ask, cursor):

@@ -17,7 +17,7 @@ ERRORS = {
     "SK016": "SELECT filter | bloom_filter_agg_sized('b', 128, 3) FROM one GROUP BY filter::text, filter",
     "SK022": "SELECT bloom_filter_from_image('')",
     "0A000": "SELECT bloom_filter_agg_sized('a' COLLATE loose, 64, 3)",
-    "22003": "SELECT frequent_strings_agg('a', -1)",
+    "22003": "SELECT frequent_strings_agg('a', -1, 64)",
     "22004": "SELECT bloom_filter_agg_sized('a', 64, NULL::integer)",
     "22021": f"SELECT item FROM frequent_rows(frequent_strings_from_image('\\x{ZERO_BYTE}'))",
     "22023": "SELECT frequent_strings_agg('a', 1, 100)",

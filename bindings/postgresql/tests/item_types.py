@@ -1,5 +1,10 @@
-"""Items of types whose equality is not that of bytes, sketches that are compared, and images of other items."""
+"""Items of each type, types whose equality is not that of bytes, sketches that are compared, and images of other items."""
+import datetime
+import decimal
 import re
+import uuid
+
+import psycopg2
 
 from ends import code_of
 
@@ -23,6 +28,38 @@ CALLS = ["SELECT frequent_strings_agg(x) FROM {table}", "SELECT frequent_strings
          "SELECT sketch_bounds((SELECT frequent_strings_agg('good')), x) FROM {table}",
          "SELECT sketch_add(frequent_strings_empty(), x) FROM {table}",
          "SELECT signed_count_min_agg_sized(x, 1, 3, 50) OVER (ROWS 1 PRECEDING) FROM {table}"]
+
+# Types that have no items of their own, each with a value.
+NO_ITEMS = {"double precision": "1.5", "real": "1.5", "boolean": "true", "json": "'{}'", "jsonb": "'{}'", "interval": "'1 day'",
+            "time": "'04:05'", "timetz": "'04:05+01'", "timestamp": "'2026-02-03'", "inet": "'127.0.0.1'", "text[]": "'{a}'", "xid": "'7'",
+            "regclass": "'pg_class'", "int4range": "'[1,2)'", "point": "'(1,2)'", "bit(3)": "B'101'", "money": "'1'"}
+
+# Values of each type, in groups of equal ones, with their item as other languages write it: an integer or a string.
+EPOCH = datetime.datetime(2026, 2, 3, 3, 5, 6, 7, datetime.timezone.utc)
+SECOND = datetime.datetime(2026, 2, 3, 3, 5, 6, 0, datetime.timezone.utc)
+UUID = uuid.UUID("f0eebc999c0b4ef8bb6d6bb9bd380a11")
+VALUES = {
+    "smallint": [(["'-7'", "'-07'"], -7)],
+    "integer": [(["'-7'", "'-07'"], -7), (["'2147483647'"], 2**31 - 1)],
+    "bigint": [(["'-7'"], -7), (["'9223372036854775807'"], 2**63 - 1)],
+    "oid": [(["'7'"], 7), (["'4294967295'", "'-1'"], 2**32 - 1)],
+    "text": [(["'a '"], "a "), (["''"], ""), (["'é€😀'"], "é€😀")],
+    "varchar(5)": [(["'a '"], "a ")],
+    "char(5)": [(["'a'", "'a  '"], "a"), (["''", "'  '"], "")],
+    "name": [(["'a '"], "a ")],
+    '"char"': [(["'a'"], "a"), (["''"], "")],
+    "uuid": [([f"'{UUID}'", f"'{str(UUID).upper()}'", "'{f0eebc999c0b4ef8bb6d6bb9bd380a11}'"], str(UUID)),
+             (["'00000000-0000-0000-0000-000000000000'"], str(uuid.UUID(int=0)))],
+    "bytea": [(["'\\x00ff'", "'\\000\\377'", "'\\x00FF'"], "\\x" + bytes([0, 255]).hex()), (["''"], "\\x")],
+    "date": [(["'2026-02-03'", "'03 Feb 2026'", "'J2461075'"], datetime.date(2026, 2, 3).isoformat()),
+             (["'infinity'"], "infinity"), (["'-infinity'"], "-infinity"), (["'0044-03-15 BC'"], "0044-03-15 BC")],
+    "timestamptz": [(["'2026-02-03 04:05:06.000007+01'", "'2026-02-02 22:05:06.000007-05'"], EPOCH.isoformat(timespec="microseconds")),
+                    (["'2026-02-03 03:05:06Z'"], SECOND.isoformat(timespec="microseconds")), (["'infinity'"], "infinity"),
+                    (["'0044-03-15 00:00:00Z BC'"], "0044-03-15T00:00:00.000000+00:00 BC")],
+    "numeric": [(["'1.50'", "'1.5'", "'0001.5000'", "'15e-1'"], format(decimal.Decimal("1.50").normalize(), "f")),
+                (["'100'", "'1e2'", "'100.00'"], format(decimal.Decimal("100.00").normalize(), "f")), (["'0'", "'-0.00'"], "0"),
+                (["'1e30'"], "1" + "0" * 30), (["'-0.001'"], "-0.001"), (["'NaN'"], "NaN"), (["'-Infinity'"], "-Infinity")],
+}
 
 
 def types(tests):
@@ -48,8 +85,110 @@ def types(tests):
                 tests.check(f"items of type {name}, cast to text: {written}", code_of(cursor, written) is None)
         try:
             cursor.execute("SELECT bloom_filter_agg_sized(x, 640, 5) FROM of_8")
-        except Exception as error:
+        except psycopg2.Error as error:
             tests.check("the hint names a way", "lower(item::text)" in (error.diag.message_hint or ""), error)
+        for name, value in NO_ITEMS.items():
+            for call in ["frequent_strings_agg({})", "bloom_filter_agg({}, 9, 0.1)", "sketch_contains(bloom_filter_empty(9, 0.1), {})"]:
+                code = code_of(cursor, "SELECT " + call.format(f"{value}::{name}"))
+                tests.check(f"no items of type {name}: {call}", code == "0A000", code)
+
+
+# Each way in which a value of citext comes to a function: a query of one boolean, or a statement that raises an error. The filter and the
+# counts have 'abc', which equals 'ABC'.
+WAYS = {
+    "a constant": "SELECT {0}, 'ABC'::citext) FROM built",
+    "a prepared statement": "EXECUTE {1}('ABC')",
+    "a variable": "DO $$DECLARE v citext := 'ABC'; r text; BEGIN r := (SELECT {0}, v) FROM built); END$$",
+    "a field": "DO $$DECLARE v record; r text; BEGIN FOR v IN SELECT 'ABC'::citext AS c LOOP "
+               "r := (SELECT {0}, v.c) FROM built); END LOOP; END$$",
+    "EXECUTE .. USING": "DO $$DECLARE r text; BEGIN EXECUTE 'SELECT {0}, $1) FROM built' INTO r USING 'ABC'::citext; END$$",
+    "a function's parameter": "SELECT by_{1}('ABC')",
+    "a subquery": "SELECT {0}, (SELECT 'ABC'::citext)) FROM built",
+    "CASE": "SELECT {0}, CASE WHEN random() < 2 THEN 'ABC'::citext ELSE 'x' END) FROM built",
+}
+FUNCTIONS = {"contains": "sketch_contains(filter", "estimate": "sketch_estimate(counts", "bounds": "sketch_bounds(strings",
+             "add": "sketch_add(filter"}
+
+
+def plans(tests):
+    """Values of citext by prepared statements, variables and parameters, with plans for a value and for all, and in windows."""
+    tests.main.run("createdb", "planned")
+    with tests.main.session("planned") as session, session.cursor() as cursor:
+        cursor.execute("CREATE EXTENSION sketches_rattle; CREATE EXTENSION citext; CREATE TABLE built AS SELECT "
+                       "bloom_filter_agg('abc', 10, 0.01) AS filter, count_min_agg('abc', 0.1, 0.9) AS counts, "
+                       "frequent_strings_agg('abc') AS strings")
+        for name, call in FUNCTIONS.items():
+            cursor.execute(f"PREPARE {name}(citext) AS SELECT {call}, $1) FROM built;"
+                           f"PREPARE text_{name}(text) AS SELECT {call}, $1) FROM built;"
+                           f"PREPARE any_{name} AS SELECT {call}, $1) FROM built;"
+                           f"CREATE FUNCTION by_{name}(citext) RETURNS text LANGUAGE sql AS $$SELECT ({call}, $1))::text FROM built$$")
+        for mode in ("auto", "force_custom_plan", "force_generic_plan"):
+            cursor.execute(f"SET plan_cache_mode = {mode}")
+            for name, call in FUNCTIONS.items():
+                for way, statement in WAYS.items():
+                    codes = [code_of(cursor, statement.format(call, name)) for _ in range(8)]
+                    tests.check(f"citext by {way}, {mode}: {call}", codes == ["0A000"] * 8, codes)
+                for kind in ("text", "any"):
+                    answers = set()
+                    for _ in range(8):
+                        cursor.execute(f"EXECUTE {kind}_{name}('abc')")
+                        answers.add(str(cursor.fetchone()[0]))
+                    tests.check(f"{kind} by a prepared statement, {mode}: {call}",
+                                answers <= {"True", "1", "(1,1,1)"} or name == "add" and len(answers) == 1, answers)
+        cursor.execute("CREATE TABLE pairs AS SELECT 'abc' AS t, 'ABC'::citext AS s")
+        for one, other, wanted in [("t", "s", "0A000"), ("s", "t", "0A000"), ("t", "t || 'd'", None), ("s::text", "t", None)]:
+            for call in ("frequent_strings_agg({})", "bloom_filter_agg_sized({}, 64, 3)", "count_min_agg_sized({}, 3, 64)",
+                         "signed_count_min_agg_sized({}, 3, 64)"):
+                for window in ("()", "(ROWS 1 PRECEDING)"):
+                    code = code_of(cursor, f"SELECT {call.format(one)} OVER w, {call.format(other)} OVER w FROM pairs WINDOW w AS {window}")
+                    tests.check(f"{call} of {one} and of {other} over {window}", code == wanted, code)
+        cursor.execute("SELECT frequent_rows(a), frequent_rows(b) FROM (SELECT frequent_strings_agg(7::numeric) OVER w AS a, "
+                       "frequent_strings_agg(date '2026-02-03') OVER w AS b FROM pairs WINDOW w AS ()) AS s")
+        tests.check("two types of items over one window", cursor.fetchall() == [("(7,1,1,1)", "(2026-02-03,1,1,1)")])
+
+
+def direct(tests):
+    """Items of each type: equal values are one item, whichever call they come by, and the one that other languages write."""
+    with tests.main.session() as session, session.cursor() as cursor:
+        def ask(query, *values):
+            cursor.execute(query, values)
+            return cursor.fetchone()
+
+        for settings in ("", "SET DateStyle = 'SQL, DMY'; SET TimeZone = 'Asia/Kolkata'; SET bytea_output = 'escape'"):
+            cursor.execute(settings or "RESET ALL")
+            for name, groups in VALUES.items():
+                for literals, item in groups:
+                    for literal in literals:
+                        value = f"{literal}::{name}"
+                        same = ask(f"SELECT bloom_filter_agg({value}, 9, 0.001) = bloom_filter_agg(%s, 9, 0.001), "
+                                   f"count_min_agg({value}, 3, 0.1, 0.9) = count_min_agg(%s, 3, 0.1, 0.9), "
+                                   f"signed_count_min_agg({value}, 0.1, 0.9) = signed_count_min_agg(%s, 0.1, 0.9), "
+                                   f"sketch_add(bloom_filter_empty(9, 0.001), {value}) = bloom_filter_agg(%s, 9, 0.001), "
+                                   f"sketch_contains(bloom_filter_agg(%s, 9, 0.001), {value}), "
+                                   f"sketch_estimate(count_min_agg(%s, 3, 0.1, 0.9), {value}) = 3, "
+                                   f"sketch_upper_bound(signed_count_min_agg(%s, 0.1, 0.9), {value}) >= 1", *[item] * 7)
+                        tests.check(f"an item of {value} {settings}", same == (True,) * 7, same)
+                        kind = "strings" if isinstance(item, str) else "bigints"
+                        rows = ask(f"SELECT item, sketch_estimate(s, {value}), sketch_lower_bound(s, {value}), "
+                                   f"(sketch_bounds(s, {value})).upper_bound, sketch_estimate(sketch_add(s, {value}, 4), {value}) "
+                                   f"FROM (SELECT frequent_{kind}_agg({value}) AS s) AS t, frequent_rows(s)")
+                        tests.check(f"a frequent item of {value} {settings}", rows == (item, 1, 1, 1, 5), rows)
+                if len(groups) > 1:
+                    one, other = [f"{literals[0]}::{name}" for literals, _ in groups[:2]]
+                    missed = ask(f"SELECT sketch_contains(bloom_filter_agg({one}, 9, 0.001), {other})")
+                    tests.check(f"unequal items of {name}", missed == (False,), missed)
+        for name, code in [("integer", "42804"), ("oid", "42804"), ("smallint", "42804")]:
+            found = code_of(cursor, f"SELECT frequent_strings_agg('7'::{name})")
+            tests.check(f"frequent strings of {name}", found == code, found)
+        cursor.execute("PREPARE untyped AS SELECT sketch_estimate(frequent_bigints_agg(-7::bigint), $1)")
+        tests.check("a parameter without a type is a number for frequent bigints", ask("EXECUTE untyped('-7')") == (1,) and
+                    code_of(cursor, "EXECUTE untyped('seven')") == "22P02")
+        for name in ("uuid", "numeric", "text", "date"):
+            value = VALUES[name][0][0][0]
+            found = code_of(cursor, f"SELECT frequent_bigints_agg({value}::{name})")
+            tests.check(f"frequent bigints of {name}", found == ("22P02" if name == "text" else "42804"), found)
+            found = code_of(cursor, f"SELECT sketch_contains(bloom_filter_agg(7, 9, 0.1), {value}::{name})")
+            tests.check(f"an item of {name} in a filter of bigints", found == "SK002", found)
 
 
 def orders(tests):

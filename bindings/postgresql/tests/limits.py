@@ -168,7 +168,8 @@ def administrators(tests):
         error = error_of(cursor, f"SELECT {many}")
         tests.check("all sketches of a statement keep to one limit", error is not None and error[0] == "53200"
                     and "sketches_rattle.max_statement_memory" in error[1] and str(64 * MB) in error[1], error)
-        few = ", ".join(f"length(sketch_image({LARGE.format(bits=8 * 8 * MB + 64 * i)}))" for i in range(4))
+        # Each has the sketch that the rows make, its stored form and its image: 48 MB together.
+        few = ", ".join(f"length(sketch_image({LARGE.format(bits=8 * 8 * MB + 64 * i)}))" for i in range(2))
         for _ in range(20):
             error = error_of(cursor, f"SELECT {few}")
             if error is not None:
@@ -210,3 +211,44 @@ def settings(tests):
                         error is not None and error[0] == "22023" and "max_image_bytes" in error[1], error)
             cursor.execute("SET sketches_rattle.max_image_bytes = '2MB'")
             tests.check("a good value after it", code_of(cursor, "SELECT sketch_status(bloom_filter_agg_sized(1::bigint, 64, 3))") is None)
+
+
+def known(tests):
+    """The settings are known before a session's first sketch: after `LOAD`, or with `session_preload_libraries`."""
+    names = ["max_frequent_bytes", "max_image_bytes", "max_statement_memory", "max_user_bytes"]
+    with tests.main.session() as session, session.cursor() as cursor:
+        cursor.execute("LOAD 'sketches_rattle'")
+        cursor.execute("ALTER SYSTEM SET sketches_rattle.max_image_bytes = '3MB'")
+        cursor.execute("SELECT name FROM pg_settings WHERE name LIKE 'sketches_rattle.%' ORDER BY name")
+        tests.check("the settings after LOAD", [name for name, in cursor.fetchall()] == [f"sketches_rattle.{name}" for name in names])
+        cursor.execute("SELECT pg_reload_conf(), pg_sleep(0.2)")
+    with tests.main.session() as session, session.cursor() as cursor:
+        error = error_of(cursor, f"SELECT sketch_status({LARGE.format(bits=4 * 8 * MB)})")
+        tests.check("ALTER SYSTEM sets a limit", error is not None and error[0] == "54000" and str(3 * MB) in error[1], error)
+        cursor.execute("ALTER SYSTEM RESET sketches_rattle.max_image_bytes")
+        cursor.execute("SELECT pg_reload_conf(), pg_sleep(0.2)")
+        cursor.execute("CREATE DATABASE preloaded")
+        cursor.execute("ALTER DATABASE preloaded SET session_preload_libraries = 'sketches_rattle'; CREATE ROLE reader LOGIN")
+    with tests.main.session("preloaded", user="reader") as session, session.cursor() as cursor:
+        cursor.execute("SHOW sketches_rattle.max_statement_memory")
+        tests.check("a setting as a session's first statement", cursor.fetchone() == ("1GB",))
+    with tests.main.session("preloaded") as session, session.cursor() as cursor:
+        cursor.execute("CREATE EXTENSION sketches_rattle")
+        cursor.execute("SELECT sketch_contains(bloom_filter_agg(7, 9, 0.1), 7)")
+        tests.check("a sketch with the library loaded before", cursor.fetchone() == (True,))
+    with tests.main.session() as session, session.cursor() as cursor:
+        cursor.execute("ALTER DATABASE preloaded SET sketches_rattle.max_image_bytes = 'lots'")
+    with tests.main.session("preloaded") as session, session.cursor() as cursor:
+        cursor.execute("SHOW sketches_rattle.max_image_bytes")
+        tests.check("a bad value of a database does not end its sessions", cursor.fetchone() == ("32MB",))
+    with tests.main.session() as session, session.cursor() as cursor:
+        cursor.execute("DROP DATABASE preloaded")
+        cursor.execute("DROP ROLE reader")
+    with tests.server("preloaded", shared_preload_libraries="'sketches_rattle'", **{"sketches_rattle.max_image_bytes": "'5MB'"}) as on:
+        with on.session() as session, session.cursor() as cursor:
+            cursor.execute("SHOW sketches_rattle.max_image_bytes")
+            tests.check("a setting of the server's file", cursor.fetchone() == ("5MB",))
+            cursor.execute("ALTER SYSTEM SET sketches_rattle.max_user_bytes = '7MB'")
+            cursor.execute("CREATE EXTENSION sketches_rattle")
+            cursor.execute("SELECT item, estimate FROM frequent_rows((SELECT frequent_strings_agg(i % 3 || '') FROM generate_series(1, 10) AS i), 1)")
+            tests.check("a sketch with the library loaded by the server", cursor.fetchone() == ("1", 4))

@@ -23,6 +23,7 @@ BINDINGS = os.path.dirname(EXTENSION)
 sys.path.insert(0, HERE)
 
 import bounds  # noqa: E402
+import constants  # noqa: E402
 import damage  # noqa: E402
 import ends  # noqa: E402
 import errors  # noqa: E402
@@ -30,11 +31,12 @@ import exchange  # noqa: E402
 import frames  # noqa: E402
 import item_types  # noqa: E402
 import limits  # noqa: E402
+import memory  # noqa: E402
 import page  # noqa: E402
+import restored  # noqa: E402
 import scripts  # noqa: E402
 import server  # noqa: E402
 import stored  # noqa: E402
-import updates  # noqa: E402
 import versions  # noqa: E402
 
 PYTHON = "/usr/bin/python3"
@@ -149,11 +151,12 @@ def valgrind(tests):
 
 GROUPS = [scripts.attacks, scripts.schemas, queries, isolation, bounds.every_key, ends.cancels, ends.many_cancels, ends.killed,
           ends.out_of_memory,
-          stored.dump_and_restore, stored.copied, stored.encodings, stored.collations, stored.versions, stored.owned,
-          updates.from_the_version_before, frames.linear, item_types.types, item_types.orders, item_types.images_of_other_items,
-          item_types.comments, limits.small_images, limits.planned, limits.administrators, limits.settings,
-          limits.kept_by_use, limits.kept_in_part, limits.long_strings,
-          exchange.interfaces, exchange.seeds, page.page_queries, errors.listed_errors, damage.damaged_bytes, versions.compiles]
+          stored.dump_and_restore, stored.copied, stored.encodings, stored.collations, stored.versions, stored.owned, stored.compressed,
+          constants.pushed, constants.without_rights, frames.linear, item_types.types, item_types.plans, item_types.direct, item_types.orders, item_types.images_of_other_items,
+          item_types.comments, limits.small_images, limits.planned, limits.administrators, limits.settings, limits.known,
+          limits.kept_by_use, limits.kept_in_part, limits.long_strings, memory.statements,
+          restored.dumps, restored.replicas, restored.too_large,
+          exchange.interfaces, exchange.seeds, page.page_queries, page.filter_is_faster, page.items, errors.listed_errors, damage.damaged_bytes, versions.compiles]
 
 
 def run_group(tests, group):

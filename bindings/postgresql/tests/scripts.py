@@ -86,7 +86,8 @@ def bare_names(script, known):
 
 
 def schemas(tests):
-    """Each script defines objects, evaluates nothing, and names each object of PostgreSQL by its schema."""
+    """Each script defines objects, evaluates nothing, and names each object of PostgreSQL by its schema. There is one script until a
+    version is published."""
     made = subprocess.run(["sh", f"{EXTENSION}/script.sh"], capture_output=True, check=True, text=True).stdout
     scripts = {"the script": made}
     for name in sorted(os.listdir(EXTENSION)):

@@ -6,9 +6,6 @@ import psycopg2
 import golden
 from ends import code_of
 
-# The version from which an update leads to this one.
-BEFORE = "0.2.0"
-
 TYPES = {"strings": "frequent_strings", "bigints": "frequent_bigints", "counts": "count_min", "signed_counts": "signed_count_min",
          "filter": "bloom_filter"}
 BYTES = ", ".join(f"{name}::bytea" for name in TYPES)
@@ -194,7 +191,7 @@ def versions(tests):
         tests.check("an update keeps each sketch", everything(cursor) == before)
         cursor.execute("SELECT path FROM pg_extension_update_paths('sketches_rattle') WHERE path IS NOT NULL")
         paths = cursor.fetchall()
-        tests.check("updates come from the version before alone", paths == [(f"{BEFORE}--{offered}",)], paths)
+        tests.check("no version was published before", paths == [], paths)
         for name, sketch in golden.SKETCHES.items():
             for form, value in [("bytea", sketch), ("text", golden.text(sketch))]:
                 literal = cursor.mogrify(f"%s::{form if form == 'bytea' else name}::{name}", (value,)).decode()
@@ -214,3 +211,19 @@ def versions(tests):
                             cursor.execute(f"SELECT {literal}")
                         except psycopg2.Error as error:
                             tests.check(f"the message of {what}", what in str(error), error)
+
+
+def compressed(tests):
+    """Columns with `lz4`, if the server has it, and without compression: the values are those of other columns."""
+    with database(tests.main, "compressed") as session, session.cursor() as cursor:
+        cursor.execute("SELECT enumvals FROM pg_settings WHERE name = 'default_toast_compression'")
+        methods = cursor.fetchone()[0]
+        tests.check("Debian's server has lz4", "lz4" in methods, methods)
+        for method in methods:
+            cursor.execute(f"DROP TABLE IF EXISTS counted; CREATE TABLE counted (counts count_min COMPRESSION {method});"
+                           "INSERT INTO counted SELECT count_min_agg_sized(i, i, 4, 20000) FROM generate_series(1, 1000) AS i")
+            cursor.execute("SELECT pg_column_compression(counts), sketch_estimate(counts, 7) >= 7, "
+                           "pg_column_size(counts) < length(counts::bytea) / 4, "
+                           "counts = (SELECT count_min_agg_sized(i, i, 4, 20000) FROM generate_series(1, 1000) AS i) FROM counted")
+            row = cursor.fetchone()
+            tests.check(f"a column of counts by {method}", row == (method, True, True, True), row)

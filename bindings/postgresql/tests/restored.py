@@ -1,0 +1,119 @@
+"""Sketches that a session made under settings of its own: dumps, restores and replicas of them keep to the administrator's limit alone."""
+import io
+import time
+
+from ends import MB, code_of
+from limits import error_of
+from stored import database
+
+SIZES = (50, 60)
+MADE = "SET sketches_rattle.max_image_bytes = '100MB'; SET sketches_rattle.max_frequent_bytes = '100MB'"
+
+
+def make(cursor):
+    cursor.execute(f"CREATE TABLE large (size integer PRIMARY KEY, filter bloom_filter, strings frequent_strings); {MADE};")
+    for size in SIZES:
+        # The images of the last two are short: an empty filter, and few strings of a large table.
+        cursor.execute(f"INSERT INTO large SELECT {size}, bloom_filter_agg_sized(i, {size * MB * 8}, 5), "
+                       f"frequent_strings_agg('item ' || i, 1, 1048576) FROM generate_series(1, 400000) AS i")
+    cursor.execute("RESET ALL")
+
+
+def digests(cursor):
+    cursor.execute("SELECT size, md5(filter::bytea), md5(strings::bytea), sketch_contains(filter, 400000) FROM large ORDER BY size")
+    return cursor.fetchall()
+
+
+def dumps(tests):
+    """`pg_dump`, `COPY` and literals, with the settings of another session."""
+    on = tests.main
+    with database(on, "made") as session, session.cursor() as cursor:
+        make(cursor)
+        before = digests(cursor)
+        tests.check("there are large sketches", [row[0] for row in before] == list(SIZES) and all(row[3] for row in before), before)
+        on.run("pg_dump", "-Fc", "-f", f"{on.folder}/large.dump", "made")
+        on.run("createdb", "restored")
+        on.run("pg_restore", "--exit-on-error", "-d", "restored", f"{on.folder}/large.dump")
+        cursor.execute("CREATE TABLE copies (LIKE large)")
+        for form in ("text", "binary"):
+            file = io.BytesIO()
+            cursor.copy_expert(f"COPY large TO STDOUT (FORMAT {form})", file)
+            file.seek(0)
+            cursor.copy_expert(f"COPY copies FROM STDIN (FORMAT {form})", file)
+        cursor.execute("SELECT count(*), count(DISTINCT l.filter), bool_and(c.filter = l.filter) "
+                       "FROM copies AS c JOIN large AS l USING (size)")
+        tests.check("copies are equal", cursor.fetchone() == (4, 2, True))
+        # What a session computes keeps to its own settings, and the error names how to raise them.
+        for statement in ("SELECT sketch_status(filter) FROM large", "SELECT filter | filter FROM large",
+                          "SELECT filter::bytea::bloom_filter FROM large", "SELECT sketch_status(strings) FROM large"):
+            error = error_of(cursor, statement)
+            tests.check(f"a session's own limit: {statement}", error is not None and error[0] == "54000", error)
+            try:
+                cursor.execute(statement)
+            except Exception as error:
+                hint = str(error.diag.message_hint)
+                tests.check("the hint names SET and ALTER DATABASE", "by SET" in hint and "ALTER DATABASE .. SET sketches_rattle." in hint, hint)
+    with on.session("restored") as session, session.cursor() as cursor:
+        tests.check("a dump is restored with the settings of another session", digests(cursor) == before)
+        # A session can lower its limits, and still reads what was stored.
+        cursor.execute("SET sketches_rattle.max_image_bytes = '1MB'; SET sketches_rattle.max_frequent_bytes = '1MB';"
+                       "CREATE TABLE again (LIKE large)")
+        code = code_of(cursor, "INSERT INTO again SELECT size, filter::text::bloom_filter, strings::text::frequent_strings FROM large")
+        tests.check("a text form under lower settings", code is None, code)
+    # The administrator's limit is of a database, and names itself.
+    with on.session() as session, session.cursor() as cursor:
+        cursor.execute("ALTER DATABASE restored SET sketches_rattle.max_user_bytes = '40MB'")
+    with on.session("restored") as session, session.cursor() as cursor:
+        for form in ("text", "binary"):
+            file = io.BytesIO()
+            cursor.copy_expert(f"COPY (SELECT * FROM large WHERE size = 50) TO STDOUT (FORMAT {form})", file)
+            file.seek(0)
+            try:
+                cursor.copy_expert(f"COPY again FROM STDIN (FORMAT {form})", file)
+                tests.check(f"the administrator's limit, {form}", False)
+            except Exception as error:
+                tests.check(f"the administrator's limit, {form}", error.pgcode == "54000" and "max_user_bytes" in error.diag.message_primary
+                            and "ALTER DATABASE .. SET sketches_rattle.max_user_bytes" in (error.diag.message_hint or ""), error)
+    for name in ("made", "restored"):
+        on.run("dropdb", name)
+
+
+def replicas(tests):
+    """Logical replication of large sketches, whose worker has the settings of the subscriber's database."""
+    with tests.server("replicated", wal_level="logical", max_wal_size="'1GB'") as on:
+        for name in ("source", "replica"):
+            with database(on, name):
+                pass
+        with on.session("source") as source, source.cursor() as cursor, on.session("replica") as replica, replica.cursor() as other:
+            cursor.execute("CREATE TABLE large (size integer PRIMARY KEY, filter bloom_filter, strings frequent_strings);"
+                           "CREATE PUBLICATION published FOR TABLE large")
+            cursor.execute("SELECT pg_create_logical_replication_slot('slot', 'pgoutput')")
+            other.execute("CREATE TABLE large (size integer PRIMARY KEY, filter bloom_filter, strings frequent_strings);"
+                          f"CREATE SUBSCRIPTION subscribed CONNECTION 'host={on.folder} user=postgres dbname=source' PUBLICATION published "
+                          "WITH (create_slot = false, slot_name = 'slot', copy_data = false)")
+            cursor.execute(MADE)
+            for size in SIZES:
+                cursor.execute(f"INSERT INTO large SELECT {size}, bloom_filter_agg_sized(i, {size * MB * 8}, 5), "
+                               f"frequent_strings_agg('item ' || i, 1, 1048576) FROM generate_series(1, 400000) AS i")
+            arrived, began = [], time.monotonic()
+            while len(arrived) < len(SIZES) and time.monotonic() - began < 60:
+                time.sleep(0.2)
+                other.execute("SELECT size FROM large")
+                arrived = other.fetchall()
+            tests.check("a subscriber gets large sketches", digests(cursor) == digests(other) != [], (arrived, on.log()[-1500:]))
+            other.execute("ALTER SUBSCRIPTION subscribed DISABLE")
+            other.execute("ALTER SUBSCRIPTION subscribed SET (slot_name = NONE)")
+            other.execute("DROP SUBSCRIPTION subscribed")
+
+
+def too_large(tests):
+    """A sketch whose text form would exceed what `pg_dump` and `COPY` write is refused when it is made."""
+    with tests.main.session() as session, session.cursor() as cursor:
+        cursor.execute("SET sketches_rattle.max_image_bytes = '1GB'; SET sketches_rattle.max_statement_memory = '4GB'")
+        for statement in ("bloom_filter_agg_sized(1, 6442450944, 5)", "bloom_filter_empty_sized(6442450944, 5)",
+                          "count_min_agg_sized(1, 5, 20000000)"):
+            error = error_of(cursor, f"SELECT sketch_status({statement})")
+            tests.check(f"a sketch of more than 750 MB: {statement}", error is not None and error[0] == "54000" and "not stored" in error[1]
+                        and str(750 * MB) in error[1], error)
+        # 750 MB have 1000 MB as base64, and 24 MB are left to other columns of the row.
+        tests.check("the text form is below 1 GB", (750 * MB + 2) // 3 * 4 + 24 * MB <= 2**30)
