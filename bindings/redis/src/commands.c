@@ -59,7 +59,7 @@ static Argument of_topk_reserve[] = {KEY("key", 0), NUMBER("k"), ARGUMENT("sizes
                                      END};
 static Argument of_topk_list[] = {KEY("key", 0), WORD("withcount", "WITHCOUNT"), END};
 static Argument of_freq_reserve[] = {KEY("key", 0), NUMBER("size"), END};
-static Argument of_rows[] = {KEY("key", 0), OPTION("threshold", INTEGER, "ABOVE"), END};
+static Argument of_rows[] = {KEY("key", 0), OPTION("threshold", INTEGER, "ABOVE"), OPTION("count", INTEGER, "COUNT"), END};
 static Argument of_freq_merge[] = {KEY("destination", 0), KEYS("source", 1), END};
 static Argument of_load[] = {KEY("key", 0),
                              STRING("kind"),
@@ -126,11 +126,11 @@ static Argument of_state[] = {KEY("key", 0), NUMBER("position"), STRING("bytes")
     X(topk_incrby, "TOPK.INCRBY", DS_FREQUENT_ITEMS_STRING, WRITES, "write deny-oom fast", WRITE_KEY, -4, pairs, \
       "O(items) amortized", "Adds to the weight of each item") \
     X(topk_query, "TOPK.QUERY", DS_FREQUENT_ITEMS_STRING, READS, "readonly", READ_KEY, -3, many_items, \
-      "O(n log n) for n counters", "Returns whether each item is one of the first k") \
+      "O(items), or O(n) for n counters if that is not known", "Returns whether each item is one of the first k") \
     X(topk_count, "TOPK.COUNT", DS_FREQUENT_ITEMS_STRING, READS, "readonly fast", READ_KEY, -3, many_items, "O(items)", \
       "Returns estimates of the weights of items") \
     X(topk_list, "TOPK.LIST", DS_FREQUENT_ITEMS_STRING, READS, "readonly", READ_KEY, -2, of_topk_list, \
-      "O(n log n) for n counters", "Returns the first k items") \
+      "O(n + k log k) for n counters", "Returns the first k items") \
     X(topk_info, "TOPK.INFO", DS_FREQUENT_ITEMS_STRING, READS, "readonly fast", READ_KEY, 2, just_key, "O(1)", \
       "Returns k, and the other arguments of TOPK.RESERVE") \
     X(freq_reserve, "FREQ.RESERVE", DS_FREQUENT_ITEMS_STRING, CREATES, "write deny-oom", NEW_KEY, 3, of_freq_reserve, "O(1)", \
@@ -143,8 +143,8 @@ static Argument of_state[] = {KEY("key", 0), NUMBER("position"), STRING("bytes")
       "O(items) amortized", "Adds to the weight of each item") \
     X(freq_bounds, "FREQ.BOUNDS", DS_FREQUENT_ITEMS_STRING, READS, "readonly fast", READ_KEY, -3, many_items, "O(items)", \
       "Returns a lower and an upper bound of the weight of each item") \
-    X(freq_rows, "FREQ.ROWS", DS_FREQUENT_ITEMS_STRING, READS, "readonly", READ_KEY, -2, of_rows, "O(n log n) for n counters", \
-      "Returns each item whose weight may exceed a threshold, with bounds") \
+    X(freq_rows, "FREQ.ROWS", DS_FREQUENT_ITEMS_STRING, READS, "readonly", READ_KEY, -2, of_rows, \
+      "O(n + m log m) for n counters and m rows", "Returns each item whose weight may exceed a threshold, with bounds") \
     X(freq_info, "FREQ.INFO", DS_FREQUENT_ITEMS_STRING, READS, "readonly fast", READ_KEY, 2, just_key, "O(1)", \
       "Returns the sizes, the total and the error of a sketch of frequent items") \
     X(freq_merge, "FREQ.MERGE", DS_FREQUENT_ITEMS_STRING, WRITES_ANY, "write deny-oom", WRITE_KEY, -3, of_freq_merge, \
@@ -153,6 +153,8 @@ static Argument of_state[] = {KEY("key", 0), NUMBER("position"), STRING("bytes")
       "Returns the image of a sketch, for other interfaces of the library") \
     X(sketch_load, "SKETCH.LOAD", SKETCH_OF_ANY_KIND, REPLACES, "write deny-oom", NEW_KEY, -4, of_load, \
       "O(bytes of the image and the sketch)", "Creates a sketch from an image") \
+    X(sketch_info, "SKETCH.INFO", SKETCH_OF_ANY_KIND, READS, "readonly", READ_KEY, 2, just_key, "O(n) for n counters, else O(1)", \
+      "Returns the kind and the sizes of a sketch, beside the limits") \
     X(sketch_seed, "SKETCH.SEED", SKETCH_OF_ANY_KIND, READS, "readonly admin", READ_KEY, 2, just_key, "O(1)", \
       "Returns the seed of a filter or a Count-Min sketch, a secret") \
     X(sketch_state, "SKETCH.STATE", SKETCH_OF_ANY_KIND, REPLACES, "write deny-oom admin", NEW_KEY, 4, of_state, "O(bytes)", \
@@ -162,7 +164,7 @@ static Argument of_state[] = {KEY("key", 0), NUMBER("position"), STRING("bytes")
 #define DEFINE(function, name, kind, access, flags, use, arity, arguments, complexity, summary) \
     static int call_##function(RedisModuleCtx *ctx, RedisModuleString **argv, int argc) \
     { \
-        Call call = {ctx, argv, argc, NULL, NULL}; \
+        Call call = {ctx, argv, argc, NULL, NULL, name, false}; \
         if (open_call(&call, kind, access)) function(&call); \
         close_call(&call); \
         return REDISMODULE_OK; \

@@ -9,6 +9,7 @@ static int create(Call *call, uint64_t num_hashes, uint64_t num_buckets, int opt
     int32_t result = num_hashes <= UINT8_MAX ? DS_OK : DS_BAD_NUM_HASHES;
     if (!seed_option(call, &options, &seed)) return REDISMODULE_OK;
     if (options != call->argc) return reply_error(call, bad_syntax);
+    if (result == DS_OK && !check_hashes(call, num_hashes)) return REDISMODULE_OK;
     if (result == DS_OK && num_buckets > UINT32_MAX) result = DS_TABLE_TOO_LARGE;
     if (result == DS_OK && !check_limit(call, num_hashes * (num_buckets + 1) * 8)) return REDISMODULE_OK;
     if (result == DS_OK && (sketch = new_value(DS_COUNT_MIN_U64)) == NULL) result = DS_NO_MEMORY;
@@ -49,7 +50,7 @@ int cms_initbyprob(Call *call)
 int cms_incrby(Call *call)
 {
     Items items;
-    uint64_t total = status_of(call->sketch).total_weight;
+    uint64_t before = status_of(call->sketch).total_weight, total = before;
     long long weight;
     if (call->argc % 2 != 0) return RedisModule_WrongArity(call->ctx);
     for (int i = 3; i < call->argc; i += 2) {
@@ -70,7 +71,7 @@ int cms_incrby(Call *call)
         ds_count_min_u64_estimate_fed(&call->sketch->handle, item->bytes, item->length, &estimate);
         RedisModule_ReplyWithLongLong(call->ctx, (long long)estimate);
     }
-    replicate_call(call);
+    if (total > before) replicate_call(call);
     free_items(&items);
     return REDISMODULE_OK;
 }
@@ -90,7 +91,7 @@ int cms_addlines(Call *call)
         added += (long long)count;
     }
     end_lines(&lines);
-    replicate_call(call);
+    if (added > 0) replicate_call(call);
     return RedisModule_ReplyWithLongLong(call->ctx, added);
 }
 
@@ -126,25 +127,28 @@ int cms_info(Call *call)
     return RedisModule_ReplyWithLongLong(call->ctx, (long long)status.total_weight);
 }
 
+/* Multiplies the cells and the total by a fraction. That changes a sketch unless it is empty or the fraction is 1. */
+static int decay(Call *call, uint64_t numerator, uint64_t denominator)
+{
+    bool is_changed = numerator < denominator && status_of(call->sketch).total_weight > 0;
+    int32_t result = is_changed ? ds_count_min_u64_decay(&call->sketch->handle, numerator, denominator) : DS_OK;
+    if (result < 0) return reply_result(call, result);
+    if (is_changed) replicate_call(call);
+    return RedisModule_ReplyWithSimpleString(call->ctx, "OK");
+}
+
 int cms_decay(Call *call)
 {
     static const char bad_fraction[] = "CMS: the fraction must be above 0 and at most 1";
     long long numerator, denominator;
-    int32_t result;
     if (!number_argument(call, 2, 1, INT64_MAX, bad_fraction, &numerator)) return REDISMODULE_OK;
     if (!number_argument(call, 3, numerator, INT64_MAX, bad_fraction, &denominator)) return REDISMODULE_OK;
-    result = ds_count_min_u64_decay(&call->sketch->handle, (uint64_t)numerator, (uint64_t)denominator);
-    if (result < 0) return reply_result(call, result);
-    replicate_call(call);
-    return RedisModule_ReplyWithSimpleString(call->ctx, "OK");
+    return decay(call, (uint64_t)numerator, (uint64_t)denominator);
 }
 
 int cms_halve(Call *call)
 {
-    int32_t result = ds_count_min_u64_halve(&call->sketch->handle);
-    if (result < 0) return reply_result(call, result);
-    replicate_call(call);
-    return RedisModule_ReplyWithSimpleString(call->ctx, "OK");
+    return decay(call, 1, 2);
 }
 
 /* --- CMS.MERGE: the destination becomes the sum of the sources, each times its weight. --- */
@@ -247,7 +251,11 @@ int cms_merge(Call *call)
         return REDISMODULE_OK;
     }
     sum.sketch->seed = call->sketch->seed;
-    put_value(call, sum.sketch);
-    replicate_call(call);
+    if (ds_equal(&sum.sketch->handle, &call->sketch->handle) == DS_YES) {
+        free_value(sum.sketch);
+    } else {
+        put_value(call, sum.sketch);
+        replicate_call(call);
+    }
     return RedisModule_ReplyWithSimpleString(call->ctx, "OK");
 }

@@ -62,7 +62,7 @@ static Sketch *new_filter(Call *call, const Sizes *sizes)
     Sketch *sketch;
     int32_t result = ds_bloom_suggest_num_bits((uint64_t)sizes->capacity, inverse(sizes->rate), &num_bits);
     if (result == DS_OK) result = ds_bloom_suggest_num_hashes(num_bits, (uint64_t)sizes->capacity, &num_hashes);
-    if (result == DS_OK && !check_limit(call, num_bits / 8)) return NULL;
+    if (result == DS_OK && !(check_limit(call, num_bits / 8) && check_hashes(call, num_hashes))) return NULL;
     sketch = result == DS_OK ? new_value(DS_BLOOM) : NULL;
     if (sketch != NULL) result = ds_bloom_new(&sketch->handle, num_bits, num_hashes, sizes->seed);
     else if (result == DS_OK) result = DS_NO_MEMORY;
@@ -356,6 +356,5 @@ int bf_loadchunk(Call *call)
     if (!number_argument(call, 2, 1, INT64_MAX, "ERR Bad iterator", &end)) return REDISMODULE_OK;
     if ((uint64_t)end < length) return reply_error(call, bad_data);
     if (!take_part(call, DS_BLOOM, (uint64_t)end - length, bytes, length)) return REDISMODULE_OK;
-    replicate_call(call);
     return RedisModule_ReplyWithSimpleString(call->ctx, "OK");
 }

@@ -215,12 +215,19 @@ typedef struct Rows {
     uint8_t *bytes;
 } Rows;
 
-/* Takes the rows whose upper bounds exceed a threshold. Returns false after an error. */
-static bool take_rows(Call *call, uint64_t threshold, Rows *rows)
+/* Takes the rows whose upper bounds exceed a threshold, at least the first `most` of them. Returns false after an error. */
+static bool take_rows(Call *call, uint64_t threshold, uint64_t most, Rows *rows)
 {
     Sketch *sketch = call->sketch;
     size_t active = status_of(sketch).num_active_items, num_bytes;
-    int32_t result = DS_NO_MEMORY;
+    uint64_t kth = 0;
+    int32_t result = most > 0 && most < active ? kth_estimate(sketch, most, &kth) : DS_OK;
+    if (result < 0) {
+        reply_result(call, result);
+        return false;
+    }
+    if (kth > threshold) threshold = kth - 1;
+    result = DS_NO_MEMORY;
     count_strings(sketch);
     rows->block = try_block(active * sizeof *rows->bounds + (active + 1) * sizeof *rows->offsets + sketch->string_bytes);
     if (rows->block != NULL) {
@@ -243,13 +250,19 @@ static void reply_row_item(Call *call, const Rows *rows, size_t i)
 
 int freq_rows(Call *call)
 {
-    long long threshold = 0;
+    long long threshold = 0, most = 0;
+    size_t count;
     Rows rows;
-    if (call->argc != 2 && !(call->argc == 4 && is_word(call, 2, "ABOVE"))) return reply_error(call, bad_syntax);
-    if (call->argc == 4 && !number_argument(call, 3, 0, INT64_MAX, bad_number, &threshold)) return REDISMODULE_OK;
-    if (!take_rows(call, (uint64_t)threshold, &rows)) return REDISMODULE_OK;
-    RedisModule_ReplyWithArray(call->ctx, (long)rows.count);
-    for (size_t i = 0; i < rows.count; i++) {
+    for (int at = 2; at < call->argc; at += 2) {
+        bool is_threshold = is_word(call, at, "ABOVE");
+        if (at + 1 == call->argc || !(is_threshold || is_word(call, at, "COUNT"))) return reply_error(call, bad_syntax);
+        if (!number_argument(call, at + 1, !is_threshold, INT64_MAX, bad_number, is_threshold ? &threshold : &most))
+            return REDISMODULE_OK;
+    }
+    if (!take_rows(call, (uint64_t)threshold, (uint64_t)most, &rows)) return REDISMODULE_OK;
+    count = most > 0 && (uint64_t)most < rows.count ? (size_t)most : rows.count;
+    RedisModule_ReplyWithArray(call->ctx, (long)count);
+    for (size_t i = 0; i < count; i++) {
         RedisModule_ReplyWithArray(call->ctx, 3);
         reply_row_item(call, &rows, i);
         RedisModule_ReplyWithLongLong(call->ctx, (long long)rows.bounds[i].lower_bound);
@@ -265,7 +278,7 @@ int topk_list(Call *call)
     Rows rows;
     size_t count;
     if (call->argc > 3 || (has_counts && !is_word(call, 2, "WITHCOUNT"))) return reply_error(call, bad_syntax);
-    if (!take_rows(call, 0, &rows)) return REDISMODULE_OK;
+    if (!take_rows(call, 0, call->sketch->capacity, &rows)) return REDISMODULE_OK;
     count = rows.count < call->sketch->capacity ? rows.count : call->sketch->capacity;
     RedisModule_ReplyWithArray(call->ctx, (long)(has_counts ? 2 * count : count));
     for (size_t i = 0; i < count; i++) {
@@ -278,17 +291,17 @@ int topk_list(Call *call)
 
 int topk_query(Call *call)
 {
-    size_t count, last;
-    uint64_t least = 1;
-    Rows rows;
+    size_t count;
+    uint64_t least;
+    int32_t result;
     ds_frequent_items_bounds *bounds = bounds_of(call, &count);
     if (bounds == NULL) return REDISMODULE_OK;
-    if (take_rows(call, 0, &rows)) {
-        last = call->sketch->capacity - 1;
-        if (last < rows.count) least = rows.bounds[last].estimate;
+    result = least_of_top(call->sketch, bounds, count, &least);
+    if (result < 0) {
+        reply_result(call, result);
+    } else {
         RedisModule_ReplyWithArray(call->ctx, (long)count);
         for (size_t i = 0; i < count; i++) RedisModule_ReplyWithBool(call->ctx, bounds[i].estimate >= least);
-        free_block(rows.block);
     }
     free_block(bounds);
     return REDISMODULE_OK;
@@ -384,6 +397,7 @@ int freq_merge(Call *call)
         free_value(into);
         return REDISMODULE_OK;
     }
-    create_value(call, into);
+    if (call->sketch != NULL && status_of(into).total_weight == status_of(call->sketch).total_weight) free_value(into);
+    else create_value(call, into);
     return RedisModule_ReplyWithSimpleString(call->ctx, "OK");
 }

@@ -83,6 +83,11 @@ int sketch_image(Call *call)
 
 /* --- Sketches from images. --- */
 
+uint32_t hashes_in_image(Kind kind, const uint8_t *image, size_t length)
+{
+    return kind == DS_BLOOM && length >= 6 ? image[4] | (uint32_t)image[5] << 8 : 0;
+}
+
 /* The names of kinds. */
 static const struct {
     const char *name;
@@ -148,6 +153,7 @@ int sketch_load(Call *call)
     if (kind == num_kinds) return reply_error(call, "ERR the kind must be bloom_filter, count_min or frequent_strings");
     if (!load_options(call, &options)) return REDISMODULE_OK;
     if (call->sketch != NULL && !options.replaces) return reply_exists(call);
+    if (!check_hashes(call, hashes_in_image(kinds[kind].kind, image, length))) return REDISMODULE_OK;
     sketch = new_value(kinds[kind].kind);
     if (sketch != NULL) {
         size_t limit = (size_t)options.limit < max_bytes ? (size_t)options.limit : max_bytes;
@@ -157,8 +163,11 @@ int sketch_load(Call *call)
         result = ds_deserialize(&sketch->handle, sketch->kind, image, length, &given);
     }
     if (result == DS_OK && sketch->kind != DS_BLOOM && status_of(sketch).total_weight > INT64_MAX) result = DS_VALUE_OUT_OF_RANGE;
+    if (result == DS_OK && status_of(sketch).num_hashes > max_hashes) result = TOO_MANY_HASHES;
     if (result != DS_OK) {
         free_value(sketch);
+        if (result == DS_TABLE_TOO_LARGE && (size_t)options.limit < max_bytes)
+            return reply_error(call, "ERR the sketch takes more bytes than MAXBYTES");
         return reply_result(call, result);
     }
     guess_numbers(sketch);
@@ -172,4 +181,33 @@ int sketch_seed(Call *call)
     int length = snprintf(digits, sizeof digits, "%" PRIu64, call->sketch->seed);
     if (call->sketch->kind == DS_FREQUENT_ITEMS_STRING) return reply_error(call, "ERR frequent items have no seed");
     return RedisModule_ReplyWithStringBuffer(call->ctx, digits, (size_t)length);
+}
+
+static void reply_number(Call *call, const char *name, uint64_t number)
+{
+    RedisModule_ReplyWithCString(call->ctx, name);
+    RedisModule_ReplyWithLongLong(call->ctx, (long long)number);
+}
+
+int sketch_info(Call *call)
+{
+    Sketch *sketch = call->sketch;
+    ds_status status = status_of(sketch);
+    size_t bytes = 0, kind = 0;
+    while (kinds[kind].kind != sketch->kind) kind++;
+    ds_memory_bytes(&sketch->handle, &bytes);
+    RedisModule_ReplyWithMap(call->ctx, sketch->kind == DS_FREQUENT_ITEMS_STRING ? 4 : 6);
+    RedisModule_ReplyWithCString(call->ctx, "kind");
+    RedisModule_ReplyWithCString(call->ctx, kinds[kind].name);
+    reply_number(call, "bytes", bytes);
+    reply_number(call, "max-bytes", max_bytes);
+    if (sketch->kind == DS_BLOOM) reply_number(call, "bits", status.num_bits);
+    if (sketch->kind == DS_COUNT_MIN_U64) reply_number(call, "cells", (uint64_t)status.num_hashes * status.num_buckets);
+    if (sketch->kind == DS_FREQUENT_ITEMS_STRING) {
+        reply_number(call, "slots", status.current_map_capacity / 3 * 4);
+    } else {
+        reply_number(call, "hashes", status.num_hashes);
+        reply_number(call, "max-hashes", max_hashes);
+    }
+    return REDISMODULE_OK;
 }

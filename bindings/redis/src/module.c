@@ -67,7 +67,7 @@ static int fail_command(RedisModuleCtx *ctx, RedisModuleString **argv, int argc)
 __attribute__((visibility("default"))) int RedisModule_OnLoad(RedisModuleCtx *ctx, RedisModuleString **argv, int argc);
 int RedisModule_OnLoad(RedisModuleCtx *ctx, RedisModuleString **argv, int argc)
 {
-    Call call = {ctx, argv, argc, NULL, NULL};
+    Call call = {.ctx = ctx, .argv = argv, .argc = argc};
     if (RedisModule_Init(ctx, "rattle_sketches", MODULE_VERSION, REDISMODULE_APIVER_1) != REDISMODULE_OK) return REDISMODULE_ERR;
     if (RedisModule_TryAlloc == NULL || RedisModule_SetCommandInfo == NULL) {
         RedisModule_Log(ctx, "warning", "the module needs Redis 7.0 or later");
