@@ -60,7 +60,7 @@ static Argument of_topk_reserve[] = {KEY("key", 0), NUMBER("k"), ARGUMENT("sizes
 static Argument of_topk_list[] = {KEY("key", 0), WORD("withcount", "WITHCOUNT"), END};
 static Argument of_freq_reserve[] = {KEY("key", 0), NUMBER("size"), END};
 static Argument of_rows[] = {KEY("key", 0), OPTION("threshold", INTEGER, "ABOVE"), OPTION("count", INTEGER, "COUNT"), END};
-static Argument of_freq_merge[] = {KEY("destination", 0), KEYS("source", 1), END};
+static Argument of_merge[] = {KEY("destination", 0), KEYS("source", 1), END};
 static Argument of_load[] = {KEY("key", 0),
                              STRING("kind"),
                              STRING("image"),
@@ -101,6 +101,8 @@ static Argument of_state[] = {KEY("key", 0), NUMBER("position"), STRING("bytes")
       "Returns the next chunk of a Bloom filter") \
     X(bf_loadchunk, "BF.LOADCHUNK", DS_BLOOM, REPLACES, "write deny-oom", NEW_KEY, 4, of_loadchunk, "O(bytes of the filter)", \
       "Loads a chunk of a Bloom filter") \
+    X(bf_merge, "BF.MERGE", DS_BLOOM, WRITES_ANY, "write deny-oom", WRITE_KEY, -3, of_merge, "O(bytes of all sources)", \
+      "Merges Bloom filters into one") \
     X(cms_initbydim, "CMS.INITBYDIM", DS_COUNT_MIN_U64, CREATES, "write deny-oom", NEW_KEY, -4, of_initbydim, "O(width * depth)", \
       "Creates a Count-Min sketch of these dimensions") \
     X(cms_initbyprob, "CMS.INITBYPROB", DS_COUNT_MIN_U64, CREATES, "write deny-oom", NEW_KEY, -4, of_initbyprob, \
@@ -147,7 +149,9 @@ static Argument of_state[] = {KEY("key", 0), NUMBER("position"), STRING("bytes")
       "O(n + m log m) for n counters and m rows", "Returns each item whose weight may exceed a threshold, with bounds") \
     X(freq_info, "FREQ.INFO", DS_FREQUENT_ITEMS_STRING, READS, "readonly fast", READ_KEY, 2, just_key, "O(1)", \
       "Returns the sizes, the total and the error of a sketch of frequent items") \
-    X(freq_merge, "FREQ.MERGE", DS_FREQUENT_ITEMS_STRING, WRITES_ANY, "write deny-oom", WRITE_KEY, -3, of_freq_merge, \
+    X(freq_halve, "FREQ.HALVE", DS_FREQUENT_ITEMS_STRING, WRITES, "write", WRITE_KEY, 2, just_key, "O(n log n) for n counters", \
+      "Halves each weight of a sketch of frequent items, rounded down") \
+    X(freq_merge, "FREQ.MERGE", DS_FREQUENT_ITEMS_STRING, WRITES_ANY, "write deny-oom", WRITE_KEY, -3, of_merge, \
       "O(counters of all sources)", "Merges sketches of frequent items into one") \
     X(sketch_image, "SKETCH.IMAGE", SKETCH_OF_ANY_KIND, READS, "readonly", READ_KEY, 2, just_key, "O(bytes of the sketch)", \
       "Returns the image of a sketch, for other interfaces of the library") \
@@ -197,6 +201,15 @@ typedef struct Command {
     {call_##function, name, flags, use, arity, arguments, complexity, summary},
 static const Command commands[] = {COMMANDS(ROW)};
 
+/* Returns the version of the module that a command came with. */
+static const char *since(const Command *row)
+{
+    RedisModuleCmdFunc later[] = {call_bf_merge, call_freq_halve, call_sketch_info};
+    bool is_later = row->arguments == of_lines;
+    for (size_t i = 0; i < sizeof later / sizeof *later; i++) is_later = is_later || row->call == later[i];
+    return is_later ? "0.4.0" : "0.3.0";
+}
+
 /* Creates a command. */
 static bool create_command(RedisModuleCtx *ctx, const Command *row)
 {
@@ -208,12 +221,12 @@ static bool create_command(RedisModuleCtx *ctx, const Command *row)
     RedisModuleCommandInfo info = {.version = REDISMODULE_COMMAND_INFO_VERSION,
                                    .summary = row->summary,
                                    .complexity = row->complexity,
-                                   .since = row->arguments == of_lines ? "0.4.0" : "0.3.0",
+                                   .since = since(row),
                                    .arity = row->arity,
                                    .key_specs = keys,
                                    .args = row->arguments};
     RedisModuleCommand *command;
-    if (row->arguments == of_cms_merge || row->arguments == of_freq_merge) {
+    if (row->arguments == of_cms_merge || row->arguments == of_merge) {
         keys[1] =
             (RedisModuleCommandKeySpec){.flags = READ_KEY, .begin_search_type = REDISMODULE_KSPEC_BS_INDEX, .bs.index.pos = 2};
         if (row->arguments == of_cms_merge) {

@@ -1,4 +1,4 @@
-/* Errors of commands. The words of BF, CMS and TOPK are those that their clients know. */
+/* Errors of commands, and other replies. The words of BF, CMS and TOPK are those that their clients know. */
 #include "module.h"
 
 #include <stdio.h>
@@ -21,6 +21,7 @@ const char *message_of(int32_t result)
     if (result == BAD_CHECKSUM) return "wrong checksum";
     if (result == TOO_MANY_HASHES) return "more hashes than max-hashes";
     if (result == DS_TABLE_TOO_LARGE) return "more bytes than max-bytes";
+    if (result == TOO_MUCH_TO_MERGE) return "the sketches of a merge take more bytes than the module's max-merge-bytes";
     return ds_result_message(result);
 }
 
@@ -32,6 +33,12 @@ int reply_result(Call *call, int32_t result)
     if (result == TOO_MANY_HASHES) return reply_error(call, too_many_hashes);
     snprintf(error, sizeof error, "ERR %s", message_of(result));
     return reply_error(call, error);
+}
+
+void reply_number(Call *call, const char *name, uint64_t number)
+{
+    RedisModule_ReplyWithCString(call->ctx, name); /* scripts take no simple strings as names */
+    RedisModule_ReplyWithLongLong(call->ctx, (long long)number);
 }
 
 /* The words of a family of commands for a key that is not there, and for one that is. */

@@ -15,15 +15,6 @@ typedef struct Counter {
     size_t length;         /* of the item's bytes */
 } Counter;
 
-/* The image of frequent items that has counters: this many bytes, then the weights, then the items. The number of counters is in
- * the four bytes from the eighth on. */
-#define PREAMBLE_BYTES 32
-
-static size_t small_number(const uint8_t *from)
-{
-    return from[0] | (size_t)from[1] << 8 | (size_t)from[2] << 16 | (size_t)from[3] << 24;
-}
-
 static int compare_counters(const void *one, const void *other)
 {
     const Counter *a = one, *b = other;
@@ -34,17 +25,17 @@ static int compare_counters(const void *one, const void *other)
 /* Writes an image of frequent items with its counters in the order of the items' bytes. Returns false if there is no memory. */
 static bool write_sorted(const uint8_t *image, uint8_t *out)
 {
-    size_t count = small_number(image + 8);
-    const uint8_t *at = image + PREAMBLE_BYTES + 8 * count;
+    size_t count = (size_t)read_number(image + COUNTERS_AT, 4);
+    const uint8_t *at = image + WEIGHTS_AT + 8 * count;
     Counter *counters = try_block(count * sizeof *counters);
-    uint8_t *weights = out + PREAMBLE_BYTES, *items = weights + 8 * count;
+    uint8_t *weights = out + WEIGHTS_AT, *items = weights + 8 * count;
     if (counters == NULL) return false;
     for (size_t i = 0; i < count; i++) {
-        counters[i] = (Counter){image + PREAMBLE_BYTES + 8 * i, at, small_number(at)};
+        counters[i] = (Counter){image + WEIGHTS_AT + 8 * i, at, (size_t)read_number(at, 4)};
         at += 4 + counters[i].length;
     }
     qsort(counters, count, sizeof *counters, compare_counters);
-    memcpy(out, image, PREAMBLE_BYTES);
+    memcpy(out, image, WEIGHTS_AT);
     for (size_t i = 0; i < count; i++) {
         memcpy(weights + 8 * i, counters[i].weight, 8);
         memcpy(items, counters[i].item, 4 + counters[i].length);
@@ -62,7 +53,7 @@ uint8_t *write_image(Sketch *sketch, size_t *length)
     image = try_block(*length);
     if (image == NULL) return NULL;
     ds_serialize(&sketch->handle, image, *length, length);
-    if (sketch->kind != DS_FREQUENT_ITEMS_STRING || *length <= PREAMBLE_BYTES) return image;
+    if (sketch->kind != DS_FREQUENT_ITEMS_STRING || *length <= WEIGHTS_AT) return image;
     sorted = try_block(*length);
     is_sorted = sorted != NULL && write_sorted(image, sorted);
     free_block(image);
@@ -168,9 +159,14 @@ int sketch_load(Call *call)
         free_value(sketch);
         if (result == DS_TABLE_TOO_LARGE && (size_t)options.limit < max_bytes)
             return reply_error(call, "ERR the sketch takes more bytes than MAXBYTES");
+        if (result == DS_SEED_HASH_MISMATCH) return reply_error(call, "ERR the image has another seed: give its seed after SEED");
         return reply_result(call, result);
     }
     guess_numbers(sketch);
+    if (call->sketch != NULL && RedisModule_GetAbsExpire(call->key) != REDISMODULE_NO_EXPIRE) {
+        RedisModule_SetAbsExpire(call->key, REDISMODULE_NO_EXPIRE); /* as other commands with REPLACE do */
+        RedisModule_Replicate(call->ctx, "PERSIST", "s", call->argv[1]);
+    }
     create_value(call, sketch);
     return RedisModule_ReplyWithSimpleString(call->ctx, "OK");
 }
@@ -183,10 +179,51 @@ int sketch_seed(Call *call)
     return RedisModule_ReplyWithStringBuffer(call->ctx, digits, (size_t)length);
 }
 
-static void reply_number(Call *call, const char *name, uint64_t number)
+/* --- Halving frequent items, in their image: the interfaces of the library have no call for it. --- */
+
+/* Halves what an image of frequent items has. Weights and the total are rounded down, and the error up: so the bounds of an item hold
+ * for its halved weight, rounded down. The error and the weights must not exceed the total, of untrusted images, too. A counter whose
+ * weight is 0 then is left out by its reader. */
+static void halve(uint8_t *image)
 {
-    RedisModule_ReplyWithCString(call->ctx, name);
-    RedisModule_ReplyWithLongLong(call->ctx, (long long)number);
+    uint64_t total = read_number(image + TOTAL_AT, 8) / 2, error = read_number(image + ERROR_AT, 8), sum;
+    size_t count = (size_t)read_number(image + COUNTERS_AT, 4);
+    error -= error / 2;
+    sum = error;
+    for (uint8_t *weight = image + WEIGHTS_AT; weight < image + WEIGHTS_AT + 8 * count; weight += 8) {
+        uint64_t half = read_number(weight, 8) / 2;
+        write_number(weight, half);
+        sum += half;
+    }
+    write_number(image + TOTAL_AT, total > sum ? total : sum);
+    write_number(image + ERROR_AT, error);
+}
+
+/* Halves a sketch that has counters. Returns an error before anything changes. */
+static int32_t halve_sketch(Sketch *sketch)
+{
+    size_t length;
+    ds_image_options options = {SIZE_MAX, 0, &sketch->table_key};
+    uint8_t *image = write_image(sketch, &length);
+    int32_t result = DS_NO_MEMORY;
+    if (image == NULL) return result;
+    halve(image);
+    result = read_number(image + TOTAL_AT, 8) > 0 ? ds_deserialize(&sketch->handle, sketch->kind, image, length, &options)
+                                                  : ds_reset(&sketch->handle);
+    free_block(image);
+    return result;
+}
+
+int freq_halve(Call *call)
+{
+    Sketch *sketch = call->sketch;
+    bool is_changed = status_of(sketch).total_weight > 0;
+    int32_t result = is_changed ? halve_sketch(sketch) : DS_OK;
+    if (result < 0) return reply_result(call, result);
+    sketch->kth = 0;
+    count_strings(sketch);
+    if (is_changed) replicate_call(call);
+    return RedisModule_ReplyWithSimpleString(call->ctx, "OK");
 }
 
 int sketch_info(Call *call)

@@ -31,6 +31,24 @@ static inline size_t reserve_for(size_t bytes)
     return (bytes + 15) / 16 * 16 + 32;
 }
 
+/* --- Numbers in bytes, the lowest first. --- */
+
+static inline uint64_t read_number(const uint8_t *from, int bytes)
+{
+    uint64_t number = 0;
+    for (int i = 0; i < bytes; i++) number |= (uint64_t)from[i] << 8 * i;
+    return number;
+}
+
+static inline void write_number(uint8_t *to, uint64_t number)
+{
+    for (int i = 0; i < 8; i++) to[i] = (uint8_t)(number >> 8 * i);
+}
+
+/* Where the image of frequent items that has counters has its numbers: that of the counters in four bytes, and others in eight. The
+ * weights of the counters are followed by the items, each with its length in four bytes before it. */
+enum { COUNTERS_AT = 8, TOTAL_AT = 16, ERROR_AT = 24, WEIGHTS_AT = 32 };
+
 #ifdef RATTLE_FAILING_ALLOCATIONS
 /* Makes the allocation after `count` others fail, and each after it if `for_good`. Below 0, none fails. Returns the number of
  * allocations that were left until the failure that was set before. */
@@ -86,6 +104,9 @@ extern double default_rate;
 
 /* Returns a new value without a sketch, or null if there is no memory. */
 Sketch *new_value(Kind kind);
+
+/* Returns a copy of a value with its sketch, or null if there is no memory. Parts of a state are left out. */
+Sketch *clone_value(Sketch *sketch);
 
 /* Frees a value with its sketch. */
 void free_value(void *value);
@@ -196,7 +217,7 @@ uint64_t inverse(double fraction);
 extern const char no_memory[], bad_data[], bad_syntax[], bad_number[], too_much[], too_many_hashes[];
 
 /* Results beside those of the library. */
-enum { BAD_CHECKSUM = -1000, TOO_MANY_HASHES = -1001 };
+enum { BAD_CHECKSUM = -1000, TOO_MANY_HASHES = -1001, TOO_MUCH_TO_MERGE = -1002 };
 
 /* Returns the words of a result below 0. */
 const char *message_of(int32_t result);
@@ -206,6 +227,9 @@ int reply_error(Call *call, const char *error);
 
 /* Returns the error of a result below 0 to the client. */
 int reply_result(Call *call, int32_t result);
+
+/* Returns a number and its name, as a part of a map. */
+void reply_number(Call *call, const char *name, uint64_t number);
 
 /* Return the errors that a key is not there, and that it is there, in the words of the command's family. */
 int reply_missing(Call *call);
@@ -331,13 +355,13 @@ bool create_types(RedisModuleCtx *ctx);
 
 int bf_reserve(Call *call), bf_add(Call *call), bf_madd(Call *call), bf_addlines(Call *call), bf_insert(Call *call),
     bf_exists(Call *call), bf_mexists(Call *call), bf_card(Call *call), bf_info(Call *call), bf_scandump(Call *call),
-    bf_loadchunk(Call *call);
+    bf_loadchunk(Call *call), bf_merge(Call *call);
 int cms_initbydim(Call *call), cms_initbyprob(Call *call), cms_incrby(Call *call), cms_addlines(Call *call), cms_query(Call *call),
     cms_merge(Call *call), cms_info(Call *call), cms_decay(Call *call), cms_halve(Call *call);
 int topk_reserve(Call *call), topk_add(Call *call), topk_incrby(Call *call), topk_query(Call *call), topk_count(Call *call),
     topk_list(Call *call), topk_info(Call *call);
 int freq_reserve(Call *call), freq_add(Call *call), freq_addlines(Call *call), freq_incrby(Call *call), freq_bounds(Call *call),
-    freq_rows(Call *call), freq_info(Call *call), freq_merge(Call *call);
+    freq_rows(Call *call), freq_info(Call *call), freq_halve(Call *call), freq_merge(Call *call);
 int sketch_image(Call *call), sketch_load(Call *call), sketch_info(Call *call), sketch_seed(Call *call), sketch_state(Call *call);
 
 /* Creates the commands. Returns whether it did. */

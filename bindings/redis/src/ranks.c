@@ -7,17 +7,6 @@
 
 #include <string.h>
 
-/* In an image of frequent items that has counters, their number is in four bytes, and their weights are eight bytes each. */
-#define NUMBER_AT 8
-#define WEIGHTS_AT 32
-
-static uint64_t number_at(const uint8_t *from, int bytes)
-{
-    uint64_t number = 0;
-    for (int i = 0; i < bytes; i++) number |= (uint64_t)from[i] << 8 * i;
-    return number;
-}
-
 /* Returns the next of a sequence of random numbers. */
 static uint64_t next_random(void)
 {
@@ -66,10 +55,10 @@ int32_t kth_estimate(Sketch *sketch, uint64_t k, uint64_t *estimate)
     image = try_block(length);
     if (image == NULL) return DS_NO_MEMORY;
     ds_serialize(&sketch->handle, image, length, &length);
-    count = (size_t)number_at(image + NUMBER_AT, 4);
+    count = (size_t)read_number(image + COUNTERS_AT, 4);
     weights = (uint64_t *)(void *)(image + WEIGHTS_AT);
     for (size_t i = 0; i < count; i++) {
-        uint64_t weight = number_at(image + WEIGHTS_AT + 8 * i, 8);
+        uint64_t weight = read_number(image + WEIGHTS_AT + 8 * i, 8);
         memcpy(&weights[i], &weight, sizeof weight);
     }
     *estimate = kth_largest(weights, count, (size_t)k) + status.maximum_error;

@@ -19,6 +19,19 @@ Sketch *new_value(Kind kind)
     return sketch;
 }
 
+Sketch *clone_value(Sketch *sketch)
+{
+    Sketch *copied = new_value(sketch->kind);
+    if (copied == NULL) return NULL;
+    *copied = *sketch;
+    copied->handle = (ds_sketch)DS_NONE;
+    copied->bytes = NULL;
+    copied->length = copied->room = copied->total = 0;
+    if (ds_clone(&copied->handle, &sketch->handle) == DS_OK) return copied;
+    free_value(copied);
+    return NULL;
+}
+
 void free_value(void *value)
 {
     Sketch *sketch = value;

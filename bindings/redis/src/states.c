@@ -5,7 +5,7 @@
  * to clients, and have no key: a sketch of frequent items that is read without one draws another. */
 #include "module.h"
 
-#include <math.h>
+#include <stdio.h>
 #include <string.h>
 
 /* The version of the values in files, and of the states in them. */
@@ -26,18 +26,6 @@ static const uint8_t magic[4] = {'R', 'S', 'K', VERSION};
 
 /* Whether a file is being written, or a replica's copy of all keys. Only then are keys of tables written. */
 static bool is_saving;
-
-static void put_number(uint8_t *to, uint64_t number)
-{
-    for (int i = 0; i < 8; i++) to[i] = (uint8_t)(number >> 8 * i);
-}
-
-static uint64_t get_number(const uint8_t *from)
-{
-    uint64_t number = 0;
-    for (int i = 0; i < 8; i++) number |= (uint64_t)from[i] << 8 * i;
-    return number;
-}
 
 /* Returns the checksum of bytes: a hash under a fixed key. It finds damage, and is no signature. */
 static uint64_t checksum(const uint8_t *bytes, size_t length)
@@ -68,9 +56,9 @@ static uint8_t *state_in(Sketch *sketch, bool with_key, size_t *length, void *(*
     }
     numbers[LENGTH] = *length;
     memcpy(&numbers[RATE], &sketch->rate, sizeof sketch->rate);
-    for (int i = 0; i < NUMBERS; i++) put_number(state + 8 + 8 * i, numbers[i]);
+    for (int i = 0; i < NUMBERS; i++) write_number(state + 8 + 8 * i, numbers[i]);
     ds_serialize(&sketch->handle, state + HEADER_BYTES, image, &image);
-    put_number(state + HEADER_BYTES + image, checksum(state, HEADER_BYTES + image));
+    write_number(state + HEADER_BYTES + image, checksum(state, HEADER_BYTES + image));
     return state;
 }
 
@@ -111,8 +99,8 @@ Sketch *read_state(const uint8_t *bytes, size_t length, size_t limit, int32_t *r
     if (memcmp(bytes, magic, sizeof magic) != 0) return NULL;
     *result = BAD_CHECKSUM;
     image = length - HEADER_BYTES - CHECKSUM_BYTES;
-    if (checksum(bytes, HEADER_BYTES + image) != get_number(bytes + HEADER_BYTES + image)) return NULL;
-    for (int i = 0; i < NUMBERS; i++) numbers[i] = get_number(bytes + 8 + 8 * i);
+    if (checksum(bytes, HEADER_BYTES + image) != read_number(bytes + HEADER_BYTES + image, 8)) return NULL;
+    for (int i = 0; i < NUMBERS; i++) numbers[i] = read_number(bytes + 8 + 8 * i, 8);
     *result = DS_WRONG_KIND;
     if (bytes[4] != DS_BLOOM && bytes[4] != DS_COUNT_MIN_U64 && bytes[4] != DS_FREQUENT_ITEMS_STRING) return NULL;
     *result = TOO_MANY_HASHES;
@@ -146,7 +134,7 @@ Sketch *read_state(const uint8_t *bytes, size_t length, size_t limit, int32_t *r
 /* Returns the length of the state that begins with these bytes, or 0 if none of at most `limit` bytes does. */
 static size_t length_of_state(const uint8_t *bytes, size_t length, size_t limit)
 {
-    uint64_t total = length >= HEADER_BYTES && memcmp(bytes, magic, sizeof magic) == 0 ? get_number(bytes + 8) : 0;
+    uint64_t total = length >= HEADER_BYTES && memcmp(bytes, magic, sizeof magic) == 0 ? read_number(bytes + 8, 8) : 0;
     return total >= length && total <= limit ? (size_t)total : 0;
 }
 
@@ -288,6 +276,24 @@ static size_t limit_of_file(void)
     return (flags & (REDISMODULE_CTX_FLAGS_LOADING | REDISMODULE_CTX_FLAGS_ASYNC_LOADING)) != 0 ? SIZE_MAX : max_bytes;
 }
 
+/* Logs that the value of a key cannot be read, and why. Bytes of the key that are not printable are shown as numbers. */
+static void log_unread(RedisModuleIO *io, int32_t result)
+{
+    char key[256];
+    size_t length = 0, at = 0;
+    const RedisModuleString *name = RedisModule_GetKeyNameFromIO(io);
+    const char *bytes = name != NULL ? RedisModule_StringPtrLen(name, &length) : "";
+    for (size_t i = 0; i < length && at + 8 < sizeof key; i++) {
+        unsigned char byte = (unsigned char)bytes[i];
+        bool is_shown = byte >= ' ' && byte <= '~' && byte != '\'' && byte != '\\';
+        at += (size_t)snprintf(key + at, sizeof key - at, is_shown ? "%c" : "\\x%02x", byte);
+        if (i + 1 < length && at + 8 >= sizeof key) at += (size_t)snprintf(key + at, sizeof key - at, "...");
+    }
+    key[at] = '\0';
+    RedisModule_LogIOError(io, "warning", "the sketch of the key '%s' in database %d cannot be read: %s", key,
+                           RedisModule_GetDbIdFromIO(io), message_of(result));
+}
+
 /* Loads a value of a kind. Returns null if its bytes are damaged. */
 static void *load(RedisModuleIO *io, int version, Kind kind)
 {
@@ -302,7 +308,7 @@ static void *load(RedisModuleIO *io, int version, Kind kind)
         sketch = NULL;
         result = DS_WRONG_KIND;
     }
-    if (sketch == NULL) RedisModule_LogIOError(io, "warning", "a sketch cannot be read: %s", ds_result_message(result));
+    if (sketch == NULL) log_unread(io, result);
     return sketch;
 }
 
@@ -335,6 +341,7 @@ static void *load_parts(RedisModuleIO *io, int version)
         parts->length = parts->room = length;
         parts->total = total;
     } else {
+        log_unread(io, bytes == NULL ? DS_NO_MEMORY : DS_INSUFFICIENT_DATA);
         free_block(bytes);
     }
     return parts;
@@ -386,25 +393,14 @@ static size_t free_effort(RedisModuleString *key, const void *value)
 
 static void *copy(RedisModuleString *from, RedisModuleString *to, const void *value)
 {
-    Sketch *sketch = (Sketch *)value, *copied = new_value(sketch->kind);
+    Sketch *sketch = (Sketch *)value, *copied;
     (void)from;
     (void)to;
+    if (sketch->kind != PARTS) return clone_value(sketch);
+    copied = new_value(PARTS);
     if (copied == NULL) return NULL;
-    *copied = (Sketch){.handle = DS_NONE,
-                       .kind = sketch->kind,
-                       .seed = sketch->seed,
-                       .table_key = sketch->table_key,
-                       .capacity = sketch->capacity,
-                       .inserted = sketch->inserted,
-                       .rate = sketch->rate,
-                       .width = sketch->width,
-                       .depth = sketch->depth,
-                       .string_bytes = sketch->string_bytes,
-                       .spare_bytes = sketch->spare_bytes,
-                       .total = sketch->kind == PARTS ? sketch->total : 0};
-    if (sketch->kind == PARTS ? add_bytes(copied, sketch->bytes, sketch->length)
-                              : ds_clone(&copied->handle, &sketch->handle) == DS_OK)
-        return copied;
+    copied->total = sketch->total;
+    if (add_bytes(copied, sketch->bytes, sketch->length)) return copied;
     free_value(copied);
     return NULL;
 }
