@@ -236,6 +236,16 @@ bool take_part(Call *call, Kind kind, uint64_t position, const uint8_t *bytes, s
     return true;
 }
 
+int sketch_state(Call *call)
+{
+    long long position;
+    size_t length;
+    const uint8_t *bytes = (const uint8_t *)RedisModule_StringPtrLen(call->argv[3], &length);
+    if (!number_argument(call, 2, 0, INT64_MAX, bad_number, &position)) return REDISMODULE_OK;
+    if (!take_part(call, 0, (uint64_t)position, bytes, length)) return REDISMODULE_OK;
+    return RedisModule_ReplyWithSimpleString(call->ctx, "OK");
+}
+
 /* The command that takes parts of a state: to name it with what it gets. */
 static const char state_command[] = "SKETCH.STATE", state_arguments[] = "slb";
 
