@@ -79,11 +79,25 @@ void create_value(Call *call, Sketch *sketch)
     replicate_state(call, sketch);
 }
 
+void note_change(Call *call)
+{
+    char event[32];
+    size_t length = 0;
+    if (call->is_noted) return;
+    call->is_noted = true;
+    for (; length < sizeof event - 1 && call->name[length] != '\0'; length++) {
+        char letter = call->name[length];
+        event[length] = letter >= 'A' && letter <= 'Z' ? (char)(letter - 'A' + 'a') : letter;
+    }
+    event[length] = '\0';
+    RedisModule_SignalModifiedKey(call->ctx, call->argv[1]);
+    RedisModule_NotifyKeyspaceEvent(call->ctx, REDISMODULE_NOTIFY_MODULE, event, call->argv[1]);
+}
+
 void replicate_call(Call *call)
 {
-#ifdef PLANT_ADD_NOT_REPLICATED
-    (void)call;
-#else
+    note_change(call);
+#ifndef PLANT_ADD_NOT_REPLICATED
     RedisModule_ReplicateVerbatim(call->ctx);
 #endif
 }
@@ -121,11 +135,19 @@ bool read_seed(RedisModuleString *from, uint64_t *seed)
     return is_number;
 }
 
-bool seed_argument(Call *call, int at, uint64_t *seed)
+bool seed_option(Call *call, int *at, uint64_t *seed)
 {
-    if (read_seed(call->argv[at], seed)) return true;
-    reply_error(call, bad_number);
-    return false;
+    if (*at < call->argc && is_word(call, *at, "KEYED")) {
+        *seed = random_seed();
+        *at += 1;
+    } else if (*at + 1 < call->argc && is_word(call, *at, "SEED")) {
+        if (!read_seed(call->argv[*at + 1], seed)) {
+            reply_error(call, bad_number);
+            return false;
+        }
+        *at += 2;
+    }
+    return true;
 }
 
 bool is_word(Call *call, int at, const char *word)
@@ -146,6 +168,13 @@ bool check_limit(Call *call, uint64_t bytes)
 {
     if (bytes <= max_bytes || bytes <= limit_of(call)) return true;
     reply_error(call, too_much);
+    return false;
+}
+
+bool check_hashes(Call *call, uint64_t hashes)
+{
+    if (hashes <= max_hashes || limit_of(call) == SIZE_MAX) return true;
+    reply_error(call, too_many_hashes);
     return false;
 }
 

@@ -7,7 +7,10 @@
 Types types;
 size_t max_bytes = (size_t)64 << 20;
 size_t max_merge_bytes = (size_t)256 << 20;
-uint64_t server_seed;
+size_t max_hashes = 255;
+uint64_t default_seed = DS_DEFAULT_SEED;
+uint64_t default_capacity = 100000;
+double default_rate = 0.01;
 
 Sketch *new_value(Kind kind)
 {
@@ -16,12 +19,28 @@ Sketch *new_value(Kind kind)
     return sketch;
 }
 
+Sketch *clone_value(Sketch *sketch)
+{
+    Sketch *copied = new_value(sketch->kind);
+    if (copied == NULL) return NULL;
+    *copied = *sketch;
+    copied->handle = (ds_sketch)DS_NONE;
+    copied->bytes = NULL;
+    copied->length = copied->room = copied->total = 0;
+    copied->top = NULL;
+    copied->top_count = 0;
+    if (ds_clone(&copied->handle, &sketch->handle) == DS_OK) return copied;
+    free_value(copied);
+    return NULL;
+}
+
 void free_value(void *value)
 {
     Sketch *sketch = value;
     if (sketch == NULL) return;
     ds_free(&sketch->handle);
     free_block(sketch->bytes);
+    free_block(sketch->top);
     free_block(sketch);
 }
 
@@ -49,21 +68,20 @@ uint64_t random_word(void)
     return word;
 }
 
-static bool is_seed_given;
-
-void set_server_seed(const uint64_t *given)
+bool is_usable_seed(uint64_t seed)
 {
     ds_sketch tried = DS_NONE;
-    is_seed_given = given != NULL;
-    do server_seed = is_seed_given ? *given : random_word();
-    while (ds_count_min_new(&tried, DS_COUNT_MIN_U64, 1, 3, server_seed) == DS_ZERO_SEED_HASH && !is_seed_given);
+    bool is_usable = ds_count_min_new(&tried, DS_COUNT_MIN_U64, 1, 3, seed) != DS_ZERO_SEED_HASH;
     ds_free(&tried);
+    return is_usable;
 }
 
-void take_server_seed(Sketch *sketch, bool is_trusted)
+uint64_t random_seed(void)
 {
-    if (!is_trusted) sketch->has_server_seed = false;
-    if (sketch->has_server_seed && !is_seed_given) server_seed = sketch->seed;
+    uint64_t seed;
+    do seed = random_word();
+    while (!is_usable_seed(seed));
+    return seed;
 }
 
 void count_strings(Sketch *sketch)
@@ -71,8 +89,8 @@ void count_strings(Sketch *sketch)
     ds_status status = status_of(sketch);
     size_t bytes = 0, slots = status.current_map_capacity / 3 * 4;
     ds_memory_bytes(&sketch->handle, &bytes);
-    sketch->string_bytes = bytes - slots * 44;
-    sketch->added_bytes = 0;
+    sketch->string_bytes = bytes - slots * BYTES_OF_SLOT;
+    sketch->spare_bytes = 0;
 }
 
 uint64_t estimated_items(Sketch *sketch)

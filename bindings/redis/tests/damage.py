@@ -134,6 +134,7 @@ def damaged_payloads(tests):
             elif str(got) not in (
                 "ERR received bad data",
                 "ERR a sketch of this command takes more bytes than the module's max-bytes",
+                "ERR a sketch of this command has more hashes than the module's max-hashes",
             ):
                 tests.check("an error of a damaged state", False, got)
         tests.check("damaged states with checksums", 50 < loaded < 1900, loaded)
@@ -168,6 +169,8 @@ def unsound_states(tests):
                 state = sealed(tests, states[key][:at] + value.to_bytes(8, "little") + states[key][at + 8 :])
                 got = client("SKETCH.STATE", "unsound", 0, state)
                 tests.check(f"a state of {key} with {name} {value}", str(got) == "ERR received bad data", got)
+        flagged = states["filter"][:5] + b"\x02" + states["filter"][6:]
+        tests.check("a flag of an earlier version", client("SKETCH.STATE", "flagged", 0, sealed(tests, flagged)) == "OK")
         for key, state in states.items():
             tests.check(f"the state of {key}", client("SKETCH.STATE", "sound", 0, sealed(tests, state)) == "OK")
 
@@ -191,7 +194,7 @@ def damaged_images(tests):
             except ValueError:
                 own = None
             if isinstance(got, Error):
-                if own is not None and "too large" not in str(got) and "out of range" not in str(got):
+                if own is not None and "max-" not in str(got) and "out of range" not in str(got):
                     wrong.append(("an image that C reads", name, got))
                 continue
             loaded += 1
@@ -234,4 +237,4 @@ def damaged_files(tests):
             tests.check("a server with a damaged file ends", on.process.wait(timeout=20) in (0, 1), on.process.poll())
             on.process = None
             stopped += 1
-    tests.check("damaged files are found", stopped >= 20 and "a sketch cannot be read" in on.log(), stopped)
+    tests.check("damaged files are found", stopped >= 20 and "in database 0 cannot be read: " in on.log(), stopped)

@@ -4,7 +4,7 @@ import random
 import threading
 
 import oracle
-from resp import Client, packed
+from resp import Client, Error, packed
 
 
 def words(random_numbers, count, many=500):
@@ -17,8 +17,8 @@ def filters(tests):
     numbers = random.Random(1)
     with tests.main.client() as client:
         client.done("FLUSHALL")
-        client.done("BF.RESERVE", "f", "0.01", 5000, "SEED", 77)
-        own = oracle.filter_for(tests.library, 5000, 100, 77)
+        client.done("BF.RESERVE", "f", "0.01", 10000, "SEED", 77)
+        own = oracle.filter_for(tests.library, 10000, 100, 77)
         for _ in range(50):
             batch = [f"key {numbers.randrange(10000)}" for _ in range(100)]
             got = client.done("BF.MADD", "f", *batch)
@@ -36,11 +36,11 @@ def filters(tests):
         wrong = sum(client.done("BF.MEXISTS", "rate", *[f"out {i}" for i in range(20000)]))
         tests.check("false positives", 100 <= wrong <= 300, wrong)
         tests.check("a full filter", client.done("BF.INFO", "rate", "FULL") == [0] and client.done("BF.CARD", "rate") > 9800)
-        client.done("BF.MADD", "rate", *[f"more {i}" for i in range(500)])
+        client("BF.MADD", "rate", *[f"more {i}" for i in range(500)])
         tests.check("a full filter says so", client.done("BF.INFO", "rate", "FULL") == [1])
         for name in ["one", "two"]:
             client.done("BF.RESERVE", name, "0.01", 1000)
-        tests.check("one seed for the server", client.done("SKETCH.SEED", "one") == client.done("SKETCH.SEED", "two") != b"9001")
+        tests.check("one seed for all servers", client.done("SKETCH.SEED", "one") == client.done("SKETCH.SEED", "two") == b"9001")
 
 
 def counts(tests):
@@ -151,7 +151,19 @@ def images(tests):
             950 <= client.done("BF.CARD", "f") <= 1050 and 950 <= client.done("BF.INFO", "f", "CAPACITY")[0] <= 1100,
             client.done("BF.INFO", "f"),
         )
+        tests.check(
+            "a capacity for an image",
+            client("SKETCH.LOAD", "more", "bloom_filter", own.image(), "CAPACITY", 1200) == "OK"
+            and client.done("BF.INFO", "more", "CAPACITY") == [1200]
+            and sum(client.done("BF.MADD", "more", *[f"new {i}" for i in range(120)])) > 100,
+        )
+        for words in [["CAPACITY", 0], ["CAPACITY", "x"], ["CAPACITY"]]:
+            tests.check(f"{words}", isinstance(client("SKETCH.LOAD", "bad", "bloom_filter", own.image(), *words), Error))
         counted = oracle.count_min(tests.library, 3, 100, 5)
+        tests.check(
+            "a capacity of counts",
+            str(client("SKETCH.LOAD", "bad", "count_min", counted.image(), "CAPACITY", 5)) == "ERR syntax error",
+        )
         oracle.add(counted, "a", 9)
         tests.check("another seed", "seed" in str(client("SKETCH.LOAD", "c", "count_min", counted.image())))
         client.done("SKETCH.LOAD", "c", "count_min", counted.image(), "SEED", 5)
@@ -159,7 +171,9 @@ def images(tests):
             "counts from C", client.done("CMS.QUERY", "c", "a") == [9] and client.done("SKETCH.IMAGE", "c") == counted.image()
         )
         tests.check(
-            "MAXBYTES", str(client("SKETCH.LOAD", "d", "bloom_filter", own.image(), "MAXBYTES", 100)) == "ERR table too large"
+            "MAXBYTES",
+            str(client("SKETCH.LOAD", "d", "bloom_filter", own.image(), "MAXBYTES", 100))
+            == "ERR the sketch takes more bytes than MAXBYTES",
         )
         large = oracle.frequent(tests.library, 2**30).image()
         tests.check(

@@ -18,15 +18,22 @@ MODULE = os.path.dirname(HERE)
 BINDINGS = os.path.dirname(MODULE)
 sys.path.insert(0, HERE)
 
+import changes  # noqa: E402
 import checked  # noqa: E402
+import clients  # noqa: E402
+import cluster  # noqa: E402
 import commands  # noqa: E402
+import counted  # noqa: E402
 import damage  # noqa: E402
 import exact  # noqa: E402
+import full_filters  # noqa: E402
+import guards  # noqa: E402
 import memory  # noqa: E402
 import oracle  # noqa: E402
 import planted  # noqa: E402
 import redis_page  # noqa: E402
 import replicas  # noqa: E402
+import results  # noqa: E402
 import server  # noqa: E402
 import stored  # noqa: E402
 
@@ -73,21 +80,48 @@ GROUPS = [
     commands.kinds,
     commands.binary,
     commands.lines,
-    commands.command_line,
-    commands.python,
+    clients.command_line,
+    clients.python,
     commands.documented,
     commands.any_words,
+    counted.counted_items,
+    counted.random_limits,
     exact.filters,
     exact.counts,
     exact.frequent,
     exact.images,
     exact.interleaved,
+    results.sizes,
+    results.rates,
+    results.top_counts,
+    results.top_queries,
+    results.large_tables,
+    results.first_rows,
+    results.halves,
+    results.merged_filters,
+    results.scripts,
+    results.replaced,
+    changes.events_and_watch,
+    changes.quiet_replicas,
+    changes.live_filters,
+    changes.live_replicas,
+    guards.secrets,
+    guards.hashes,
+    guards.information,
+    guards.parameters,
+    guards.damaged_keys,
+    full_filters.default_sizes,
+    full_filters.full_filters,
+    full_filters.full_replicas,
     stored.reloads,
     stored.dumps,
     stored.chunks,
     stored.rewritten,
     stored.killed,
     stored.seeds,
+    cluster.slots,
+    cluster.migrated,
+    cluster.keyed,
     replicas.follows,
     replicas.cut_off,
     damage.damaged_payloads,
