@@ -232,6 +232,31 @@ Datum items_name(const Sketch *sketch);
 /* Returns a seed as a numeric. */
 Datum seed_value(uint64 seed);
 
+/* Returns a number of some bytes, lowest first. */
+static inline uint64 number_at(const uint8 *image, int bytes)
+{
+    uint64 number = 0;
+    for (int i = 0; i < bytes; i++) number |= (uint64)image[i] << 8 * i;
+    return number;
+}
+
+/* The bytes of the image of a filter without set bits, and of counts with the total weight 0. */
+#define EMPTY_FILTER 24
+#define EMPTY_COUNTS 16
+
+/* --- large.c --- */
+
+/* Returns the bytes that a sketch takes by the sizes in its image, without strings, or 0 if the image is too short for sizes. */
+uint64 stated_bytes(Kind kind, const uint8 *image, size_t length);
+
+/* Reads an image in place if it is one of an empty filter or of counts with the total weight 0. Leaves the bytes that the library writes, and
+ * returns their number, or 0 if it is another image. Raises the error of a failed check. */
+size_t read_empty(Kind kind, uint8 *image, size_t length, uint64 seed);
+
+/* Gives an image of frequent items the smallest table that has room for its items. Returns the size of the table that it had, as in the
+ * image. */
+uint8 shrink_table(uint8 *image, size_t length);
+
 /* --- image_items.c --- */
 
 /* Raises an error if a string of an image of frequent strings has a zero byte. Returns the bytes of strings that the library counts,

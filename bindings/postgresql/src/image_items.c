@@ -3,13 +3,6 @@
 
 #define WEIGHTS 32 /* the first byte of the weights, of 8 bytes each */
 
-static uint64 number_at(const uint8 *image, int bytes)
-{
-    uint64 number = 0;
-    for (int i = 0; i < bytes; i++) number |= (uint64)image[i] << 8 * i;
-    return number;
-}
-
 /* Returns the number of counters of an image, or 0 if it states an empty sketch or is cut before its items. */
 static uint64 count_of(const uint8 *image, size_t length)
 {

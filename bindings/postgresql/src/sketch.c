@@ -89,10 +89,6 @@ static bool has_seed(Kind kind)
     return kind == DS_COUNT_MIN_U64 || kind == DS_COUNT_MIN_I64;
 }
 
-/* The bytes of the image of a filter without set bits, and of counts with the total weight 0. */
-#define EMPTY_FILTER 24
-#define EMPTY_COUNTS 16
-
 /* Returns whether a header is one that this version writes for the kind, or for one of the kinds if it is ANY_KIND. */
 static bool has_header(const Sketch *sketch, Kind kind)
 {
@@ -240,12 +236,35 @@ static Sketch *unchecked(const void *bytes, size_t length)
     return sketch;
 }
 
+/* Returns a stored sketch from one of more bytes than users may have, by the administrator's limit. It is checked in place, or in a table
+ * that its items need, and keeps the sizes that it states. */
+static Sketch *import_large(Kind kind, Sketch *sketch, uint64 stated)
+{
+    uint64 seed = seed_of(sketch);
+    size_t length = IMAGE_BYTES(sketch), bytes;
+    uint8 table = 0;
+    check_bytes(limit_of_all(ADMINISTRATORS_LIMITS), stated);
+    bytes = read_empty(kind, sketch->image, length, seed);
+    if (bytes > 0) {
+        SET_VARSIZE(sketch, offsetof(Sketch, image) + bytes);
+    } else {
+        if (is_frequent(kind)) table = shrink_table(sketch->image, length);
+        import_image(kind, sketch->items, sketch->image, length, seed, sketch, ADMINISTRATORS_LIMITS);
+        if (is_frequent(kind) && IMAGE_BYTES(sketch) > 8) sketch->image[4] = table;
+    }
+    write_header(sketch, kind, sketch->items, seed);
+    return sketch;
+}
+
 /* Returns a stored sketch from one that may be untrusted, which it replaces. `damaged` is the SQLSTATE of an error. */
 static Sketch *import(Kind kind, Sketch *sketch, int damaged, Limits limits)
 {
+    uint64 stated;
     if (has_other_version(sketch)) raise_version(sketch->format[3], format[3]);
     if (!has_header(sketch, kind)) raise_kind("the value is not a sketch of this type");
     if (!has_checksum(sketch)) ereport(ERROR, (errcode(damaged), errmsg("the sketch is damaged: its checksum is wrong")));
+    stated = stated_bytes(kind, sketch->image, IMAGE_BYTES(sketch));
+    if (limits == ADMINISTRATORS_LIMITS && stated > limit_of(kind, USERS_LIMITS)) return import_large(kind, sketch, stated);
     return import_image(kind, sketch->items, sketch->image, IMAGE_BYTES(sketch), seed_of(sketch), sketch, limits);
 }
 

@@ -1,7 +1,10 @@
 """Sketches that a session made under settings of its own: dumps, restores and replicas of them keep to the administrator's limit alone."""
 import io
+import struct
 import time
 
+import golden
+import server
 from ends import MB, code_of
 from limits import error_of
 from stored import database
@@ -117,3 +120,93 @@ def too_large(tests):
                         and str(750 * MB) in error[1], error)
         # 750 MB have 1000 MB as base64, and 24 MB are left to other columns of the row.
         tests.check("the text form is below 1 GB", (750 * MB + 2) // 3 * 4 + 24 * MB <= 2**30)
+
+
+def table_image(maximum, current, count, items):
+    """Returns an image of frequent items of tables of these sizes, as logarithms, with weights of 1."""
+    numbers = struct.pack("<BBBBBBHIIQQ", 4, 1, 10, maximum, current, 0, 0, count, 0, count, 0) + struct.pack("<Q", 1) * count
+    return numbers + items
+
+
+STRINGS = struct.pack("<I", 1) + b"a" + struct.pack("<I", 2) + b"bc"
+# Short images of sketches of some 700 MB, each with the types of items, and the image that is stored.
+WORDS = 700 * MB // 8
+SHORT = [
+    ("bloom_filter", 0, struct.pack("<BBBBHHQiI", 3, 1, 21, 4, 5, 0, 9001, WORDS, 0), None),
+    ("bloom_filter", 1, struct.pack("<BBBBHHQiI", 3, 1, 21, 4, 5, 77, 9001, WORDS, 77) + b"more",
+     struct.pack("<BBBBHHQiI", 3, 1, 21, 4, 5, 0, 9001, WORDS, 0)),
+    ("count_min", 0, struct.pack("<BBBBIIBHB", 2, 1, 18, 1, 0, WORDS // 4, 4, golden.seed_hash(9001), 0), None),
+    ("signed_count_min", 2, struct.pack("<BBBBIIBHB", 2, 1, 18, 1, 77, WORDS // 4, 4, golden.seed_hash(9001), 77),
+     struct.pack("<BBBBIIBHB", 2, 1, 18, 1, 0, WORDS // 4, 4, golden.seed_hash(9001), 0)),
+    ("frequent_strings", 1, table_image(24, 24, 2, STRINGS), None),
+    ("frequent_bigints", 2, table_image(30, 24, 2, struct.pack("<qq", -7, 7)), None),
+]
+# Short images with a mistake each, and their errors.
+WRONG = [
+    ("bloom_filter", 1, struct.pack("<BBBBHHQiI", 4, 1, 21, 0, 5, 0, 9001, WORDS, 0), "SK022"),
+    ("bloom_filter", 1, struct.pack("<BBBBHHQiI", 3, 1, 21, 4, 0, 0, 9001, WORDS, 0), "22023"),
+    ("count_min", 1, struct.pack("<BBBBIIBHB", 2, 1, 18, 1, 0, WORDS // 4, 4, golden.seed_hash(9001) ^ 1, 0), "SK028"),
+    ("count_min", 1, struct.pack("<BBBBIIBHB", 2, 1, 18, 0, 0, WORDS // 4, 4, golden.seed_hash(9001), 0), "SK022"),
+    ("frequent_strings", 1, table_image(23, 24, 2, STRINGS), "SK034"),
+    ("frequent_strings", 1, table_image(31, 24, 2, STRINGS), "SK033"),
+    ("frequent_strings", 1, table_image(24, 24, 2, STRINGS[:-1]), "SK022"),
+]
+# Images of which one byte is changed in turn: each is read, or fails with the same error, below and above the limits of users.
+CHANGED = [
+    ("bloom_filter", 1, struct.pack("<BBBBHHQiI", 3, 1, 21, 4, 5, 0, 9001, 300, 0)), ("bloom_filter", 1, golden.bloom(["ab"], 140, 5)),
+    ("count_min", 1, struct.pack("<BBBBIIBHB", 2, 1, 18, 1, 0, 99, 4, golden.seed_hash(9001), 0)),
+    ("count_min", 1, golden.count_min({"ab": 3}, 2, 70)), ("signed_count_min", 2, golden.count_min({7: -3}, 2, 70)),
+    ("frequent_strings", 1, table_image(9, 7, 2, STRINGS)), ("frequent_bigints", 2, table_image(9, 7, 2, struct.pack("<qq", -7, 7))),
+    ("frequent_strings", 1, bytes([1, 1, 10, 9, 9, 5, 0, 0]) + bytes(12)),
+]
+
+
+def short_texts(tests):
+    """Short texts of large sketches, as of empty ones: they are read in little memory, keep their sizes, and keep to the administrator's
+    limit. Each check of an image is made."""
+    for number, (name, items, image, kept) in enumerate(SHORT):
+        text = golden.text(golden.stored(name, items, image))
+        with tests.main.session() as session, session.cursor() as cursor:
+            cursor.execute("SELECT pg_backend_pid(), sketch_contains(bloom_filter_empty(9, 0.1), 7)")
+            process = cursor.fetchone()[0]
+            before = server.memory(process, "VmHWM")
+            cursor.execute(f"SELECT %s::{name}::bytea", (text,))
+            read = bytes(cursor.fetchone()[0])
+            tests.check(f"the stored form of short image {number}", read == golden.stored(name, items, kept or image), read)
+            grown = server.memory(process, "VmHWM") - before
+            tests.check(f"the memory of short image {number}", grown < 16 * MB, grown)
+            if kept is None:
+                error = error_of(cursor, f"SELECT sketch_status('{text}'::{name})")
+                tests.check(f"a query of short image {number}", error is not None and error[0] == "54000", error)
+            cursor.execute("SET sketches_rattle.max_user_bytes = '400MB'")
+            error = error_of(cursor, f"SELECT '{text}'::{name}")
+            tests.check(f"short image {number} above the administrator's limit", error is not None and error[0] == "54000"
+                        and "max_user_bytes" in error[1], error)
+    with tests.main.session() as session, session.cursor() as cursor:
+        for name, items, image, wanted in WRONG:
+            code = code_of(cursor, f"SELECT '{golden.text(golden.stored(name, items, image))}'::{name}")
+            tests.check(f"a short {name} with the error {wanted}", code == wanted, code)
+
+
+def without_order(name, stored):
+    """Returns the bytes of a stored sketch. Items that are written again have any order: of frequent items, their bytes are sorted."""
+    return (stored[:16], stored[20:52], sorted(stored[52:])) if name.startswith("frequent") else stored
+
+
+def changed_images(tests):
+    """Images with one byte changed are read alike below and above the limits of users."""
+    with tests.main.session() as session, session.cursor() as cursor:
+        for name, items, image in CHANGED:
+            unlike, codes = [], set()
+            for place in range(min(len(image), 60)):
+                for byte in {0, 1, 2, 3, 4, 5, 6, 7, 8, 31, 64, 128, 255, image[place] ^ 1, image[place] ^ 32, image[place] ^ 64}:
+                    text = golden.text(golden.stored(name, items, image[:place] + bytes([byte]) + image[place + 1:]))
+                    found = []
+                    for limit in ("32MB", "1kB"):
+                        cursor.execute(f"SET sketches_rattle.max_image_bytes = '{limit}'")
+                        code = code_of(cursor, f"SELECT '{text}'::{name}::bytea")
+                        found.append(code or without_order(name, bytes(cursor.fetchone()[0])))
+                    codes.add(found[0] if isinstance(found[0], str) else None)
+                    if found[0] != found[1]:
+                        unlike.append((place, byte, *found))
+            tests.check(f"changed images of {name} are read alike", not unlike and None in codes and len(codes) > 3, (unlike[:3], codes))

@@ -155,7 +155,8 @@ GROUPS = [scripts.attacks, scripts.schemas, queries, isolation, bounds.every_key
           constants.pushed, constants.without_rights, frames.linear, item_types.types, item_types.plans, item_types.direct, item_types.orders, item_types.images_of_other_items,
           item_types.comments, limits.small_images, limits.planned, limits.administrators, limits.settings, limits.known,
           limits.kept_by_use, limits.kept_in_part, limits.long_strings, memory.statements,
-          restored.dumps, restored.replicas, restored.too_large,
+          restored.dumps, restored.replicas, restored.too_large, restored.short_texts,
+          restored.changed_images,
           exchange.interfaces, exchange.seeds, page.page_queries, page.filter_is_faster, page.items, errors.listed_errors, damage.damaged_bytes, versions.compiles]
 
 
