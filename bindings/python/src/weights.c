@@ -49,7 +49,7 @@ static bool each_fits(const Items *items, Weights *weights)
 {
     Items *each = &weights->items;
     uint64_t number;
-    each->below_top = each->items == NULL && each->with_sign != weights->with_sign;
+    each->below_top = each->num_runs > 0 && each->with_sign != weights->with_sign;
     return !each->below_top || !find_above_top(each, items, &number) ||
            number_fits("a weight", weights->with_sign, number, each->with_sign);
 }
