@@ -111,7 +111,7 @@ static PyObject *keyed_hash(PyObject *Py_UNUSED(module), PyObject *const *args, 
         return text != NULL ? hash_of((const uint8_t *)text, (size_t)length, &key) : NULL;
     }
     int of_many = is_many(args[1]);
-    if (of_many != 0) return of_many > 0 ? ask_all(NULL, args[1], &many) : NULL;
+    if (of_many != 0) return of_many > 0 ? ask_all(NULL, args[1], &many, NULL) : NULL;
     if (!open_bytes(args[1], "an item", "a str or bytes", &image)) return NULL;
     PyObject *hash = hash_of(image.bytes, image.length, &key);
     image_release(&image);

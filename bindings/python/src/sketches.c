@@ -329,7 +329,7 @@ PyObject *sketch_repr(PyObject *self)
     unsigned long long bits = status.num_bits, used = status.bits_used;
     switch (status.kind) {
     case DS_BLOOM:
-        return PyUnicode_FromFormat("<%s capacity=%llu num_hashes=%u seed=%llu bits_used=%llu>", name, bits, hashes, seed, used);
+        return PyUnicode_FromFormat("<%s num_bits=%llu num_hashes=%u seed=%llu bits_used=%llu>", name, bits, hashes, seed, used);
     case DS_COUNT_MIN_U64:
     case DS_COUNT_MIN_I64:
         return PyUnicode_FromFormat("<%s num_hashes=%u num_buckets=%u seed=%llu%s>", name, hashes, buckets, seed,

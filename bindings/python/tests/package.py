@@ -17,6 +17,10 @@ BINDINGS = os.path.dirname(os.path.dirname(os.path.dirname(os.path.abspath(__fil
 PYTHON = "/usr/bin/python3"
 OF_PACKAGE, OF_JOBS = f"{BINDINGS}/python/tests/run.py", f"{BINDINGS}/dask/tests/run.py"
 
+# What is run with other interpreters: all calls, pickles, subclasses, and the end of an interpreter, but no long tests of threads.
+OF_OTHERS = ["test_interpreters", "test_copies", "test_count", "test_filter", "test_frequent", "test_frequent_texts", "test_fields",
+             "test_interface", "test_joins", "test_keyed_hash", "test_keys", "test_memory", "test_prefixes", "test_sizes"]
+
 
 class Runs:
     """The runs of the tests, and the sums of what they print."""
@@ -34,11 +38,11 @@ class Runs:
                        env={**os.environ, "PYTHON": python, **more})
         return folder
 
-    def run(self, name, python, script, path, seconds, most_skipped):
-        """Runs a script of tests."""
+    def run(self, name, python, script, path, seconds, most_skipped, tests=()):
+        """Runs a script of tests, or of it only some."""
         env = {"PATH": "/usr/bin:/bin", "LANG": "C.UTF-8", "PYTHONDONTWRITEBYTECODE": "1", "PYTHONPATH": path,
                "DATASKETCHES_CLI": self.program}
-        ran = subprocess.run([python, script], env=env, capture_output=True, text=True, timeout=seconds)
+        ran = subprocess.run([python, script, *tests], env=env, capture_output=True, text=True, timeout=seconds)
         last = ran.stdout.strip().split("\n")[-1]
         counts = re.fullmatch(r"(\d+) passed, (\d+) failed", last)
         passed, failed = (int(counts[1]), int(counts[2])) if counts else (0, 1)
@@ -59,7 +63,7 @@ def run_others(runs):
     if absent:
         print("not found here, or without headers: Python", ", ".join(absent))
     for path, whole in others.values():
-        runs.run(f"the package with Python {whole}", path, OF_PACKAGE, runs.build(path, CFLAGS="-O1"), 600, 40)
+        runs.run(f"the package with Python {whole}", path, OF_PACKAGE, runs.build(path, CFLAGS="-O1"), 600, 10, OF_OTHERS)
 
 
 def main():
