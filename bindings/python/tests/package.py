@@ -80,7 +80,7 @@ def main():
             file.write('raise ImportError("there is no numpy here")\n')
         groups = {
             "numpy": lambda: runs.run("the package with numpy", PYTHON, OF_PACKAGE, built, 600, 0),
-            "plain": lambda: runs.run("the package without numpy", PYTHON, OF_PACKAGE, f"{hidden}:{built}", 600, 22),
+            "plain": lambda: runs.run("the package without numpy", PYTHON, OF_PACKAGE, f"{hidden}:{built}", 600, 28),
             "others": lambda: run_others(runs),
             "dask": lambda: runs.run("the jobs on Dask", PYTHON, OF_JOBS, built, 1200, 0),
         }

@@ -191,6 +191,7 @@ print(heavy.update_fields(text, 1, weight=3, threads=1), heavy.rows(), peak() - 
 class Pieces(unittest.TestCase):
     """A text of several pieces: one rule for errors, whatever the number of threads, and a bound on memory and time."""
 
+    @unittest.skipIf("asan" in os.environ.get("LD_PRELOAD", ""), "freed memory stays in this run")
     def test_memory_is_bounded(self):
         path = os.path.dirname(os.path.dirname(ds.__file__))
         ran = subprocess.run([sys.executable, "-c", MEMORY], capture_output=True, text=True, timeout=120,

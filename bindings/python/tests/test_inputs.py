@@ -890,7 +890,7 @@ class Leaks(unittest.TestCase):
         self.assertLess(self.growth(self.calls, 500), 1000)
 
     def test_nothing_is_kept_of_columns(self):
-        self.assertLess(min(self.growth(self.column_calls, 50) for _ in range(2)), 1000)
+        self.assertLess(min(self.growth(self.column_calls, 50) for _ in range(3)), 1000)
         self.assertEqual((arrow.live, arrow.released_twice), ({}, []))
 
     @unittest.skipIf(numpy is None, "no numpy here")
