@@ -29,7 +29,7 @@ def are_counts(series: Any) -> bool:
         return False
     kind = getattr(labels.dtype, "kind", "O")
     if kind not in "iuf":
-        return kind == "O"
+        return kind in "OSTU"
     if series.name in ("count", "proportion") and labels.name is not None:
         return True
     descend = len(series) >= FEW and series.is_monotonic_decreasing and series.iloc[-1] > 0
