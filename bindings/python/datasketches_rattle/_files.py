@@ -94,7 +94,7 @@ def _columns(split: str, item: Any, weight: Any, delimiter: str | None, csv: boo
     if split not in ("words", "lines"):
         raise ValueError(f"split is 'words' or 'lines', not {split!r}")
     if item is None:
-        if csv or (split == "words" and (weight is not None or delimiter is not None)):
+        if csv or (split == "words" and weight is not None) or (weight is None and delimiter is not None):
             raise ValueError("item is the field to take: its index, counted from 0, or with csv=True the name of its column")
         return None if weight is None else _Columns(None, weight, delimiter, csv, header)
     if split != "words":

@@ -148,7 +148,8 @@ class Fields(Folder):
                 self.heavy(b"page,n\n" + far, csv=True, item="page", threads=threads)
             self.assertEqual((refused.exception.fault, refused.exception.byte), ("InvalidUtf8", 7 + 2_800_000))
         for words in ({"csv": True, "item": "no"}, {"csv": True}, {"item": "page"}, {"csv": True, "item": "page", "header": False},
-                      {"weight": 1}, {"delimiter": ","}, {"item": 0, "split": "lines"}, {"item": 0, "delimiter": "ab"},
+                      {"weight": 1}, {"delimiter": ","}, {"delimiter": ",", "split": "lines"}, {"item": 0, "split": "lines"},
+                      {"item": 0, "delimiter": "ab"},
                       {"csv": True, "item": "page", "delimiter": '"'}, {"csv": True, "item": "page", "delimiter": "ab"}, {"item": -1},
                       {"csv": True, "item": "page", "weight": "no"}, {"csv": True, "item": 0, "weight": 2**32}):
             self.assertRaises(ValueError, self.heavy, data, **words)
