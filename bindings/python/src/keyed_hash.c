@@ -83,8 +83,8 @@ static int32_t hash_all(Batch *batch, const Chunk *chunk, void *results)
 
 PyDoc_STRVAR(keyed_hash_doc,
 "keyed_hash(key, items, /)\n--\n\n"
-"Return SipHash-1-3 of an item under `key`, a number from 0 to 2**64 - 1. Return a list of hashes for many strings, and an\n"
-"array for an array of numpy or pandas.\n\n"
+"Return SipHash-1-3 of an item under `key`, a number from 0 to 2**64 - 1. Return a list of hashes for many strings, an array\n"
+"for an array of numpy, and a Series with the same index for a Series of pandas.\n\n"
 "`key` is 16 bytes, and an item a str, hashed as UTF-8, or bytes. A caller who chooses the items of a sketch can choose ones\n"
 "whose hashes collide. Insert this hash in place of such an item: without the key, no way is known to choose items that\n"
 "collide. Take the key from `secrets.token_bytes(16)`. Sketches that are merged need the same key. A `FrequentItemsSketch`\n"
