@@ -6,6 +6,7 @@
 >>> "apple" in seen, "plum" in seen
 (True, False)
 """
+from ._rows import Row
 from ._sketches import BloomFilter, CountMinSketch, FrequentItemsSketch, SketchError, __version__, keyed_hash
 
-__all__ = ["BloomFilter", "CountMinSketch", "FrequentItemsSketch", "SketchError", "keyed_hash"]
+__all__ = ["BloomFilter", "CountMinSketch", "FrequentItemsSketch", "Row", "SketchError", "keyed_hash"]

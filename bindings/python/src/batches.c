@@ -149,6 +149,19 @@ static size_t result_size(const Call *call)
     return call->type[0] == '?' ? sizeof(bool) : (size_t)call->width * sizeof(uint64_t);
 }
 
+/* Writes the results of the missing items of a chunk. */
+static void fill_missing(const Batch *batch, const Chunk *chunk, char *results)
+{
+    const Call *call = batch->call;
+    size_t numbers = call->type[0] == '?' ? 0 : (size_t)call->width;
+    for (size_t i = 0; i < chunk->rows; i++) {
+        char *result = results + i * result_size(call);
+        if (is_present(chunk->present, i)) continue;
+        if (numbers == 0) *(bool *)result = batch->missing != 0;
+        for (size_t j = 0; j < numbers; j++) ((uint64_t *)result)[j] = batch->missing;
+    }
+}
+
 /* Takes all items that were read. Runs without the interpreter's lock, but for quick chunks. */
 static int32_t take_items(Batch *batch, const Weights *weights, char *results)
 {
@@ -162,9 +175,11 @@ static int32_t take_items(Batch *batch, const Weights *weights, char *results)
     chunk_open(&chunk, batch, by_one ? NULL : weights);
     for (size_t i = 0; i < items->count && answer >= 0; i += chunk.rows) {
         answer = i > 0 && !batch_goes_on(batch) ? STOPPED : chunk_read(&chunk, i);
-        if (answer >= 0 && results != NULL && chunk.count < chunk.rows) answer = CHANGED;
-        if (answer >= 0 && chunk.count > 0)
-            answer = call->take(batch, &chunk, results != NULL ? results + i * result_size(call) : NULL);
+        char *place = results != NULL ? results + i * result_size(call) : NULL;
+        bool has_missing = place != NULL && answer >= 0 && chunk.count < chunk.rows;
+        if (has_missing && !batch->takes_missing) answer = CHANGED;
+        if (answer >= 0 && chunk.count > 0) answer = call->take(batch, &chunk, place);
+        if (answer >= 0 && has_missing) fill_missing(batch, &chunk, place);
         batch->done += answer >= 0 && call->changes ? chunk.count : 0;
     }
     chunk_close(&chunk);
@@ -285,6 +300,17 @@ static bool ask(Batch *batch, Items *items, void *results, PyObject *list)
     return answer >= 0 && (list == NULL || fill_places(list, batch->call, results, items->count));
 }
 
+/* Returns whether no item is missing, or missing ones have a result. Sets an error if not. */
+static bool gaps_fit(const Batch *batch, const Items *items)
+{
+    const char *name = batch->call->name;
+    size_t gaps = batch->takes_missing ? 0 : items_gaps(items);
+    if (gaps > 0)
+        PyErr_Format(PyExc_ValueError, "%s takes no missing items, and %zu of %zu are missing: drop them first%s", name, gaps,
+                     items->count, batch->call->has_missing ? ", or pass their result as missing=" : "");
+    return gaps == 0;
+}
+
 /* Asks for the items of an iterator, which it reads in chunks. */
 static bool ask_stream(Batch *batch, Items *items, PyObject *list)
 {
@@ -292,20 +318,10 @@ static bool ask_stream(Batch *batch, Items *items, PyObject *list)
     void *results = PyMem_Malloc(STREAM_CHUNK * result_size(batch->call));
     if (results == NULL) PyErr_NoMemory();
     do {
-        asked = results != NULL && items_next(items, STREAM_CHUNK) && ask(batch, items, results, list);
+        asked = results != NULL && items_next(items, STREAM_CHUNK) && gaps_fit(batch, items) && ask(batch, items, results, list);
     } while (asked && items->iterator != NULL);
     PyMem_Free(results);
     return asked;
-}
-
-/* Returns whether no item is missing. Sets an error if one is: it has no result. */
-static bool no_gaps(const Items *items, const Call *call)
-{
-    size_t gaps = items_gaps(items);
-    if (gaps > 0)
-        PyErr_Format(PyExc_ValueError, "%s takes no missing items, and %zu of %zu are missing: drop them first", call->name, gaps,
-                     items->count);
-    return gaps == 0;
 }
 
 static PyObject *ask_source(Batch *batch, const Source *source)
@@ -315,7 +331,7 @@ static PyObject *ask_source(Batch *batch, const Source *source)
     if (!items_open(source, &items)) return NULL;
     bool asked = false, is_stream = items.iterator != NULL, in_array = source->in_array && !is_stream;
     PyObject *list = in_array ? NULL : PyList_New(0);
-    if ((in_array || list != NULL) && no_gaps(&items, batch->call)) {
+    if ((in_array || list != NULL) && gaps_fit(batch, &items)) {
         if (is_stream) asked = ask_stream(batch, &items, list);
         else if (room_for(batch->call, in_array, items.count, &room)) asked = ask(batch, &items, room.values, list);
     }
@@ -327,16 +343,47 @@ static PyObject *ask_source(Batch *batch, const Source *source)
     return result;
 }
 
-PyObject *ask_all(Sketch *self, PyObject *given, const Call *call)
+/* Reads the result of missing items, unless it is NULL or None. */
+static bool missing_of(PyObject *missing, Batch *batch)
+{
+    const Call *call = batch->call;
+    batch->takes_missing = missing != NULL && missing != Py_None;
+    if (!batch->takes_missing) return true;
+    if (call->type[0] != '?') return number_of_kind(missing, "missing", call->type[0] == 'i', &batch->missing);
+    batch->missing = missing == Py_True;
+    if (!PyBool_Check(missing))
+        PyErr_Format(PyExc_TypeError, "missing is True, False or None, not %.200s", Py_TYPE(missing)->tp_name);
+    return PyBool_Check(missing);
+}
+
+PyObject *ask_all(Sketch *self, PyObject *given, const Call *call, PyObject *missing)
 {
     Batch batch = {.self = self, .call = call, .use = {.changes = call->changes}, .took = QUICK};
     Source source;
     PyObject *result = NULL;
-    int masked = is_masked(given);
+    if (!missing_of(missing, &batch)) return NULL;
+    int masked = batch.takes_missing ? 0 : is_masked(given);
     if (masked < 0) return NULL;
     if (masked > 0)
         return PyErr_Format(PyExc_TypeError, "%s takes no masked array: write %s(array.compressed())", call->name, call->name);
     if (source_of(given, call->name, false, &source)) result = ask_source(&batch, &source);
     source_release(&source);
-    return result;
+    return result != NULL && PyObject_CheckBuffer(result) ? series_results(given, result) : result;
+}
+
+bool query_arguments(const char *name, PyObject *const *args, Py_ssize_t count, PyObject *names, PyObject **missing)
+{
+    *missing = NULL;
+    if (count != 1) {
+        PyErr_Format(PyExc_TypeError, "%s takes items, and missing by its name, not %zd arguments", name, count);
+        return false;
+    }
+    for (Py_ssize_t i = 0; names != NULL && i < PyTuple_GET_SIZE(names); i++) {
+        if (PyUnicode_CompareWithASCIIString(PyTuple_GET_ITEM(names, i), "missing") != 0) {
+            PyErr_Format(PyExc_TypeError, "%s() got an unexpected keyword argument '%U'", name, PyTuple_GET_ITEM(names, i));
+            return false;
+        }
+        *missing = args[count + i];
+    }
+    return true;
 }

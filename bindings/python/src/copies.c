@@ -22,17 +22,47 @@ static PyObject *attribute_if_any(PyObject *object, const char *name)
     return value;
 }
 
+/* Returns a dict of the slots that an object has, or NULL with an error set. */
+static PyObject *slots_of(PyObject *self)
+{
+    PyObject *module = PyImport_ImportModule("copyreg");
+    PyObject *names = module != NULL ? PyObject_CallMethod(module, "_slotnames", "O", (PyObject *)Py_TYPE(self)) : NULL;
+    PyObject *list = names != NULL ? PySequence_List(names) : NULL;
+    PyObject *slots = list != NULL ? PyDict_New() : NULL;
+    for (Py_ssize_t i = 0; slots != NULL && i < PyList_GET_SIZE(list); i++) {
+        PyObject *name = PyList_GET_ITEM(list, i), *value = PyObject_GetAttr(self, name);
+        if (value == NULL && PyErr_ExceptionMatches(PyExc_AttributeError)) PyErr_Clear();
+        else if (value == NULL || PyDict_SetItem(slots, name, value) < 0) Py_CLEAR(slots);
+        Py_XDECREF(value);
+    }
+    Py_XDECREF(list);
+    Py_XDECREF(names);
+    Py_XDECREF(module);
+    return slots;
+}
+
+/* Returns the state as `object.__getstate__` of Python 3.11 does: the dict, or a pair of it and the slots if the object has some. */
+static PyObject *default_state(PyObject *self)
+{
+    PyObject *values = attribute_if_any(self, "__dict__");
+    if (values == NULL && !PyErr_Occurred()) values = Py_NewRef(Py_None);
+    PyObject *slots = values != NULL ? slots_of(self) : NULL;
+    PyObject *state = NULL;
+    if (slots != NULL) state = PyDict_GET_SIZE(slots) > 0 ? PyTuple_Pack(2, values, slots) : Py_NewRef(values);
+    Py_XDECREF(slots);
+    Py_XDECREF(values);
+    return state;
+}
+
 /* Returns the state of an object of a subclass as pickle stores it, or None. Before Python 3.11 only some objects have
  * `__getstate__`. */
 static PyObject *state_of(PyObject *self)
 {
     if (!PyType_HasFeature(Py_TYPE(self), Py_TPFLAGS_HEAPTYPE)) return Py_NewRef(Py_None);
     PyObject *get = attribute_if_any(self, "__getstate__");
-    PyObject *state = NULL;
-    if (get != NULL) state = PyObject_CallNoArgs(get);
-    else if (!PyErr_Occurred()) state = attribute_if_any(self, "__dict__");
+    PyObject *state = get != NULL ? PyObject_CallNoArgs(get) : PyErr_Occurred() ? NULL : default_state(self);
     Py_XDECREF(get);
-    return state != NULL || PyErr_Occurred() ? state : Py_NewRef(Py_None);
+    return state;
 }
 
 static bool set_attributes(PyObject *object, PyObject *values)

@@ -55,9 +55,9 @@ PyDoc_STRVAR(update_doc,
 "Add a weight to an item's, or to those of many: an iterable, a buffer of integers, an array of strings, or a column of\n"
 "Arrow or pandas.\n\n"
 "The weight is from 0 to 2**64 - 1, in a signed sketch from -2**63 to 2**63 - 1. Many items have one weight each, or a\n"
-"weight for each item in an iterable, a buffer or a column. Missing items and items with a missing weight are skipped. A\n"
-"mapping adds its values to the weights of its keys. Raise 'WeightOverflow' if the total weight would exceed the maximum.\n"
-"Then nothing is counted.\n\n"
+"weight for each item in an iterable, a buffer or a column. Missing items, such as None, and items with a missing weight of a\n"
+"column are skipped. A mapping adds its values to the weights of its keys. Raise 'WeightOverflow' if the total weight would\n"
+"exceed the maximum. Then nothing is counted.\n\n"
 "All items of a list, an array, a column or a mapping are checked before the first is counted. Any other iterable is\n"
 "checked and counted 4,096 items at a time. A later error has a note with the number of counted items.\n\n"
 ">>> import datasketches_rattle as ds\n"
@@ -89,21 +89,25 @@ static PyObject *count_at(PyObject *object, PyObject *item)
 }
 
 PyDoc_STRVAR(estimate_doc,
-"estimate($self, items, /)\n--\n\n"
+"estimate($self, items, /, *, missing=None)\n--\n\n"
 "Return the estimate of an item's weight, as `load[item]` does. It is never below what was added since the last halving\n"
 "or decay, if no weight is below 0.\n\n"
-"Return a list of estimates for many items, and an array for an array of numpy or pandas.\n\n"
+"Return a list of estimates for many items, an array for an array of numpy, and a Series with the same index for a Series of\n"
+"pandas. `missing`, a number, is the result of missing items. Without it they raise ValueError.\n\n"
 ">>> import datasketches_rattle as ds\n"
 ">>> load = ds.CountMinSketch(num_hashes=4, num_buckets=1 << 10)\n"
 ">>> load.update(7, 30)\n"
-">>> load.estimate(7), load.estimate([7, 'seven'])\n"
-"(30, [30, 0])\n");
+">>> load.estimate(7), load.estimate([7, 'seven', None], missing=0)\n"
+"(30, [30, 0, 0])\n");
 
-static PyObject *count_estimate(PyObject *object, PyObject *given)
+static PyObject *count_estimate(PyObject *object, PyObject *const *args, Py_ssize_t count, PyObject *names)
 {
     Sketch *self = (Sketch *)object;
-    const Call many = {.name = "estimate", .take = estimate_all, .type = has_sign(self) ? "i8" : "u8", .width = 1};
-    return is_single(given) ? count_at(object, given) : ask_all(self, given, &many);
+    const Call many = {
+        .name = "estimate", .take = estimate_all, .type = has_sign(self) ? "i8" : "u8", .width = 1, .has_missing = true};
+    PyObject *missing;
+    if (!query_arguments(many.name, args, count, names, &missing)) return NULL;
+    return is_single(args[0]) ? count_at(object, args[0]) : ask_all(self, args[0], &many, missing);
 }
 
 PyDoc_STRVAR(upper_bound_doc,
@@ -241,19 +245,17 @@ static PyGetSetDef count_fields[] = {
     {NULL, NULL, NULL, NULL, NULL},
 };
 
-#define FAST(function) (PyCFunction)(void (*)(void))(function)
-
 static PyMethodDef count_methods[] = {
-    {"update", FAST(sketch_update), METH_FASTCALL | METH_KEYWORDS, update_doc},
+    FAST_KEYWORDS_ROW("update", sketch_update, update_doc),
     KEYWORDS_ROW("update_words", sketch_words, 0, count_words_doc),
     KEYWORDS_ROW("update_lines", sketch_lines, 0, count_lines_doc),
     KEYWORDS_ROW("update_fields", sketch_fields, 0, count_fields_doc),
     CLASS_METHOD("from_file", count_from_file),
-    {"estimate", count_estimate, METH_O, estimate_doc},
+    FAST_KEYWORDS_ROW("estimate", count_estimate, estimate_doc),
     {"upper_bound", count_upper_bound, METH_O, upper_bound_doc},
     {"merge_all", sketch_merge_all, METH_O, merge_all_doc},
     {"halve", count_halve, METH_NOARGS, halve_doc},
-    {"decay", FAST(count_decay), METH_FASTCALL, decay_doc},
+    {"decay", (PyCFunction)(void (*)(void))count_decay, METH_FASTCALL, decay_doc},
     CLASS_METHOD("suggest_num_buckets", count_suggest_buckets),
     CLASS_METHOD("suggest_num_hashes", count_suggest_hashes),
     METHODS_OF_ALL,

@@ -1,4 +1,4 @@
-/* The words and the lines of files: what the Python module `_files` calls, and what calls it. */
+/* The words, the lines and the fields of files: what the Python module `_files` calls, and what calls it. */
 #include "items.h"
 #include "texts.h"
 
@@ -41,20 +41,43 @@ static PyObject *take_file(PyObject *Py_UNUSED(module), PyObject *args)
     PyObject *sketch, *given, *progress;
     int file, of_lines;
     size_t threads;
-    ds_fields_read read;
     Input input;
     if (!PyArg_ParseTuple(args, "OipOO", &sketch, &file, &of_lines, &given, &progress) || !is_of_texts(sketch) ||
         !threads_of((Sketch *)sketch, given, &threads))
         return NULL;
     const Taken taken = {.of_lines = of_lines != 0};
-    if (!input_open(file, &input) || !take_by_threads((Sketch *)sketch, &input, &taken, threads, progress, &read)) return NULL;
+    if (!input_open(file, &input) || !take_by_threads((Sketch *)sketch, &input, &taken, threads, progress, NULL)) return NULL;
     if (input.origin == FROM_FILE) lseek(file, (off_t)(input.start + input.length), SEEK_SET);
     Py_RETURN_NONE;
+}
+
+/* Counts or inserts the fields of `front`, which begins at byte `start`, and of an open file from its position on, and returns their
+ * numbers: `_take_fields(sketch, file, front, start, item, weight, delimiter, csv, threads, progress)`. */
+static PyObject *take_fields(PyObject *Py_UNUSED(module), PyObject *args)
+{
+    PyObject *sketch, *item, *weight, *delimiter, *given, *progress, *numbers = NULL;
+    int file, csv;
+    unsigned long long start;
+    Py_buffer front;
+    size_t threads;
+    ds_fields fields;
+    if (!PyArg_ParseTuple(args, "Oiy*KOOOpOO", &sketch, &file, &front, &start, &item, &weight, &delimiter, &csv, &given, &progress))
+        return NULL;
+    if (is_of_texts(sketch) && fields_of(item, weight, delimiter, csv != 0, &fields) &&
+        threads_of((Sketch *)sketch, given, &threads)) {
+        const Taken taken = {.of_lines = true, .fields = &fields};
+        const Input input = {
+            .origin = FROM_STREAM, .file = file, .start = start, .front = front.buf, .front_length = (size_t)front.len};
+        take_by_threads((Sketch *)sketch, &input, &taken, threads, progress, &numbers);
+    }
+    PyBuffer_Release(&front);
+    return numbers;
 }
 
 static PyMethodDef calls[] = {
     {"_threads", threads_call, METH_VARARGS, NULL},
     {"_take_file", take_file, METH_VARARGS, NULL},
+    {"_take_fields", take_fields, METH_VARARGS, NULL},
     {NULL, NULL, 0, NULL},
 };
 
@@ -93,39 +116,48 @@ PyObject *frequent_from_file(PyObject *type, PyObject *args, PyObject *keywords)
     return from_file("frequent_from_file", type, args, keywords);
 }
 
-/* The docs of `from_file`: its arguments after `split`, its result, the class's calls for words and lines, the end of the sentence
- * on threads, and an example. */
-#define FROM_FILE_DOC(arguments, result, words, lines, threads, example) \
+/* The docs of `from_file`: its arguments after `split`, its result, the class's calls for words, lines and fields, the fields, and an
+ * example. */
+#define FROM_FILE_DOC(arguments, result, words, lines, fields, chosen, example) \
     "from_file($type, path, split='words', " arguments ")\n--\n\n" \
     "Return " result " of the words of a file in UTF-8, or of its lines with `split='lines'`. They are those of `" words "`\n" \
-    "and `" lines "`; a byte order mark at the front is skipped. Raise 'InvalidUtf8' if some bytes are not UTF-8.\n\n" \
-    "`threads` threads read the file once, each into a sketch of the same sizes. By default there is one for each\n" \
-    "processor that the process may use, as far as their sketches take at most 1 GiB" threads "\n\n" \
-    "The file may be a pipe. With tqdm installed a bar shows the progress: by default on a terminal, after two seconds;\n" \
-    "with True always, and with False never.\n\n" \
+    "and `" lines "`; a byte order mark at the front is skipped. Raise 'InvalidUtf8' if some bytes are not UTF-8.\n\n" chosen \
+    " of each line instead, counted from 0, as `" fields "` does with `delimiter`. With\n" \
+    "`csv=True` records are those of CSV. The first one is a header, whose names are taken too, unless `header=False`.\n" \
+    "Records without the field are left out, with a warning.\n\n" \
+    "`threads` above 1 is the number of threads that read the file, each into a sketch of the same sizes. None is one for\n" \
+    "each processor that the process may use, as far as their sketches take at most 1 GiB.\n\n" \
+    "The file may be a pipe, also one that does not block: the call waits for its end. With tqdm installed a bar shows the\n" \
+    "progress: by default on a terminal, after two seconds; with True always, and with False never.\n\n" \
     ">>> import datasketches_rattle as ds, os, tempfile\n" \
     ">>> with tempfile.TemporaryDirectory() as folder:\n" \
     "...     path = os.path.join(folder, 'book.txt')\n" \
     "...     with open(path, 'w', encoding='utf-8') as book:\n" \
     "...         print('to be or not to be', file=book)\n" example
 
+/* The same for a class that counts. The example goes on with a table. */
+#define COUNTS_FROM_FILE_DOC(arguments, name, shape, example) \
+    FROM_FILE_DOC(arguments ", item=None, weight=None, delimiter=None, csv=False, header=True", "a sketch", "update_words", \
+                  "update_lines", "update_fields", "`item` is the field to take, and `weight` the field with its weight,", \
+                  "...     words = ds." name ".from_file(path" shape ")\n" \
+                  "...     with open(path, 'w', encoding='utf-8') as table:\n" \
+                  "...         print('page,bytes\\n/tea,500\\n/milk,80\\n/tea,120', file=table)\n" \
+                  "...     pages = ds." name ".from_file(path, csv=True, item='page', weight='bytes'" shape ")\n" example)
+
 const char filter_from_file_doc[] = PyDoc_STR(FROM_FILE_DOC(
-"*, num_bits, num_hashes, seed=9001, progress=None, threads=None", "a filter", "insert_words", "insert_lines", ".",
+"*, num_bits, num_hashes, seed=9001, progress=None, threads=1, item=None, delimiter=None, csv=False, header=True", "a filter",
+"insert_words", "insert_lines", "insert_fields", "`item` is the field to take",
 "...     seen = ds.BloomFilter.from_file(path, num_bits=1024, num_hashes=5)\n"
 ">>> 'not' in seen, 'apple' in seen\n"
 "(True, False)\n"));
 
 const char count_from_file_doc[] =
-    PyDoc_STR(FROM_FILE_DOC(
-"*, num_hashes, num_buckets, seed=9001, signed=False, progress=None, threads=None", "a sketch", "update_words", "update_lines", ".",
-"...     load = ds.CountMinSketch.from_file(path, num_hashes=4, num_buckets=1 << 10)\n"
-">>> load['be'], load.total_weight\n"
-"(2, 6)\n"));
+    PyDoc_STR(COUNTS_FROM_FILE_DOC(
+"*, num_hashes, num_buckets, seed=9001, signed=False, progress=None, threads=1", "CountMinSketch", ", num_hashes=4, num_buckets=1024",
+">>> words['be'], words.total_weight, pages['/tea'], pages.total_weight\n"
+"(2, 6, 620, 700)\n"));
 
-const char frequent_from_file_doc[] =
-    PyDoc_STR(FROM_FILE_DOC(
-"max_map_size=4096, sample_size=None, progress=None, key=None, threads=None", "a sketch", "update_words", "update_lines",
-". With `key`\nthere is only one, so that results are reproducible.",
-"...     words = ds.FrequentItemsSketch.from_file(path)\n"
-">>> words.top(2)\n"
-"[('be', 2, 2, 2), ('to', 2, 2, 2)]\n"));
+const char frequent_from_file_doc[] = PyDoc_STR(COUNTS_FROM_FILE_DOC(
+"max_map_size=4096, sample_size=None, progress=None, key=None, threads=1, *", "FrequentItemsSketch", "",
+">>> words.top(2), pages.top(1)\n"
+"([('be', 2, 2, 2), ('to', 2, 2, 2)], [('/tea', 620, 620, 620)])\n"));

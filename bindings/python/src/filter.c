@@ -44,7 +44,7 @@ static int32_t contains_and_insert_all(Batch *batch, const Chunk *chunk, void *r
 PyDoc_STRVAR(insert_doc,
 "insert($self, items, /)\n--\n\n"
 "Insert a str, an int, or each of many: a list or other iterable of these, a buffer of integers, an array of strings, or a\n"
-"column of Arrow or pandas, of which missing items are skipped.\n\n"
+"column of Arrow or pandas. Missing items, such as None in a list, are skipped.\n\n"
 "All items of a list, an array or a column are checked before the first is inserted. Any other iterable is checked and inserted\n"
 "4,096 items at a time. A later error has a note with the number of inserted items. A mapping is rejected: "
 "write 'insert(mapping.keys())'.\n\n"
@@ -80,47 +80,58 @@ static int filter_has(PyObject *object, PyObject *given)
 }
 
 PyDoc_STRVAR(contains_doc,
-"contains($self, items, /)\n--\n\n"
-"Return whether the filter contains an item. Return a list of bools for many items, and an array for an array of\n"
-"numpy or pandas.\n\n"
-"False is certain for items that were only inserted and never taken away. True may be a false positive.\n\n"
+"contains($self, items, /, *, missing=None)\n--\n\n"
+"Return whether the filter contains an item. Return a list of bools for many items, an array for an array of numpy, and a\n"
+"Series with the same index for a Series of pandas.\n\n"
+"False is certain for items that were only inserted and never taken away. True may be a false positive. `missing`, True or\n"
+"False, is the result of missing items. Without it they raise ValueError.\n\n"
 ">>> import datasketches_rattle as ds\n"
 ">>> seen = ds.BloomFilter(num_bits=1024, num_hashes=5)\n"
 ">>> seen.insert('apple')\n"
 ">>> seen.contains('apple')\n"
 "True\n"
 ">>> seen.contains(['apple', 'pear', 7])\n"
-"[True, False, False]\n");
+"[True, False, False]\n"
+">>> seen.contains(['apple', None], missing=False)\n"
+"[True, False]\n");
 
-static PyObject *filter_contains(PyObject *object, PyObject *given)
+static PyObject *filter_contains(PyObject *object, PyObject *const *args, Py_ssize_t count, PyObject *names)
 {
-    static const Call many = {.name = "contains", .take = contains_all, .type = "?", .width = 1};
-    if (!is_single(given)) return ask_all((Sketch *)object, given, &many);
-    int answer = filter_has(object, given);
+    static const Call many = {.name = "contains", .take = contains_all, .type = "?", .width = 1, .has_missing = true};
+    PyObject *missing;
+    if (!query_arguments(many.name, args, count, names, &missing)) return NULL;
+    if (!is_single(args[0])) return ask_all((Sketch *)object, args[0], &many, missing);
+    int answer = filter_has(object, args[0]);
     return answer < 0 ? NULL : PyBool_FromLong(answer);
 }
 
 PyDoc_STRVAR(contains_and_insert_doc,
-"contains_and_insert($self, items, /)\n--\n\n"
-"Insert an item, and return whether the filter contained it before. Return a list of bools for many items, and an array for an\n"
-"array of numpy or pandas. Many items are inserted one after another, so a repeated item is contained the second time.\n\n"
-"False is certain for items that were never inserted before the call took them. True may be a false positive. Missing items raise\n"
-"ValueError, as in `contains`, and errors are those of `insert`.\n\n"
+"contains_and_insert($self, items, /, *, missing=None)\n--\n\n"
+"Insert an item, and return whether the filter contained it before. Return the results of many items as `contains` does. Many\n"
+"items are inserted one after another, so a repeated item is contained the second time.\n\n"
+"False is certain for items that were never inserted before the call took them. True may be a false positive. Missing items are\n"
+"not inserted, and have the result `missing`, or raise ValueError without it, as in `contains`. Errors are those of `insert`.\n\n"
 ">>> import datasketches_rattle as ds\n"
 ">>> seen = ds.BloomFilter(num_bits=1024, num_hashes=5)\n"
 ">>> seen.contains_and_insert('apple'), seen.contains_and_insert('apple')\n"
 "(False, True)\n"
-">>> seen.contains_and_insert(['apple', 'pear', 'pear'])\n"
-"[True, False, True]\n");
+">>> seen.contains_and_insert(['apple', 'pear', None, 'pear'], missing=False)\n"
+"[True, False, False, True]\n");
 
-static PyObject *filter_contains_and_insert(PyObject *object, PyObject *given)
+static PyObject *filter_contains_and_insert(PyObject *object, PyObject *const *args, Py_ssize_t count, PyObject *names)
 {
-    static const Call many = {
-        .name = "contains_and_insert", .changes = true, .take = contains_and_insert_all, .type = "?", .width = 1};
+    static const Call many = {.name = "contains_and_insert",
+                              .changes = true,
+                              .take = contains_and_insert_all,
+                              .type = "?",
+                              .width = 1,
+                              .has_missing = true};
     Sketch *self = (Sketch *)object;
+    PyObject *missing;
     Item item;
-    if (!is_single(given)) return ask_all(self, given, &many);
-    if (!item_of(given, &item) || !sketch_ready_to_change(self)) return NULL;
+    if (!query_arguments(many.name, args, count, names, &missing)) return NULL;
+    if (!is_single(args[0])) return ask_all(self, args[0], &many, missing);
+    if (!item_of(args[0], &item) || !sketch_ready_to_change(self)) return NULL;
     int32_t answer = OF_ONE(contains_and_insert, &self->handle, item);
     return answer < 0 ? refuse(answer) : PyBool_FromLong(answer);
 }
@@ -203,13 +214,14 @@ PyDoc_STRVAR(deserialize_prefix_doc,
 ">>> rest = memoryview(images)\n"
 ">>> while rest:\n"
 "...     seen, used = ds.BloomFilter.deserialize_prefix(rest)\n"
-"...     print(seen.capacity, used)\n"
+"...     print(seen.num_bits, used)\n"
 "...     rest = rest[used:]\n"
 "64 24\n"
 "128 24\n");
 
 static PyGetSetDef filter_fields[] = {
-    {"capacity", sketch_number, NULL, "The filter's bits, a multiple of 64.", (void *)BITS},
+    {"num_bits", sketch_number, NULL, "The number of bits: that of the constructor, rounded up to a multiple of 64.", (void *)BITS},
+    {"capacity", sketch_number, NULL, "The same as `num_bits`.", (void *)BITS},
     {"num_hashes", sketch_number, NULL, "The number of bits that an item sets.", (void *)HASHES},
     {"seed", sketch_number, NULL, "The seed of the hashes.", (void *)SEED},
     {"bits_used", sketch_number, NULL, "The number of bits that are set.", (void *)BITS_USED},
@@ -222,8 +234,8 @@ static PyMethodDef filter_methods[] = {
     KEYWORDS_ROW("insert_lines", sketch_lines, 0, filter_lines_doc),
     KEYWORDS_ROW("insert_fields", sketch_fields, 0, filter_fields_doc),
     CLASS_METHOD("from_file", filter_from_file),
-    {"contains", filter_contains, METH_O, contains_doc},
-    {"contains_and_insert", filter_contains_and_insert, METH_O, contains_and_insert_doc},
+    FAST_KEYWORDS_ROW("contains", filter_contains, contains_doc),
+    FAST_KEYWORDS_ROW("contains_and_insert", filter_contains_and_insert, contains_and_insert_doc),
     {"union_all", sketch_merge_all, METH_O, union_all_doc},
     {"reset", sketch_reset, METH_NOARGS, reset_doc},
     CLASS_METHOD("suggest_num_bits", filter_suggest_bits),
@@ -253,7 +265,7 @@ PyDoc_STRVAR(filter_doc,
 ">>> 'apple' in seen, 'plum' in seen\n"
 "(True, False)\n"
 ">>> seen\n"
-"<BloomFilter capacity=1048576 num_hashes=7 seed=9001 bits_used=14>\n");
+"<BloomFilter num_bits=1048576 num_hashes=7 seed=9001 bits_used=14>\n");
 
 PyTypeObject filter_type = {
     /* clang-format off */

@@ -99,9 +99,9 @@ PyDoc_STRVAR(update_doc,
 "update($self, items, /, weight=1)\n--\n\n"
 "Add a weight, 0 to 2**64 - 1, to an item's, or to those of many: an iterable, a buffer of integers, an array of strings,\n"
 "or a column of Arrow or pandas.\n\n"
-"Many items have one weight each, or a weight for each item in an iterable, a buffer or a column. Missing items and items\n"
-"with a missing weight are skipped. A mapping adds its values to the weights of its keys. Raise 'WeightOverflow' if the\n"
-"total weight would exceed 2**64 - 1. Then nothing is counted.\n\n"
+"Many items have one weight each, or a weight for each item in an iterable, a buffer or a column. Missing items,\n"
+"such as None, and items with a missing weight of a column are skipped. A mapping adds its values to the weights of its\n"
+"keys. Raise 'WeightOverflow' if the total weight would exceed 2**64 - 1. Then nothing is counted.\n\n"
 "All items of a list, an array, a column or a mapping are checked before the first is counted. Any other iterable is\n"
 "checked and counted 4,096 items at a time. A later error has a note with the number of counted items.\n\n"
 ">>> import datasketches_rattle as ds\n"
@@ -144,21 +144,38 @@ static int32_t estimate_all(Batch *batch, const Chunk *chunk, void *results)
 }
 
 PyDoc_STRVAR(bounds_doc,
-"bounds($self, items, /)\n--\n\n"
+"bounds($self, items, /, *, missing=None)\n--\n\n"
 "Return the lower bound, the estimate and the upper bound of an item's weight. It lies between the first and the last.\n\n"
-"Return a list of these for many items, and an array with three columns for an array of numpy or pandas.\n\n"
+"Return a list of these for many items, an array with three columns for an array of numpy, and a DataFrame with the same index\n"
+"for a Series of pandas. `missing`, a number, is each bound of missing items. Without it they raise ValueError.\n\n"
 ">>> import datasketches_rattle as ds\n"
 ">>> heavy = ds.FrequentItemsSketch(8)\n"
 ">>> heavy.update(range(7))\n"
 ">>> heavy.bounds(3), heavy.bounds([3, 4])\n"
 "((0, 0, 1), [(0, 0, 1), (0, 0, 1)])\n");
 
-static PyObject *frequent_bounds(PyObject *object, PyObject *items)
+static PyObject *frequent_bounds(PyObject *object, PyObject *const *args, Py_ssize_t count, PyObject *names)
 {
-    static const Call many = {.name = "bounds", .check = counts_all, .take = bounds_all, .type = "u8", .width = 3};
+    static const Call many = {
+        .name = "bounds", .check = counts_all, .take = bounds_all, .type = "u8", .width = 3, .has_missing = true};
     ds_frequent_items_bounds bounds;
-    if (!is_single(items)) return ask_all((Sketch *)object, items, &many);
-    return bounds_of(object, items, &bounds) ? bounds_tuple(&bounds) : NULL;
+    PyObject *missing;
+    if (!query_arguments(many.name, args, count, names, &missing)) return NULL;
+    if (!is_single(args[0])) return ask_all((Sketch *)object, args[0], &many, missing);
+    return bounds_of(object, args[0], &bounds) ? bounds_tuple(&bounds) : NULL;
+}
+
+/* Returns whether an item has a counter: then its lower bound is above 0. */
+static int frequent_has(PyObject *object, PyObject *item)
+{
+    ds_frequent_items_bounds bounds;
+    return bounds_of(object, item, &bounds) ? bounds.lower_bound > 0 : -1;
+}
+
+static Py_ssize_t frequent_length(PyObject *object)
+{
+    ds_status status;
+    return sketch_status((Sketch *)object, &status) ? (Py_ssize_t)status.num_active_items : -1;
 }
 
 static PyObject *frequent_at(PyObject *object, PyObject *item)
@@ -168,19 +185,23 @@ static PyObject *frequent_at(PyObject *object, PyObject *item)
 }
 
 PyDoc_STRVAR(estimate_doc,
-"estimate($self, items, /)\n--\n\n"
+"estimate($self, items, /, *, missing=None)\n--\n\n"
 "Return the estimate of an item's weight, as `heavy[item]` does.\n\n"
-"Return a list of estimates for many items, and an array for an array of numpy or pandas.\n\n"
+"Return a list of estimates for many items, an array for an array of numpy, and a Series with the same index for a Series of\n"
+"pandas. `missing`, a number, is the result of missing items. Without it they raise ValueError.\n\n"
 ">>> import datasketches_rattle as ds\n"
 ">>> heavy = ds.FrequentItemsSketch(8)\n"
 ">>> heavy.update(7, 30)\n"
 ">>> heavy.estimate(7), heavy.estimate([7, 8])\n"
 "(30, [30, 0])\n");
 
-static PyObject *frequent_estimate(PyObject *object, PyObject *items)
+static PyObject *frequent_estimate(PyObject *object, PyObject *const *args, Py_ssize_t count, PyObject *names)
 {
-    static const Call many = {.name = "estimate", .check = counts_all, .take = estimate_all, .type = "u8", .width = 1};
-    return is_single(items) ? frequent_at(object, items) : ask_all((Sketch *)object, items, &many);
+    static const Call many = {
+        .name = "estimate", .check = counts_all, .take = estimate_all, .type = "u8", .width = 1, .has_missing = true};
+    PyObject *missing;
+    if (!query_arguments(many.name, args, count, names, &missing)) return NULL;
+    return is_single(args[0]) ? frequent_at(object, args[0]) : ask_all((Sketch *)object, args[0], &many, missing);
 }
 
 PyDoc_STRVAR(merge_all_doc,
@@ -265,13 +286,13 @@ static PyGetSetDef frequent_fields[] = {
 };
 
 static PyMethodDef frequent_methods[] = {
-    {"update", (PyCFunction)(void (*)(void))sketch_update, METH_FASTCALL | METH_KEYWORDS, update_doc},
+    FAST_KEYWORDS_ROW("update", sketch_update, update_doc),
     KEYWORDS_ROW("update_words", sketch_words, 0, frequent_words_doc),
     KEYWORDS_ROW("update_lines", sketch_lines, 0, frequent_lines_doc),
     KEYWORDS_ROW("update_fields", sketch_fields, 0, frequent_fields_doc),
     CLASS_METHOD("from_file", frequent_from_file),
-    {"bounds", frequent_bounds, METH_O, bounds_doc},
-    {"estimate", frequent_estimate, METH_O, estimate_doc},
+    FAST_KEYWORDS_ROW("bounds", frequent_bounds, bounds_doc),
+    FAST_KEYWORDS_ROW("estimate", frequent_estimate, estimate_doc),
     WITH_KEYWORDS("rows", frequent_rows),
     WITH_KEYWORDS("top", frequent_top),
     {"merge_all", sketch_merge_all, METH_O, merge_all_doc},
@@ -282,15 +303,17 @@ static PyMethodDef frequent_methods[] = {
 };
 
 static PyNumberMethods frequent_as_number = {.nb_add = sketch_merged, .nb_inplace_add = sketch_merge};
-static PyMappingMethods frequent_as_mapping = {.mp_subscript = frequent_at};
+static PySequenceMethods frequent_as_sequence = {.sq_contains = frequent_has};
+static PyMappingMethods frequent_as_mapping = {.mp_length = frequent_length, .mp_subscript = frequent_at};
 
 PyDoc_STRVAR(frequent_doc,
-"FrequentItemsSketch(max_map_size, item=int, sample_size=None, key=None)\n--\n\n"
+"FrequentItemsSketch(max_map_size, item='i64', sample_size=None, key=None)\n--\n\n"
 "The most frequent items, in at most three quarters of `max_map_size` counters. `max_map_size` is a power of two from 8\n"
 "to 2**30.\n\n"
-"`item` is int or 'i64' for numbers from -2**63 to 2**63 - 1, 'u64' for those from 0 to 2**64 - 1, and str for\n"
+"`item` is 'i64' or int for numbers from -2**63 to 2**63 - 1, 'u64' for those from 0 to 2**64 - 1, and str for\n"
 "strings. `sample_size` is the number of counters that a purge samples: an even number, by default the largest. `+` merges\n"
-"two sketches, and `+=` merges another one into this. `heavy += heavy` doubles all weights.\n\n"
+"two sketches, and `+=` merges another one into this. `heavy += heavy` doubles all weights. `item in heavy` is whether an item\n"
+"has a counter, and `len(heavy)` the number of counters. So an empty sketch is false.\n\n"
 "The table hashes items under a secret key. No way is known to choose items that slow it down. This holds for callers who see\n"
 "no images, rows, walks or times of calls of sketches under the key. By default each sketch gets a drawn key. `key`, 16 bytes,\n"
 "fixes it: runs with the same key are reproducible. Other runs may purge other counters, within the same bounds. A copy keeps\n"
@@ -303,6 +326,8 @@ PyDoc_STRVAR(frequent_doc,
 ">>> heavy += more\n"
 ">>> heavy[-7], heavy.bounds(8)\n"
 "(31, (1, 1, 1))\n"
+">>> 8 in heavy, 9 in heavy, len(heavy)\n"
+"(True, False, 2)\n"
 ">>> heavy\n"
 "<FrequentItemsSketch max_map_size=1024 item=i64 total_weight=32>\n"
 ">>> words = ds.FrequentItemsSketch(1024, item=str)\n"
@@ -316,5 +341,6 @@ PyTypeObject frequent_type = {
     /* clang-format on */
     FIELDS_OF_ALL(frequent, "FrequentItemsSketch"),
     .tp_hash = frequent_hash,
+    .tp_as_sequence = &frequent_as_sequence,
     .tp_as_mapping = &frequent_as_mapping,
 };

@@ -255,8 +255,10 @@ PyObject *array_entries(PyObject *array, const char *what)
     else if (count > 0 && (kind == 'M' || kind == 'm'))
         PyErr_Format(PyExc_TypeError, "an array of %s has no times (%S): write array.astype('int64')", what, dtype);
     else if (count > 0 && kind >= 0)
-        PyErr_Format(PyExc_TypeError, "an array of %s has integers%s, not %S", what,
-                     strcmp(what, "weights") == 0 ? "" : " or strings", dtype);
+        PyErr_Format(PyExc_TypeError, "an array of %s has integers%s, not %S%s", what,
+                     strcmp(what, "weights") == 0 ? "" : " or strings", dtype,
+                     kind == 'f' ? ": write array.astype('int64') for whole numbers, or series.astype('Int64') if some are missing"
+                                 : "");
     Py_XDECREF(dtype);
     if (list == NULL || PyList_Check(list)) return list;
     if (!PyErr_Occurred()) PyErr_SetString(PyExc_TypeError, "tolist() of the array returned no list");

@@ -97,6 +97,13 @@ int is_series(PyObject *object);
 /* Finds out what the items of a Series are read from. Its missing values are those of its `isna`. */
 bool series_source(PyObject *series, bool of_weights, Source *source);
 
+/* Takes the array of results of a query. Returns a Series of them with the labels of the items if these are a Series of pandas, or a
+ * DataFrame if a result is three numbers, and else the array. */
+PyObject *series_results(PyObject *given, PyObject *results);
+
+/* Returns whether the object is no Series that looks as `value_counts` returns it. Sets an error if it is: its weights would be items. */
+bool no_counts(PyObject *given, const char *call);
+
 /* --- runs.c --- */
 
 /* How the rows of a run are stored. In strings of a fixed size, NULs at the end are dropped, as numpy does. */
@@ -214,7 +221,7 @@ typedef struct {
     bool with_sign;  /* whether the numbers of runs are signed */
     bool of_entries; /* whether the runs have dictionaries */
     bool has_gaps;   /* whether an item may be missing */
-    bool *missing;   /* NULL, or a bool for each item */
+    bool *missing;   /* NULL, or a bool for each item, and of an iterator for each of `room` */
     Py_buffer view;
     PyObject *iterator; /* NULL if all items are read */
     PyObject **held;    /* the objects of the iterator's chunk */
@@ -284,6 +291,8 @@ typedef struct {
     uint64_t began, took;  /* start and duration of an iterator's chunk, in nanoseconds */
     uint64_t turn;         /* the time from which its chunks keep the interpreter's lock, or 0 */
     size_t done;           /* the number of items that were counted or inserted */
+    bool takes_missing;    /* whether missing items have the result `missing` */
+    uint64_t missing;
 } Batch;
 
 /* Results of work besides the library's: STOPPED if an error is set, and CHANGED if a buffer changed after it was checked. */
@@ -328,13 +337,18 @@ struct Call {
     const void *context; /* what `take` reads besides the sketch */
     const char *type;    /* of a query: numpy's name of the type of a result: "?", "u8" or "i8" */
     int width;           /* of a query: how many numbers of this type a result has: 1, or the 3 of bounds */
+    bool has_missing;    /* of a query: whether it has the argument `missing` */
 };
 
 /* Updates the sketch with all items, and releases them. */
 PyObject *update_all(Sketch *self, Items *items, Weights *weights, const Call *call);
 
-/* Returns the results of a query: an array if the items come from a numpy array or a pandas Series, else a list. */
-PyObject *ask_all(Sketch *self, PyObject *given, const Call *call);
+/* Returns the results of a query: a Series if the items come from a Series of pandas, an array if they come from an array of numpy or
+ * another column, else a list. `missing` is the result of missing items, or NULL or None if the query rejects them. */
+PyObject *ask_all(Sketch *self, PyObject *given, const Call *call, PyObject *missing);
+
+/* Finds the argument `missing` of a query, or NULL. Returns false, with an error set, if the arguments are others. */
+bool query_arguments(const char *name, PyObject *const *args, Py_ssize_t count, PyObject *names, PyObject **missing);
 
 /* Returns bounds as a tuple. */
 PyObject *bounds_tuple(const ds_frequent_items_bounds *bounds);

@@ -83,8 +83,8 @@ static int32_t hash_all(Batch *batch, const Chunk *chunk, void *results)
 
 PyDoc_STRVAR(keyed_hash_doc,
 "keyed_hash(key, items, /)\n--\n\n"
-"Return SipHash-1-3 of an item under `key`, a number from 0 to 2**64 - 1. Return a list of hashes for many strings, and an\n"
-"array for an array of numpy or pandas.\n\n"
+"Return SipHash-1-3 of an item under `key`, a number from 0 to 2**64 - 1. Return a list of hashes for many strings, an array\n"
+"for an array of numpy, and a Series with the same index for a Series of pandas.\n\n"
 "`key` is 16 bytes, and an item a str, hashed as UTF-8, or bytes. A caller who chooses the items of a sketch can choose ones\n"
 "whose hashes collide. Insert this hash in place of such an item: without the key, no way is known to choose items that\n"
 "collide. Take the key from `secrets.token_bytes(16)`. Sketches that are merged need the same key. A `FrequentItemsSketch`\n"
@@ -111,7 +111,7 @@ static PyObject *keyed_hash(PyObject *Py_UNUSED(module), PyObject *const *args, 
         return text != NULL ? hash_of((const uint8_t *)text, (size_t)length, &key) : NULL;
     }
     int of_many = is_many(args[1]);
-    if (of_many != 0) return of_many > 0 ? ask_all(NULL, args[1], &many) : NULL;
+    if (of_many != 0) return of_many > 0 ? ask_all(NULL, args[1], &many, NULL) : NULL;
     if (!open_bytes(args[1], "an item", "a str or bytes", &image)) return NULL;
     PyObject *hash = hash_of(image.bytes, image.length, &key);
     image_release(&image);

@@ -150,16 +150,31 @@ static bool read_one(PyObject *object, Items *items, Item *item)
     return read;
 }
 
-/* Reads the objects of the tuple, but for the missing ones. Returns NULL, with an error set, if one is no item. */
-static Item *read_tuple(Items *items)
+/* Marks an item as missing. `count` is the number of items. */
+static bool mark_missing(Items *items, size_t at, size_t count)
+{
+    if (items->missing == NULL) items->missing = PyMem_Calloc(count, sizeof(bool));
+    if (items->missing == NULL) {
+        PyErr_NoMemory();
+        return false;
+    }
+    items->missing[at] = items->has_gaps = true;
+    return true;
+}
+
+/* Reads the objects of the tuple, but for the missing ones, among which is None if `skips_none`. Returns NULL, with an error set, if an
+ * object is no item. */
+static Item *read_tuple(Items *items, bool skips_none)
 {
     size_t count = (size_t)PyTuple_GET_SIZE(items->tuple), i = 0;
     Item *read = PyMem_New(Item, count);
     if (read == NULL) PyErr_NoMemory();
     for (; read != NULL && i < count; i++) {
+        PyObject *object = PyTuple_GET_ITEM(items->tuple, (Py_ssize_t)i);
         read[i] = (Item){.missing = true};
-        bool is_there = items->missing == NULL || !items->missing[i];
-        if ((is_there && !read_one(PyTuple_GET_ITEM(items->tuple, (Py_ssize_t)i), items, &read[i])) ||
+        if (items->missing != NULL && items->missing[i]) continue;
+        bool is_none = skips_none && object == Py_None;
+        if ((is_none ? !mark_missing(items, i, count) : !read_one(object, items, &read[i])) ||
             (i % SIGNALS == SIGNALS - 1 && PyErr_CheckSignals() < 0))
             break;
     }
@@ -168,11 +183,11 @@ static Item *read_tuple(Items *items)
     return NULL;
 }
 
-static bool items_of_tuple(PyObject *object, Items *items)
+static bool items_of_tuple(PyObject *object, Items *items, bool skips_none)
 {
     items->tuple = PySequence_Tuple(object);
     if (items->tuple == NULL || !set_count(items, (size_t)PyTuple_GET_SIZE(items->tuple))) return false;
-    items->items = read_tuple(items);
+    items->items = read_tuple(items, skips_none);
     return items->items != NULL;
 }
 
@@ -180,7 +195,7 @@ static bool items_of_tuple(PyObject *object, Items *items)
 static bool items_of_categories(const Source *source, Items *items)
 {
     items->tuple = PySequence_Tuple(source->categories);
-    Item *entries = items->tuple != NULL ? read_tuple(items) : NULL;
+    Item *entries = items->tuple != NULL ? read_tuple(items, false) : NULL;
     bool with_texts = items->with_texts, opened = entries != NULL && items_of_buffer(source->values, items);
     items->with_texts = with_texts;
     if (!opened || items->num_runs == 0) {
@@ -201,25 +216,6 @@ static bool items_of_iterable(PyObject *object, Items *items)
     if (Py_TYPE(object)->tp_iter == NULL && !PySequence_Check(object)) set_wrong_type(object, items);
     else items->iterator = PyObject_GetIter(object);
     return items->iterator != NULL;
-}
-
-/* Marks each None of a list as missing, as a Series does. */
-static bool find_none(PyObject *list, Items *items)
-{
-    size_t count = (size_t)PyList_GET_SIZE(list);
-    for (size_t i = 0; i < count; i++) {
-        if (PyList_GET_ITEM(list, (Py_ssize_t)i) != Py_None) continue;
-        if (items->missing == NULL) {
-            items->missing = PyMem_Calloc(count, sizeof(bool));
-            items->count = count;
-        }
-        if (items->missing == NULL || !set_count(items, count)) {
-            if (items->missing == NULL) PyErr_NoMemory();
-            return false;
-        }
-        items->missing[i] = items->has_gaps = true;
-    }
-    return true;
 }
 
 /* Returns whether the error that is set says that a buffer has another format, or is of a kind that cannot be exported. */
@@ -246,7 +242,7 @@ static bool items_of_entries(PyObject *array, Items *items)
     Py_XDECREF(trace);
     if (in_array < 0) return false;
     PyObject *entries = array_entries(array, name_of(items));
-    bool opened = entries != NULL && find_none(entries, items) && items_of_tuple(entries, items);
+    bool opened = entries != NULL && items_of_tuple(entries, items, true);
     Py_XDECREF(entries);
     return opened;
 }
@@ -260,7 +256,8 @@ bool items_open(const Source *source, Items *items)
     else if (source->of_arrow) opened = arrow_open(source, items);
     else if (source->categories != NULL) opened = items_of_categories(source, items);
     else if (PyObject_CheckBuffer(values)) opened = items_of_buffer(values, items) || items_of_entries(values, items);
-    else if (PyList_Check(values) || PyTuple_Check(values) || PyAnySet_Check(values)) opened = items_of_tuple(values, items);
+    else if (PyList_Check(values) || PyTuple_Check(values) || PyAnySet_Check(values))
+        opened = items_of_tuple(values, items, !items->of_weights);
     else opened = items_of_iterable(values, items);
     if (!opened) items_release(items);
     return opened;
@@ -279,20 +276,36 @@ static bool has_place(Items *items)
     PyObject **held = room <= PY_SSIZE_T_MAX / sizeof(Item) ? PyMem_Realloc(items->held, room * sizeof *held) : NULL;
     if (held != NULL) items->held = held;
     Item *read = held != NULL ? PyMem_Realloc(items->items, room * sizeof(Item)) : NULL;
-    if (read == NULL) {
+    if (read != NULL) items->items = read;
+    bool *missing = read != NULL && items->missing != NULL ? PyMem_Realloc(items->missing, room * sizeof(bool)) : NULL;
+    if (missing != NULL) {
+        memset(missing + items->room, 0, (room - items->room) * sizeof(bool));
+        items->missing = missing;
+    }
+    if (read == NULL || (items->missing != NULL && missing == NULL)) {
         PyErr_NoMemory();
         return false;
     }
-    items->items = read;
     items->room = room;
     return true;
+}
+
+/* Reads the last object that an iterator returned. None is a missing item, and no weight. */
+static bool read_held(Items *items)
+{
+    size_t at = items->num_held - 1;
+    PyObject *object = items->held[at];
+    items->items[at] = (Item){.missing = true};
+    return object == Py_None && !items->of_weights ? mark_missing(items, at, items->room)
+                                                   : read_one(object, items, &items->items[at]);
 }
 
 bool items_next(Items *items, size_t most)
 {
     let_go(items);
     items->count = 0;
-    items->with_texts = items->with_numbers = false;
+    items->with_texts = items->with_numbers = items->has_gaps = false;
+    if (items->missing != NULL) memset(items->missing, 0, items->room * sizeof(bool));
     if (!has_place(items) || PyErr_CheckSignals() < 0) return false;
     while (items->iterator != NULL && items->num_held < most) {
         if (!has_place(items) || (items->num_held % SIGNALS == SIGNALS - 1 && PyErr_CheckSignals() < 0)) return false;
@@ -303,7 +316,7 @@ bool items_next(Items *items, size_t most)
             break;
         }
         items->held[items->num_held++] = object;
-        if (!read_one(object, items, &items->items[items->num_held - 1])) return false;
+        if (!read_held(items)) return false;
     }
     items->count = items->num_held;
     return true;

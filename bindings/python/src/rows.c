@@ -15,22 +15,36 @@ typedef struct {
     size_t most;
 } Wanted;
 
-/* The rows for Python: a list of tuples, or four lists. */
+/* The rows for Python: a list of objects of the package's class `Row`, or four lists. */
 typedef struct {
     PyObject *rows;
+    PyTypeObject *row_type;
     PyObject *columns[4];
 } RowList;
+
+/* Returns the class of rows: named tuples of four. */
+static PyTypeObject *row_type_of(void)
+{
+    PyObject *module = PyImport_ImportModule("datasketches_rattle._rows");
+    PyObject *type = module != NULL ? attribute(module, "Row") : NULL;
+    Py_XDECREF(module);
+    if (type != NULL && PyType_Check(type) && PyType_IsSubtype((PyTypeObject *)type, &PyTuple_Type)) return (PyTypeObject *)type;
+    if (type != NULL) PyErr_SetString(PyExc_TypeError, "datasketches_rattle._rows.Row is no class of tuples");
+    Py_XDECREF(type);
+    return NULL;
+}
 
 /* Returns false, with an error set, if allocation fails. `row_list_close` is called in any case. */
 static bool row_list_open(RowList *list, bool columns)
 {
     bool good = true;
     *list = (RowList){.rows = columns ? NULL : PyList_New(0)};
+    if (list->rows != NULL) list->row_type = row_type_of();
     for (int i = 0; columns && i < 4; i++) {
         list->columns[i] = PyList_New(0);
         good &= list->columns[i] != NULL;
     }
-    return columns ? good : list->rows != NULL;
+    return columns ? good : list->row_type != NULL;
 }
 
 /* Takes an object, which may be NULL, and appends it. */
@@ -41,14 +55,27 @@ static bool append(PyObject *list, PyObject *object)
     return done;
 }
 
+/* Takes an item, and returns a row. */
+static PyObject *row_of(PyTypeObject *type, PyObject *item, const unsigned long long *numbers)
+{
+    PyObject *row = type->tp_alloc(type, 4);
+    if (row == NULL) Py_DECREF(item);
+    else PyTuple_SET_ITEM(row, 0, item);
+    for (int i = 0; row != NULL && i < 3; i++) {
+        PyObject *number = PyLong_FromUnsignedLongLong(numbers[i]);
+        if (number == NULL) Py_CLEAR(row);
+        else PyTuple_SET_ITEM(row, i + 1, number);
+    }
+    return row;
+}
+
 /* Takes an item, which may be NULL, and appends a row. Returns false, with an error set, if it is NULL or allocation fails. */
 static bool row_list_append(RowList *list, PyObject *item, const ds_frequent_items_bounds *bounds)
 {
     const unsigned long long numbers[] = {bounds->lower_bound, bounds->estimate, bounds->upper_bound};
     PyObject *filled = list->rows != NULL ? list->rows : list->columns[0];
     if (item == NULL) return false;
-    bool done = list->rows != NULL ? append(list->rows, Py_BuildValue("NKKK", item, numbers[0], numbers[1], numbers[2]))
-                                   : append(list->columns[0], item);
+    bool done = list->rows != NULL ? append(list->rows, row_of(list->row_type, item, numbers)) : append(list->columns[0], item);
     for (int i = 0; done && list->rows == NULL && i < 3; i++)
         done = append(list->columns[i + 1], PyLong_FromUnsignedLongLong(numbers[i]));
     if (done && PyList_GET_SIZE(filled) % ROWS_AT_ONCE == 0) {
@@ -66,6 +93,7 @@ static PyObject *row_list_close(RowList *list, bool good)
         result = Py_BuildValue("{sOsOsOsO}", "item", columns[0], "lower_bound", columns[1], "estimate", columns[2], "upper_bound",
                                columns[3]);
     for (int i = 0; i < 4; i++) Py_XDECREF(columns[i]);
+    Py_XDECREF(list->row_type);
     if (!good) Py_CLEAR(result);
     return result;
 }
@@ -195,7 +223,7 @@ static PyObject *wanted_rows(PyObject *object, Wanted *wanted, const char *no_fa
 
 const char frequent_rows_doc[] = PyDoc_STR(
 "rows($self, /, threshold=0, no_false='negatives', columns=False)\n--\n\n"
-"Return the heavy hitters, heaviest first: a list of (item, lower bound, estimate, upper bound).\n\n"
+"Return the heavy hitters, heaviest first: a list of rows (item, lower bound, estimate, upper bound), as `ds.Row` names them.\n\n"
 "No item is missing that weighs more than `threshold` and more than `maximum_error`. With `no_false='positives'` each\n"
 "returned item weighs more than both, and some of these items may be missing. With `columns=True` the result is a dict of\n"
 "four lists, which `pandas.DataFrame` takes.\n\n"
@@ -204,6 +232,8 @@ const char frequent_rows_doc[] = PyDoc_STR(
 ">>> heavy.update([7, 7, 7, 8, 8, -9])\n"
 ">>> heavy.rows(threshold=1)\n"
 "[(7, 3, 3, 3), (8, 2, 2, 2)]\n"
+">>> [row.item for row in heavy.rows() if row.lower > 1]\n"
+"[7, 8]\n"
 ">>> heavy.rows(threshold=1, columns=True)\n"
 "{'item': [7, 8], 'lower_bound': [3, 2], 'estimate': [3, 2], 'upper_bound': [3, 2]}\n");
 

@@ -116,3 +116,35 @@ bool series_source(PyObject *series, bool of_weights, Source *source)
     Py_XDECREF(dtype);
     return found;
 }
+
+/* Calls a function of the package's module `_series`, which is for pandas. */
+static PyObject *of_pandas(const char *name, PyObject *first, PyObject *second)
+{
+    PyObject *module = PyImport_ImportModule("datasketches_rattle._series");
+    PyObject *function = module != NULL ? attribute(module, name) : NULL;
+    PyObject *result = function != NULL ? PyObject_CallFunctionObjArgs(function, first, second, NULL) : NULL;
+    Py_XDECREF(module);
+    Py_XDECREF(function);
+    return result;
+}
+
+PyObject *series_results(PyObject *given, PyObject *results)
+{
+    int series = is_of(given, "pandas", "Series");
+    if (series == 0) return results;
+    PyObject *made = series > 0 ? of_pandas("results", given, results) : NULL;
+    Py_DECREF(results);
+    return made;
+}
+
+bool no_counts(PyObject *given, const char *call)
+{
+    bool is_other = PyList_Check(given) || PyTuple_Check(given) || PyAnySet_Check(given) || PyObject_CheckBuffer(given);
+    int series = is_other ? 0 : is_of(given, "pandas", "Series");
+    if (series <= 0) return series == 0;
+    PyObject *name = PyUnicode_FromString(call);
+    PyObject *checked = name != NULL ? of_pandas("reject_counts", given, name) : NULL;
+    Py_XDECREF(name);
+    Py_XDECREF(checked);
+    return checked != NULL;
+}

@@ -329,7 +329,7 @@ PyObject *sketch_repr(PyObject *self)
     unsigned long long bits = status.num_bits, used = status.bits_used;
     switch (status.kind) {
     case DS_BLOOM:
-        return PyUnicode_FromFormat("<%s capacity=%llu num_hashes=%u seed=%llu bits_used=%llu>", name, bits, hashes, seed, used);
+        return PyUnicode_FromFormat("<%s num_bits=%llu num_hashes=%u seed=%llu bits_used=%llu>", name, bits, hashes, seed, used);
     case DS_COUNT_MIN_U64:
     case DS_COUNT_MIN_I64:
         return PyUnicode_FromFormat("<%s num_hashes=%u num_buckets=%u seed=%llu%s>", name, hashes, buckets, seed,
@@ -402,47 +402,58 @@ PyDoc_STRVAR(error_doc,
 "...     print(error.kind, error.fault, error)\n"
 "InvalidArgument BadNumBits num_bits out of range\n");
 
-static struct PyModuleDef module = {
-    PyModuleDef_HEAD_INIT,
-    .m_name = "datasketches_rattle._sketches",
-    .m_size = -1,
-    .m_doc = "Sketches over a proved library for C.",
-};
-
-/* Adds the class attribute for the maximum bytes of an unpickled sketch. A subclass may change it. */
-static bool add_limit(PyTypeObject *type)
+/* Makes the type ready, with the class attribute for the maximum bytes of an unpickled sketch, which a subclass may change. The type's dict
+ * is made by `PyType_Ready`, which skips types that have one. Interpreters that share a lock share the type. */
+static bool ready_class(PyTypeObject *type)
 {
+    if (PyType_HasFeature(type, Py_TPFLAGS_READY)) return true;
     PyObject *limit = PyLong_FromSize_t(DEFAULT_LIMIT);
-    type->tp_dict = limit != NULL ? PyDict_New() : NULL;
-    bool done = type->tp_dict != NULL && PyDict_SetItemString(type->tp_dict, "unpickle_max_bytes", limit) == 0;
+    bool done = limit != NULL && PyType_Ready(type) == 0 && PyDict_SetItemString(type->tp_dict, "unpickle_max_bytes", limit) == 0;
     Py_XDECREF(limit);
+    PyType_Modified(type);
     return done;
 }
 
 static bool add_classes(PyObject *m)
 {
     bool done = true;
-    for (size_t i = 0; done && i < NUM_CLASSES; i++) {
-        PyTypeObject *type = classes[i].type;
-        done = (type->tp_dict != NULL || add_limit(type)) && PyModule_AddType(m, type) == 0;
-    }
+    for (size_t i = 0; done && i < NUM_CLASSES; i++)
+        done = ready_class(classes[i].type) && PyModule_AddType(m, classes[i].type) == 0;
     return done;
 }
 
+/* Adds the class of errors, which interpreters that share a lock share, too. */
+static bool add_error(PyObject *m)
+{
+    PyObject *fields = Py_BuildValue("{sOsOsO}", "kind", Py_None, "fault", Py_None, "byte", Py_None);
+    if (sketch_error == NULL && fields != NULL)
+        sketch_error = PyErr_NewExceptionWithDoc("datasketches_rattle.SketchError", error_doc, NULL, fields);
+    Py_XDECREF(fields);
+    return sketch_error != NULL && PyModule_AddObjectRef(m, "SketchError", sketch_error) == 0;
+}
+
+static int fill_module(PyObject *m)
+{
+    bool done = add_error(m) && add_classes(m) && add_keyed_hash(m) && add_file_calls(m) &&
+                PyModule_AddStringConstant(m, "__version__", ds_version()) == 0;
+    return done ? 0 : -1;
+}
+
+/* From Python 3.12 on an interpreter may have a lock of its own. Such a one raises ImportError before the module is filled. */
+static PyModuleDef_Slot slots[] = {
+    {Py_mod_exec, fill_module},
+#if PY_VERSION_HEX >= 0x030C0000
+    {Py_mod_multiple_interpreters, Py_MOD_MULTIPLE_INTERPRETERS_NOT_SUPPORTED},
+#endif
+    {0, NULL},
+};
+
+static struct PyModuleDef module = {
+    PyModuleDef_HEAD_INIT, .m_name = "datasketches_rattle._sketches", .m_size = 0, .m_doc = "Sketches over a proved library for C.",
+    .m_slots = slots,
+};
+
 PyMODINIT_FUNC PyInit__sketches(void)
 {
-    PyObject *m = PyModule_Create(&module);
-    PyObject *fields = Py_BuildValue("{sOsOsO}", "kind", Py_None, "fault", Py_None, "byte", Py_None);
-    if (m == NULL || fields == NULL) goto failed;
-    sketch_error = PyErr_NewExceptionWithDoc("datasketches_rattle.SketchError", error_doc, NULL, fields);
-    if (sketch_error == NULL || PyModule_AddObjectRef(m, "SketchError", sketch_error) < 0) goto failed;
-    if (!add_classes(m) || !add_keyed_hash(m) || !add_file_calls(m) ||
-        PyModule_AddStringConstant(m, "__version__", ds_version()) < 0)
-        goto failed;
-    Py_DECREF(fields);
-    return m;
-failed:
-    Py_XDECREF(fields);
-    Py_XDECREF(m);
-    return NULL;
+    return PyModuleDef_Init(&module);
 }

@@ -280,6 +280,12 @@ extern PyTypeObject frequent_type;
         name, (PyCFunction)(void (*)(void))function, (flags) | METH_VARARGS | METH_KEYWORDS, doc \
     }
 
+/* A method of one item or many, which takes keywords without a tuple and a dict. */
+#define FAST_KEYWORDS_ROW(name, function, doc) \
+    { \
+        name, (PyCFunction)(void (*)(void))function, METH_FASTCALL | METH_KEYWORDS, doc \
+    }
+
 /* A method that takes keywords. */
 #define WITH_KEYWORDS(name, function) KEYWORDS_ROW(name, function, 0, function##_doc)
 

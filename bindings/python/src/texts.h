@@ -81,19 +81,29 @@ typedef struct {
     const uint8_t *bytes; /* of memory */
     bool may_change;      /* of memory: then each piece is copied before the library reads it */
     int file;             /* of a file or a stream: its descriptor */
-    uint64_t start;       /* of a file: the place of the first byte */
+    uint64_t start;       /* of a file or a stream: the place of the first byte */
     uint64_t length;      /* the number of bytes, but of a stream 0 */
+    const uint8_t *front; /* of a stream: bytes that were read before, and come first */
+    size_t front_length;
 } Input;
 
 /* Reads a number of threads, from 1 to 1024. None is one for each processor that the process may use, as far as sketches like this
  * one take at most 1 GiB in all. Returns false, with an error set, if the object is none of these. */
 bool threads_of(Sketch *self, PyObject *object, size_t *threads);
 
-/* Counts or inserts all words, lines or fields, by threads that take pieces of about PIECE bytes. Fields are those of memory. Each
- * thread has a sketch of its own, and all are merged at the end. Calls `progress`, unless it is NULL, with numbers of bytes that were
- * taken. Writes the numbers of records and of their items, for fields. Returns false, with an error set, if some bytes are rejected or
- * cannot be read, or if Ctrl-C ends the call. Then the sketch is as before. */
-bool take_by_threads(Sketch *self, const Input *input, const Taken *taken, size_t threads, PyObject *progress,
-                     ds_fields_read *read);
+/* Counts or inserts all words, lines or fields, by threads that take pieces of about PIECE bytes. A regular file has no fields: those of
+ * a file are read as a stream. Each thread has a sketch of its own, and all are merged at the end. Calls `progress`, unless it is NULL,
+ * with numbers of bytes that were taken. For fields it sets `numbers` to the tuple that `field_numbers` returns. Returns false, with an
+ * error set, if some bytes are rejected or cannot be read, or if Ctrl-C ends the call. Then the sketch is as before. */
+bool take_by_threads(Sketch *self, const Input *input, const Taken *taken, size_t threads, PyObject *progress, PyObject **numbers);
+
+/* --- words.c --- */
+
+/* Returns a tuple of the number of records, and of those without an item. */
+PyObject *field_numbers(size_t num_records, size_t num_items);
+
+/* Reads the arguments of a call for fields: indices, of which `weight` may be NULL, a delimiter, which may be NULL, and the format.
+ * Returns false, with an error set, if one is wrong. */
+bool fields_of(PyObject *item, PyObject *weight, PyObject *delimiter, bool csv, ds_fields *fields);
 
 #endif

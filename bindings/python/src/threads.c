@@ -182,8 +182,16 @@ static int32_t read_next(Job *job, Buffer *buffer, size_t count)
     return DS_OK;
 }
 
-/* Reads a piece, and leaves what follows its last whole word or line for the next one. Without an end of a word or line in it, the
- * piece grows to twice its size. */
+/* Returns the number of bytes through the last end of a word, line or record. */
+static size_t finished(const Taken *what, const Buffer *buffer)
+{
+    if (what->fields != NULL && what->fields->format == DS_FIELDS_CSV)
+        return ds_finished_csv_records(buffer->bytes, buffer->length, what->fields->delimiter);
+    return what->of_lines ? ds_finished_lines(buffer->bytes, buffer->length) : ds_finished_words(buffer->bytes, buffer->length);
+}
+
+/* Reads a piece, and leaves what follows its last whole word, line or record for the next one. Without an end of one in it, the piece
+ * grows to twice its size. */
 static int32_t read_piece(Job *job, Buffer *buffer, size_t *used)
 {
     buffer->length = 0;
@@ -195,9 +203,7 @@ static int32_t read_piece(Job *job, Buffer *buffer, size_t *used)
             answer = read_next(job, buffer, wanted - buffer->length);
         if (atomic_load(&job->stopped)) return DS_OK;
         if (job->at_end) *used = buffer->length;
-        else if (answer >= 0)
-            *used = job->what->of_lines ? ds_finished_lines(buffer->bytes, buffer->length)
-                                        : ds_finished_words(buffer->bytes, buffer->length);
+        else if (answer >= 0) *used = finished(job->what, buffer);
         if (job->at_end) break;
     }
     return answer >= 0 ? append(&job->rest, buffer->bytes + *used, buffer->length - *used) : answer;
@@ -379,8 +385,11 @@ static bool prepare(Job *job, Sketch *self, size_t threads)
 {
     Use use = {.sketch = self};
     int32_t answer;
+    const Input *input = job->input;
     job->parts = PyMem_RawCalloc(threads, sizeof *job->parts);
     if (job->parts == NULL) return PyErr_NoMemory() != NULL;
+    if (input->origin == FROM_STREAM) job->next = input->start;
+    if (append(&job->rest, input->front, input->front_length) < 0) return PyErr_NoMemory() != NULL;
     if (!sketch_status(self, &job->sizes)) return false;
     if (self->kind != DS_FREQUENT_ITEMS_STRING) return true;
     if (!use_begin(&use)) return false;
@@ -439,14 +448,22 @@ static void init_ended(pthread_cond_t *ended)
     pthread_condattr_destroy(&attributes);
 }
 
-bool take_by_threads(Sketch *self, const Input *input, const Taken *taken, size_t threads, PyObject *progress, ds_fields_read *read)
+/* Sets the numbers of fields before all are merged, so that no error comes after that. */
+static bool set_numbers(Job *job, PyObject **numbers)
+{
+    if (numbers != NULL) *numbers = field_numbers(atomic_load(&job->records), atomic_load(&job->items));
+    return numbers == NULL || *numbers != NULL;
+}
+
+bool take_by_threads(Sketch *self, const Input *input, const Taken *taken, size_t threads, PyObject *progress, PyObject **numbers)
 {
     Job job = {
         .input = input, .what = taken, .kind = self->kind, .turn = PTHREAD_MUTEX_INITIALIZER, .state = PTHREAD_MUTEX_INITIALIZER};
     if (input->origin != FROM_STREAM) threads = at_most(input->length / PIECE + 1, threads);
     init_ended(&job.ended);
-    bool done = prepare(&job, self, threads) && run(&job, threads, progress) && all_taken(&job) && merge(&job, self);
-    *read = (ds_fields_read){atomic_load(&job.records), atomic_load(&job.items), 0};
+    bool done = prepare(&job, self, threads) && run(&job, threads, progress) && all_taken(&job) && set_numbers(&job, numbers) &&
+                merge(&job, self);
+    if (!done && numbers != NULL) Py_CLEAR(*numbers);
     release(&job, threads);
     return done;
 }

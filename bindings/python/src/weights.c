@@ -49,7 +49,7 @@ static bool each_fits(const Items *items, Weights *weights)
 {
     Items *each = &weights->items;
     uint64_t number;
-    each->below_top = each->items == NULL && each->with_sign != weights->with_sign;
+    each->below_top = each->num_runs > 0 && each->with_sign != weights->with_sign;
     return !each->below_top || !find_above_top(each, items, &number) ||
            number_fits("a weight", weights->with_sign, number, each->with_sign);
 }
@@ -81,7 +81,7 @@ static bool find_sources(PyObject *given, PyObject *given_weights, Source *sourc
     weights->each = many > 0;
     if (weights->each) return source_of(given, "update", false, source) && weight_source_of(given_weights, weight_source);
     return (given_weights == NULL || number_of_kind(given_weights, "weight", weights->with_sign, &weights->same)) &&
-           source_of(given, "update", false, source);
+           no_counts(given, "update") && source_of(given, "update", false, source);
 }
 
 bool update_open(PyObject *given, PyObject *given_weights, bool with_sign, Items *items, Weights *weights)
@@ -105,6 +105,7 @@ bool items_of(PyObject *given, const char *call, Items *items, Weights *weights)
     Source source;
     *items = (Items){0};
     *weights = (Weights){.same = 1};
+    if (!no_counts(given, call)) return false;
     bool opened = source_of(given, call, false, &source) && open_sources(&source, NULL, items, weights);
     source_release(&source);
     if (!opened) items_release(items);

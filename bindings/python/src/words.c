@@ -2,6 +2,9 @@
 #include "items.h"
 #include "texts.h"
 
+#include <limits.h>
+#include <sys/stat.h>
+
 /* A method that takes words, lines or fields. */
 typedef struct {
     const char *name;
@@ -27,7 +30,10 @@ static bool text_open(PyObject *given, const Method *method, Text *text)
         return text->bytes != NULL;
     }
     if (!PyObject_CheckBuffer(given)) {
-        PyErr_Format(PyExc_TypeError, "%s takes a str or a buffer of bytes, not %.200s", method->name, Py_TYPE(given)->tp_name);
+        int is_path = type_has(given, "__fspath__");
+        if (is_path >= 0)
+            PyErr_Format(PyExc_TypeError, "%s takes a str or a buffer of bytes, not %.200s%s", method->name,
+                         Py_TYPE(given)->tp_name, is_path > 0 ? ": from_file takes a path" : "");
         return false;
     }
     if (PyObject_GetBuffer(given, &text->view, PyBUF_ND | PyBUF_FORMAT) < 0) return false;
@@ -43,6 +49,28 @@ static void text_release(Text *text)
 {
     PyMem_RawFree(text->copy);
     if (text->view.obj != NULL) PyBuffer_Release(&text->view);
+}
+
+/* Returns whether the last bytes of a text are a suffix, in small or large letters. */
+static bool ends_with(const Text *text, const char *suffix)
+{
+    size_t count = strlen(suffix);
+    bool same = text->length > count;
+    for (size_t i = 0; same && i < count; i++) same = (text->bytes[text->length - count + i] | 32) == suffix[i];
+    return same;
+}
+
+/* Returns whether a text of one line without an end is the name of a file: there is one, or it is one word that ends as those of tables
+ * do. Such a text would be counted as a record. */
+static bool names_a_file(const Text *text)
+{
+    struct stat status;
+    if (text->length == 0 || text->length >= PATH_MAX || memchr(text->bytes, '\n', text->length) != NULL ||
+        memchr(text->bytes, 0, text->length) != NULL)
+        return false;
+    bool of_one_word = strcspn((const char *)text->bytes, " \t\r,;|") == text->length;
+    if (of_one_word && (ends_with(text, ".csv") || ends_with(text, ".tsv"))) return true;
+    return stat((const char *)text->bytes, &status) == 0 && S_ISREG(status.st_mode);
 }
 
 /* Takes the words, lines or fields of a piece. Runs without the interpreter's lock. */
@@ -119,10 +147,10 @@ static PyObject *used_of(PyObject *given, const Text *text, size_t whole)
 }
 
 /* Does the same by several threads. Then an error leaves the sketch as it was. */
-static bool take_at_once(Sketch *self, const Text *text, const Method *method, size_t threads, ds_fields_read *read)
+static bool take_at_once(Sketch *self, const Text *text, const Method *method, size_t threads, PyObject **numbers)
 {
     const Input input = {.bytes = text->bytes, .may_change = text->may_change, .length = text->length};
-    return take_by_threads(self, &input, &method->taken, threads, NULL, read);
+    return take_by_threads(self, &input, &method->taken, threads, NULL, numbers);
 }
 
 static PyObject *take(PyObject *object, PyObject *args, PyObject *keywords, const Method *method)
@@ -132,7 +160,6 @@ static PyObject *take(PyObject *object, PyObject *args, PyObject *keywords, cons
     PyObject *given, *given_threads = NULL, *used = NULL;
     int final = 1;
     size_t threads = 1;
-    ds_fields_read read;
     Text text = {0};
     if (!PyArg_ParseTupleAndKeywords(args, keywords, "O|$pO", names, &given, &final, &given_threads) || !sketch_ready(self))
         return NULL;
@@ -145,7 +172,7 @@ static PyObject *take(PyObject *object, PyObject *args, PyObject *keywords, cons
             text.length = method->taken.of_lines ? ds_finished_lines(text.bytes, whole) : ds_finished_words(text.bytes, whole);
         used = used_of(given, &text, whole);
         bool at_once = threads > 1 || given_threads == Py_None; /* so that None means the same on a machine with one processor */
-        if (used != NULL && !(at_once ? take_at_once(self, &text, method, threads, &read) : take_text(self, &text, method)))
+        if (used != NULL && !(at_once ? take_at_once(self, &text, method, threads, NULL) : take_text(self, &text, method)))
             Py_CLEAR(used);
     }
     text_release(&text);
@@ -222,19 +249,44 @@ PyObject *sketch_lines(PyObject *self, PyObject *args, PyObject *keywords)
 
 /* --- Fields --- */
 
-/* Takes the fields of all records in one call, without the interpreter's lock. Returns false, with an error set, if a record is
- * rejected. */
-static bool take_records(Sketch *self, Text *text, const Method *method, ds_fields_read *read)
+PyObject *field_numbers(size_t num_records, size_t num_items)
+{
+    return Py_BuildValue("nn", (Py_ssize_t)num_records, (Py_ssize_t)(num_records - num_items));
+}
+
+/* Sets the error of records that were rejected. Only MemoryError comes when some items are counted: those of this total weight. */
+static void refuse_records(int32_t answer, const Text *text, const Method *method, size_t offset)
+{
+    bool weighed = method->taken.fields->weight != DS_NO_FIELD;
+    if (answer == DS_INVALID_UTF8 || answer == DS_BAD_WEIGHT) refuse_at(answer, offset);
+    else if (answer == DS_NO_MEMORY)
+        PyErr_Format(PyExc_MemoryError,
+                     weighed ? "memory ended when a total weight of %zu was counted" : "memory ended when %zu items were counted",
+                     text->done);
+    else refuse(answer);
+}
+
+/* Takes the fields of one piece. Returns the numbers, or NULL, with an error set, if a record is rejected. Has room for the numbers
+ * before, and frees it for them, so that no error comes after all items. */
+static PyObject *take_records(Sketch *self, Text *text, const Method *method)
 {
     Use use = {.sketch = self, .changes = true};
+    ds_fields_read read = {0, 0, 0};
     int32_t answer;
-    if (!use_begin(&use)) return false;
+    PyObject *room = field_numbers(PY_SSIZE_T_MAX, 1);
+    if (room == NULL || !use_begin(&use)) {
+        Py_XDECREF(room);
+        return NULL;
+    }
     Py_BEGIN_ALLOW_THREADS
-    answer = take_piece(self, text, &method->taken, 0, text->length, read);
+    answer = take_piece(self, text, &method->taken, 0, text->length, &read);
     Py_END_ALLOW_THREADS
     use_end(&use);
-    if (answer >= 0) return true;
-    return (answer == DS_INVALID_UTF8 || answer == DS_BAD_WEIGHT ? refuse_at(answer, read->offset) : refuse(answer)) != NULL;
+    Py_DECREF(room);
+    PyObject *numbers = answer >= 0 ? field_numbers(read.num_records, read.num_items) : NULL;
+    if (answer >= 0 && self->kind == DS_BLOOM) text->done = read.num_items; /* a filter has no total weight */
+    if (numbers == NULL) refuse_records(answer < 0 ? answer : DS_NO_MEMORY, text, method, read.offset);
+    return numbers;
 }
 
 /* Reads the index of a field, or None. */
@@ -269,6 +321,16 @@ static bool delimiter_of(PyObject *object, bool csv, ds_fields *fields)
     return true;
 }
 
+bool fields_of(PyObject *item, PyObject *weight, PyObject *delimiter, bool csv, ds_fields *fields)
+{
+    if (!delimiter_of(delimiter, csv, fields) || !index_of(item, "item", &fields->item) ||
+        !index_of(weight, "weight", &fields->weight))
+        return false;
+    if (!csv || fields->item != DS_NO_FIELD) return true;
+    PyErr_SetString(PyExc_ValueError, "item is the index of a field if csv is true");
+    return false;
+}
+
 #define FIELDS_DOC(method, does, weight, adds, example) \
     method \
         "($self, text, item, /, *, " weight "delimiter=None, csv=False, threads=1)\n--\n\n" does \
@@ -276,11 +338,13 @@ static bool delimiter_of(PyObject *object, bool csv, ds_fields *fields)
         "Fields stand between `delimiter`, or between runs of white space without one, as in `sketches -f` and `-d`. With\n" \
         "`csv=True` records are those of RFC 4180, read leniently, with `delimiter` or ',' between fields: fields in quotes may\n" \
         "have delimiters and line ends.\n\n" adds \
-        "Return the number of records, and of those without the field, which are left out. Raise 'InvalidUtf8' if a field that is taken is not\n" \
-        "UTF-8, with the offset of its record as `byte`. An error leaves the sketch as it was, unless it is MemoryError. The call\n" \
-        "takes memory for all fields at once.\n\n" \
-        "`threads` above 1, or None for one for each processor, takes parts of the text at once, each into a sketch of the same\n" \
-        "sizes, seed and key. They are merged into this sketch at the end, or none.\n\n" \
+        "Return the number of records, and of those without the field, which are left out. Raise 'InvalidUtf8' if a field that is\n" \
+        "taken is not UTF-8, with the offset of its record as `byte`. A str that is the name of a file raises ValueError:\n" \
+        "`from_file` takes one.\n\n" \
+        "The text is taken in pieces of about 1 MiB. Of a longer text each of `threads` threads takes pieces into a sketch of the\n" \
+        "same sizes, seed and key; None is one thread for each processor. They are merged into this sketch at the end, or none. So\n" \
+        "an error, also Ctrl-C, leaves this sketch as it was, whatever the number of threads. Only MemoryError for a text of up to\n" \
+        "1 MiB may come when some items were counted. It has their number, or with `weight` their total weight.\n\n" \
         ">>> import datasketches_rattle as ds\n" example
 
 #define UPDATE_FIELDS_DOC(name, sketch) \
@@ -311,7 +375,6 @@ PyObject *sketch_fields(PyObject *object, PyObject *args, PyObject *keywords)
     PyObject *given, *item, *weight = NULL, *delimiter = NULL, *given_threads = NULL;
     int csv = false;
     size_t threads = 1;
-    ds_fields_read read = {0, 0, 0};
     ds_fields fields;
     Method method = {inserts ? "insert_fields" : "update_fields", {.of_lines = true, .fields = &fields}};
     Text text = {0};
@@ -323,14 +386,18 @@ PyObject *sketch_fields(PyObject *object, PyObject *args, PyObject *keywords)
         return NULL;
     if (!takes_texts(self))
         return PyErr_Format(PyExc_TypeError, "%s takes a sketch of strings: FrequentItemsSketch(.., item=str)", method.name);
-    if (!delimiter_of(delimiter, csv, &fields) || !index_of(item, "item", &fields.item) ||
-        !index_of(weight, "weight", &fields.weight))
+    if (!fields_of(item, weight, delimiter, csv, &fields) || (given_threads != NULL && !threads_of(self, given_threads, &threads)))
         return NULL;
-    if (csv && fields.item == DS_NO_FIELD) return PyErr_Format(PyExc_ValueError, "item is the index of a field if csv is true");
-    if (given_threads != NULL && !threads_of(self, given_threads, &threads)) return NULL;
-    bool at_once = threads > 1 || given_threads == Py_None, done = false;
-    if (text_open(given, &method, &text))
-        done = at_once ? take_at_once(self, &text, &method, threads, &read) : take_records(self, &text, &method, &read);
+    PyObject *numbers = NULL;
+    if (text_open(given, &method, &text)) {
+        if (PyUnicode_Check(given) && names_a_file(&text))
+            PyErr_Format(PyExc_ValueError,
+                         "%s takes a text, and %.200R is the name of a file: write %s.from_file(path, item=..), "
+                         "or pass bytes if it is the text",
+                         method.name, given, class_of(Py_TYPE(self))->name);
+        else if (text.length <= PIECE) numbers = take_records(self, &text, &method);
+        else take_at_once(self, &text, &method, threads, &numbers);
+    }
     text_release(&text);
-    return done ? Py_BuildValue("nn", (Py_ssize_t)read.num_records, (Py_ssize_t)(read.num_records - read.num_items)) : NULL;
+    return numbers;
 }

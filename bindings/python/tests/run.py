@@ -1,5 +1,6 @@
 #!/usr/bin/env python3
-"""Runs all tests of the package and the examples of its docs. `PYTHONPATH` is the folder of the built package."""
+"""Runs the tests of the package, or those of the files that are named, as `test_count`, and the examples of its docs. `PYTHONPATH` is the
+folder of the built package."""
 import doctest
 import os
 import sys
@@ -23,7 +24,8 @@ def examples():
 
 def main():
     """Runs them, and prints 'N passed, M failed'."""
-    suite = unittest.TestSuite([unittest.defaultTestLoader.discover(HERE), examples()])
+    loader, names = unittest.defaultTestLoader, sys.argv[1:]
+    suite = unittest.TestSuite([loader.loadTestsFromNames(names) if names else loader.discover(HERE), examples()])
     result = unittest.TextTestRunner(verbosity=1).run(suite)
     failed = len(result.failures) + len(result.errors)
     for test, reason in result.skipped:

@@ -48,6 +48,13 @@ def without_none(values):
     return [value for value in values if value is not None]
 
 
+def listed(results):
+    """The results of a query as a list."""
+    if hasattr(results, "to_numpy"):
+        results = results.to_numpy()
+    return [tuple(each) if getattr(each, "ndim", 0) else each for each in results]
+
+
 class Released(unittest.TestCase):
     def tearDown(self):
         self.assertEqual((arrow.live, arrow.released_twice, arrow._structs), ({}, [], {}))
@@ -65,8 +72,7 @@ class Released(unittest.TestCase):
                     with self.assertRaisesRegex(ValueError, f"{values.count(None)} of {len(values)} are missing"):
                         getattr(one, call)(column())
                 else:
-                    self.assertEqual([tuple(each) if call == "bounds" else each for each in getattr(one, call)(column())],
-                                     getattr(one, call)(list(values)))
+                    self.assertEqual(listed(getattr(one, call)(column())), getattr(one, call)(list(values)))
         if None not in values:
             return
         one, other = sketches(of)[1::2], sketches(of)[1::2]
@@ -455,7 +461,7 @@ class Pandas(Released):
         heavy = ds.FrequentItemsSketch(64, item=str)
         heavy.update(table["word"], table["weight"])
         self.assertEqual(list(pandas.DataFrame(heavy.rows(columns=True))["item"]), ["x", "y"])
-        self.assertEqual(type(heavy.estimate(table["word"].astype("category"))), numpy.ndarray)
+        self.assertEqual(type(heavy.estimate(table["word"].astype("category"))), pandas.Series)
         self.assertEqual(table[heavy.estimate(table["word"]) > 2]["weight"].tolist(), [1, 3])
 
     def test_wrong_types(self):

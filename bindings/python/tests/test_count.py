@@ -1,5 +1,6 @@
 """CountMinSketch: weights, merges, decay, errors."""
 import array
+import collections
 import copy
 import pickle
 import unittest
@@ -216,6 +217,40 @@ class Signed(unittest.TestCase):
         for wrong in (numpy.ones(10), numpy.ones(9, dtype="i4"), numpy.ones((10, 1), dtype="i8")):
             with self.assertRaises((TypeError, ValueError)):
                 stock.update(items, wrong)
+
+    def test_weights_below_0_from_iterators(self):
+        ways = {"list": list, "iterator": iter, "deque": collections.deque, "values": lambda given: dict(enumerate(given)).values(),
+                "generator": lambda given: (each for each in given)}
+        for count in (2, 5000, 9000):
+            items, weights = [str(n % 50) for n in range(count)], [(-1) ** (n // 4500) * (n % 7 - 3) for n in range(count)]
+            wanted = collections.Counter()
+            for item, weight in zip(items, weights):
+                wanted[item] += weight
+            for of_items in ways.values():
+                for of_weights in ways.values():
+                    stock = ds.CountMinSketch(4, 1 << 16, signed=True)
+                    stock.update(of_items(items), of_weights(weights))
+                    self.assertEqual(stock.total_weight, sum(map(abs, weights)))
+                    self.assertEqual([stock[item] for item in sorted(wanted)], [wanted[item] for item in sorted(wanted)])
+        stock = ds.CountMinSketch(4, 1 << 14, signed=True)
+        stock.update(iter("ab"), iter([-1, 2]))
+        self.assertEqual((stock["a"], stock["b"], stock.total_weight), (-1, 2, 3))
+
+    def test_weights_out_of_range_from_iterators(self):
+        cases = [(False, -1, "a weight is below 0"), (True, 2**63, "a weight is above 2[*][*]63 - 1")]
+        for signed, wrong, message in cases:
+            for bad_at, counted in ((1, 0), (4095, 0), (4096, 4096), (8191, 4096)):
+                for way in (iter, collections.deque):
+                    sketch = ds.CountMinSketch(4, 1 << 10, signed=signed)
+                    weights = [1] * bad_at + [wrong] + [1] * 1000
+                    with self.assertRaisesRegex(ValueError, message) as refused:
+                        sketch.update(way(range(len(weights))), way(weights))
+                    notes = [f"items taken before this error: {counted}"] if counted else []
+                    self.assertEqual((sketch.total_weight, getattr(refused.exception, "__notes__", [])), (counted, notes))
+        heavy = ds.FrequentItemsSketch(64)
+        with self.assertRaisesRegex(ValueError, "a weight is below 0"):
+            heavy.update(iter([1, 2]), iter([1, -2]))
+        self.assertEqual(heavy.total_weight, 0)
 
 
 class Merges(unittest.TestCase):

@@ -2,11 +2,22 @@
 import collections
 import csv
 import io
+import os
 import random
 import re
+import signal
+import subprocess
+import sys
+import threading
+import time
 import unittest
 
 import datasketches_rattle as ds
+
+try:
+    import _testcapi
+except ImportError:
+    _testcapi = None
 
 COUNTS = {"num_hashes": 4, "num_buckets": 1 << 12}
 
@@ -160,6 +171,103 @@ class Errors(unittest.TestCase):
         ]:
             self.assertRaises(error, call)
         self.assertEqual((sketch.total_weight, sketch.update_fields("", 0), sketch.update_fields('a"b\n', 0, delimiter='"')), (0, (0, 0), (1, 0)))
+
+
+# Counts the fields of 60 MB of text, and prints how many MiB the process took more than before at most.
+MEMORY = """
+import datasketches_rattle as ds
+text = b"GET /page 200 17\\n" * 3_500_000
+
+def peak():
+    with open("/proc/self/status") as file:
+        return int(next(line for line in file if line.startswith("VmHWM:")).split()[1])
+
+heavy = ds.FrequentItemsSketch(64, item=str)
+before = peak()
+print(heavy.update_fields(text, 1, weight=3, threads=1), heavy.rows(), peak() - before < 12 << 10, peak() - before)
+"""
+
+
+class Pieces(unittest.TestCase):
+    """A text of several pieces: one rule for errors, whatever the number of threads, and a bound on memory and time."""
+
+    @unittest.skipIf("asan" in os.environ.get("LD_PRELOAD", ""), "freed memory stays in this run")
+    def test_memory_is_bounded(self):
+        path = os.path.dirname(os.path.dirname(ds.__file__))
+        ran = subprocess.run([sys.executable, "-c", MEMORY], capture_output=True, text=True, timeout=120,
+                             env={**os.environ, "PYTHONPATH": path})
+        wanted = "(3500000, 0) [('/page', 59500000, 59500000, 59500000)] True"
+        self.assertEqual((ran.stdout.rsplit(" ", 1)[0], ran.stderr), (wanted, ""), ran.stdout)
+
+    def test_errors_leave_all_as_it_was(self):
+        good = b"a 1\n" * 400_000
+        for bad, fault in ((b"b x\n", "BadWeight"), (b"\xff 1\n", "InvalidUtf8")):
+            for size in (1, 400_000, 1_000_000):
+                data = (good * 3)[: 4 * size] + bad
+                for threads in (1, 2, None):
+                    for sketch in (heavy(), ds.CountMinSketch(**COUNTS), ds.BloomFilter(1 << 14, 5)):
+                        (sketch.insert if isinstance(sketch, ds.BloomFilter) else sketch.update)(["before"])
+                        before = bytes(sketch)
+                        if isinstance(sketch, ds.BloomFilter) and fault == "BadWeight":
+                            continue
+                        with self.assertRaises(ds.SketchError) as refused:
+                            if isinstance(sketch, ds.BloomFilter):
+                                sketch.insert_fields(data, 0, threads=threads)
+                            else:
+                                sketch.update_fields(data, 0, weight=1, threads=threads)
+                        error = refused.exception
+                        self.assertEqual((error.fault, error.byte, getattr(error, "__notes__", [])), (fault, 4 * size, []))
+                        self.assertEqual(bytes(sketch), before)
+
+    def test_the_total_has_no_room(self):
+        for size in (1, 600_000):
+            for threads in (1, 2):
+                full = heavy()
+                full.update("a", 2**64 - 2)
+                self.assertEqual(full.update_fields("a\n", 0, threads=threads), (1, 0))
+                with self.assertRaises(ds.SketchError) as refused:
+                    full.update_fields(b"a\n" * size, 0, threads=threads)
+                self.assertEqual((refused.exception.fault, full.total_weight), ("WeightOverflow", 2**64 - 1))
+
+    @unittest.skipIf(_testcapi is None, "this Python cannot refuse memory")
+    def test_memory_error_has_the_number(self):
+        data = b"".join(b"item%d 3\n" % number for number in range(500)) + b"alone\n" * 300
+        for weight, scale in ((None, 1), (1, 3)):
+            text = data if weight is None else data[: data.index(b"alone")] + b"\n" * 300
+            numbers = (800, 0) if weight is None else (800, 300)
+            for at in range(1, 40):
+                sketch, error, result = ds.FrequentItemsSketch(1 << 12, item=str), None, None
+                _testcapi.set_nomemory(at, at + 1)
+                try:
+                    result = sketch.update_fields(text, 0, weight=weight)
+                except MemoryError as raised:
+                    error = raised
+                finally:
+                    _testcapi.remove_mem_hooks()
+                said = re.findall(r"(\d+) items were counted$|a total weight of (\d+) was counted$", str(error))
+                if error is None:
+                    self.assertEqual((result, sketch.total_weight), (numbers, 800 if weight is None else 1500))
+                elif sketch.total_weight > 0:
+                    self.assertEqual([int(a or b) for a, b in said], [sketch.total_weight], (at, str(error)))
+            self.assertIsNone(error, "more requests than this test refuses")
+
+
+@unittest.skipUnless(threading.current_thread() is threading.main_thread(), "Ctrl-C is for the main thread")
+class Interrupts(unittest.TestCase):
+    def test_one_thread_ends_soon(self):
+        self.addCleanup(signal.signal, signal.SIGINT, signal.getsignal(signal.SIGINT))
+        signal.signal(signal.SIGINT, signal.default_int_handler)
+        lines, table = b"GET /page 200 17\n" * 6_000_000, b'"GET, x",/page,17\n' * 5_000_000
+        for data, more in ((lines, {"weight": 3}), (table, {"csv": True, "weight": 2})):
+            for sketch in (heavy(), ds.CountMinSketch(100, 1 << 10)):
+                sent = []
+                timer = threading.Timer(0.1, lambda: (sent.append(time.monotonic()), os.kill(os.getpid(), signal.SIGINT)))
+                timer.start()
+                self.assertRaises(KeyboardInterrupt, sketch.update_fields, data, 1, **more)
+                ended = time.monotonic()
+                timer.join()
+                self.assertLess(ended - sent[0], 1.5)
+                self.assertEqual(sketch.total_weight, 0)
 
 
 if __name__ == "__main__":

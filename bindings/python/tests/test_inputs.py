@@ -106,7 +106,7 @@ class Mappings(unittest.TestCase):
 
     def test_all_or_nothing(self):
         wrong = [({"a": 1, "b": -1}, ValueError), ({"a": 1, "b": 2**64}, ValueError), ({"a": 1, "b": 1.0}, TypeError),
-                 ({"a": 1, "b": True}, TypeError), ({"a": 1, None: 1}, TypeError), ({"a": 1, b"b": 1}, TypeError),
+                 ({"a": 1, "b": True}, TypeError), ({"a": 1, (): 1}, TypeError), ({"a": 1, b"b": 1}, TypeError),
                  ({"a": 1, "b": "2"}, TypeError), ({"a": 1, "\ud800": 2}, ValueError), ({"a": 1, "b": None}, TypeError),
                  ({"a": 1, "b": GREATEST}, ds.SketchError)]
         for mapping, error in wrong:
@@ -433,7 +433,7 @@ class Types(unittest.TestCase):
             seen.insert(ways[0])
             self.assertEqual(seen.contains(["a", "b"]), [True, True])
             self.assertRaisesRegex((TypeError, ValueError), "missing|masked", seen.contains, ways[0])
-        self.assertRaises(TypeError, filled().insert, [None])
+        self.assertRaises(TypeError, sketches()[0].update, ["a"], [None])  # a list is no column, whose weights may be missing
 
     def test_weight_by_name(self):
         for sketch in sketches():
@@ -583,7 +583,7 @@ class Streams(unittest.TestCase):
         for good in (0, 5, CHUNK - 1, CHUNK, CHUNK + 1, 2 * CHUNK + 7):
             whole = good // CHUNK * CHUNK
             for sketch in (ds.CountMinSketch(4, 1 << 14), ds.FrequentItemsSketch(1 << 14)):
-                for bad, error in ((None, TypeError), (1.5, TypeError), (2**64, OverflowError),
+                for bad, error in ((b"b", TypeError), (1.5, TypeError), (2**64, OverflowError),
                                    ("\ud800", (ValueError, TypeError))):
                     before = sketch.total_weight
                     with self.assertRaises(error) as raised:
@@ -594,9 +594,9 @@ class Streams(unittest.TestCase):
                 self.assertEqual((taken(raised.exception), raised.exception.args), (whole, ("own",)))
             seen = filled()
             with self.assertRaises(TypeError) as raised:
-                seen.insert(itertools.chain(range(good), [None]))
+                seen.insert(itertools.chain(range(good), [1.5]))
             self.assertEqual((taken(raised.exception), seen == filled(range(whole))), (whole, True))
-            with self.assertRaises(TypeError):
+            with self.assertRaises(ValueError):
                 seen.contains(itertools.chain(range(good), [None]))
         for heavy, bad in ((ds.FrequentItemsSketch(1 << 14), 2**63), (ds.FrequentItemsSketch(1 << 14, "u64"), -1),
                            (ds.FrequentItemsSketch(64), "a")):
@@ -616,10 +616,10 @@ class Streams(unittest.TestCase):
         for kind in (list, tuple):
             for sketch in number_sketches():
                 with self.assertRaises(TypeError) as raised:
-                    sketch.update(kind([*range(3 * CHUNK), None]))
+                    sketch.update(kind([*range(3 * CHUNK), 1.5]))
                 self.assertEqual((sketch.total_weight, taken(raised.exception)), (0, 0))
         seen = filled()
-        for given in ([*range(3 * CHUNK), None], {*range(3 * CHUNK), None}):
+        for given in ([*range(3 * CHUNK), 1.5], {*range(3 * CHUNK), 1.5}):
             with self.assertRaises(TypeError):
                 seen.insert(given)
         self.assertEqual(seen.bits_used, 0)
@@ -890,7 +890,7 @@ class Leaks(unittest.TestCase):
         self.assertLess(self.growth(self.calls, 500), 1000)
 
     def test_nothing_is_kept_of_columns(self):
-        self.assertLess(min(self.growth(self.column_calls, 50) for _ in range(2)), 1000)
+        self.assertLess(min(self.growth(self.column_calls, 50) for _ in range(3)), 1000)
         self.assertEqual((arrow.live, arrow.released_twice), ({}, []))
 
     @unittest.skipIf(numpy is None, "no numpy here")

@@ -152,12 +152,13 @@ class KeyedHash(unittest.TestCase):
         self.assertEqual((arrow.live, arrow.released_twice, arrow._structs), ({}, [], {}))
 
     def test_many_of_other_kinds(self):
-        for many in ([1], ["a", 1], [None], [b"a"], (number for number in range(3)), {"a": 1}):
+        for many in ([1], ["a", 1], [b"a"], (number for number in range(3)), {"a": 1}):
             with self.assertRaises(TypeError):
                 ds.keyed_hash(KEY, many)
         for many in [numpy.array(["a", 1], object), numpy.ma.masked_array(["a", "b"], [0, 1])] if numpy else []:
             with self.assertRaises(TypeError):
                 ds.keyed_hash(KEY, many)
+        self.assertRaisesRegex(ValueError, "1 of 1 are missing", ds.keyed_hash, KEY, [None])
         with self.assertRaises(UnicodeEncodeError):
             ds.keyed_hash(KEY, ["a", "\ud800"])
 

@@ -124,7 +124,7 @@ class Package(unittest.TestCase):
         for name, tree in classes.items():
             told = {each.name for each in tree.body if isinstance(each, ast.FunctionDef)}
             told |= {each.target.id for each in tree.body if isinstance(each, ast.AnnAssign)}
-            there = {each for each in vars(getattr(ds, name)) if not each.startswith("_")}
+            there = {each for each in vars(getattr(ds, name)) if not each.startswith("_")} | set(getattr(getattr(ds, name), "_fields", ()))
             self.assertEqual({each for each in told if not each.startswith("_")}, there)
             for each in told:
                 self.assertTrue(hasattr(getattr(ds, name), each), f"{name}.{each}")
