@@ -3,7 +3,7 @@ from __future__ import annotations
 
 from typing import Any
 
-# Labels of such a number of rows that descend by chance, in an order of their own, are taken for those of `value_counts`.
+# In pandas 1, such a number of rows that descend by chance, with labels in an order of their own, are taken for those of `value_counts`.
 FEW = 8
 
 
@@ -19,8 +19,8 @@ def results(series: Any, values: Any) -> Any:
 def are_counts(series: Any) -> bool:
     """Returns whether a Series has integers by labels, as `value_counts` and `size` of groups return it.
 
-    The labels are strings or other objects, or have a name as `value_counts` of pandas 2 gives it to them, or are numbers in an order
-    of their own whose counts descend.
+    The labels are strings or other objects, or have a name as `value_counts` of pandas 2 gives it to them. In pandas 1 they may be numbers
+    in an order of their own whose counts descend.
     """
     import pandas
 
@@ -30,8 +30,10 @@ def are_counts(series: Any) -> bool:
     kind = getattr(labels.dtype, "kind", "O")
     if kind not in "iuf":
         return kind in "OSTU"
-    if series.name in ("count", "proportion") and labels.name is not None:
+    if series.name == "count" and labels.name is not None:
         return True
+    if not pandas.__version__.startswith("1."):
+        return False
     descend = len(series) >= FEW and series.is_monotonic_decreasing and series.iloc[-1] > 0
     return bool(descend and labels.is_unique and not labels.is_monotonic_increasing)
 

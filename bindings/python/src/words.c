@@ -2,9 +2,6 @@
 #include "items.h"
 #include "texts.h"
 
-#include <limits.h>
-#include <sys/stat.h>
-
 /* A method that takes words, lines or fields. */
 typedef struct {
     const char *name;
@@ -60,17 +57,12 @@ static bool ends_with(const Text *text, const char *suffix)
     return same;
 }
 
-/* Returns whether a text of one line without an end is the name of a file: there is one, or it is one word that ends as those of tables
- * do. Such a text would be counted as a record. */
-static bool names_a_file(const Text *text)
+/* Returns whether a text is one word that ends as the names of tables do. It is counted as a record, which may be a mistake. The text may
+ * come from others, so no file is looked up, and there is no error. */
+static bool is_like_a_name(const Text *text)
 {
-    struct stat status;
-    if (text->length == 0 || text->length >= PATH_MAX || memchr(text->bytes, '\n', text->length) != NULL ||
-        memchr(text->bytes, 0, text->length) != NULL)
-        return false;
-    bool of_one_word = strcspn((const char *)text->bytes, " \t\r,;|") == text->length;
-    if (of_one_word && (ends_with(text, ".csv") || ends_with(text, ".tsv"))) return true;
-    return stat((const char *)text->bytes, &status) == 0 && S_ISREG(status.st_mode);
+    return (ends_with(text, ".csv") || ends_with(text, ".tsv")) && memchr(text->bytes, '\n', text->length) == NULL &&
+           strcspn((const char *)text->bytes, " \t\r,;|") == text->length;
 }
 
 /* Takes the words, lines or fields of a piece. Runs without the interpreter's lock. */
@@ -339,7 +331,7 @@ bool fields_of(PyObject *item, PyObject *weight, PyObject *delimiter, bool csv, 
         "`csv=True` records are those of RFC 4180, read leniently, with `delimiter` or ',' between fields: fields in quotes may\n" \
         "have delimiters and line ends.\n\n" adds \
         "Return the number of records, and of those without the field, which are left out. Raise 'InvalidUtf8' if a field that is\n" \
-        "taken is not UTF-8, with the offset of its record as `byte`. A str that is the name of a file raises ValueError:\n" \
+        "taken is not UTF-8, with the offset of its record as `byte`. Warn of a str that looks like the name of a file, as 'x.csv':\n" \
         "`from_file` takes one.\n\n" \
         "The text is taken in pieces of about 1 MiB. Of a longer text each of `threads` threads takes pieces into a sketch of the\n" \
         "same sizes, seed and key; None is one thread for each processor. They are merged into this sketch at the end, or none. So\n" \
@@ -390,11 +382,11 @@ PyObject *sketch_fields(PyObject *object, PyObject *args, PyObject *keywords)
         return NULL;
     PyObject *numbers = NULL;
     if (text_open(given, &method, &text)) {
-        if (PyUnicode_Check(given) && names_a_file(&text))
-            PyErr_Format(PyExc_ValueError,
-                         "%s takes a text, and %.200R is the name of a file: write %s.from_file(path, item=..), "
-                         "or pass bytes if it is the text",
-                         method.name, given, class_of(Py_TYPE(self))->name);
+        bool goes_on = !PyUnicode_Check(given) || !is_like_a_name(&text) ||
+                       PyErr_WarnFormat(PyExc_UserWarning, 1,
+                                        "%s takes a text, and this one looks like the name of a file, which %s.from_file reads",
+                                        method.name, class_of(Py_TYPE(self))->name) == 0;
+        if (!goes_on) numbers = NULL;
         else if (text.length <= PIECE) numbers = take_records(self, &text, &method);
         else take_at_once(self, &text, &method, threads, &numbers);
     }
