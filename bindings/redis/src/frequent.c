@@ -1,9 +1,6 @@
 /* The commands FREQ and TOPK: frequent items, with bounds of their weights. Both families take the same sketches. */
 #include "module.h"
 
-/* What a slot of a table of strings takes, by the formula of `ds_memory_bytes`. */
-#define BYTES_OF_SLOT 44
-
 /* Counters for each of the k items of TOPK. */
 #define COUNTERS_OF_ITEM 8
 
@@ -87,80 +84,13 @@ int topk_reserve(Call *call)
 
 /* --- Updates. --- */
 
-/* Returns the slots of the table that a sketch has after updates with more items, at most. */
-static uint64_t slots_after(const ds_status *status, size_t items)
-{
-    uint64_t slots = status->current_map_capacity / 3 * 4;
-    while (slots < status->max_map_size && slots / 4 * 3 < status->num_active_items + items) slots *= 2;
-    return slots;
-}
-
-/* Returns whether the table and the strings of a sketch stay within the limit with these items. Counts the strings again only if
- * many came since they were counted, so that a count costs no more than the items before it. Returns false after an error. */
-static bool check_strings(Call *call, const Items *items)
-{
-    Sketch *sketch = call->sketch;
-    ds_status status = status_of(sketch);
-    uint64_t table = slots_after(&status, items->count) * BYTES_OF_SLOT;
-    if (sketch->string_bytes + items->bytes + table > max_bytes && sketch->added_bytes > max_bytes / 64) count_strings(sketch);
-    return check_limit(call, sketch->string_bytes + items->bytes + table);
-}
-
-/* Returns the bytes that updates with items may allocate: their strings, and each table that the sketch grows into. */
-static size_t bytes_for(const ds_status *status, const Items *items)
-{
-    uint64_t slots = status->current_map_capacity / 3 * 4, most = slots_after(status, items->count);
-    size_t bytes = items->bytes + items->count * reserve_for(1);
-    while (slots < most) {
-        slots *= 2;
-        bytes += reserve_for(slots * BYTES_OF_SLOT) + 2 * reserve_for(64);
-    }
-    return bytes;
-}
-
-/* Adds items, with weights or once each. Returns the library's result: below 0, nothing changed. A purge is replicated as the
- * sketch after it, since what a purge removes depends on where items are in the table. All else is the same in any table with the
- * same counters, and is replicated as it came. */
-static int32_t add(Call *call, const Items *items, const uint64_t *weights)
-{
-    Sketch *sketch = call->sketch;
-    ds_status before = status_of(sketch);
-    uint64_t room = INT64_MAX - before.total_weight; /* for weights */
-    int32_t result;
-    if (weights == NULL && items->count > room) return DS_WEIGHT_OVERFLOW;
-    for (size_t i = 0; i < items->count && weights != NULL; i++) {
-        if (weights[i] > room) return DS_WEIGHT_OVERFLOW;
-        room -= weights[i];
-    }
-    if (!begin_reserve(bytes_for(&before, items))) return DS_NO_MEMORY;
-    result = weights != NULL ? ds_update_all_weighted(&sketch->handle, &items->rows, weights, items->count)
-                             : ds_update_all(&sketch->handle, &items->rows);
-    end_reserve();
-    if (result < 0) return result;
-    sketch->string_bytes += items->bytes;
-    sketch->added_bytes += items->bytes;
-    if (status_of(sketch).maximum_error != before.maximum_error) replicate_state(call, sketch);
-    else replicate_call(call);
-    return result;
-}
-
-/* Adds items if the sketch stays within its limit then. Returns false after an error. */
-static bool add_within(Call *call, const Items *items, const uint64_t *weights)
-{
-    int32_t result;
-    if (!check_strings(call, items)) return false;
-    result = add(call, items, weights);
-    if (result < 0) reply_result(call, result);
-    return result >= 0;
-}
-
 /* Adds the items of a call. Returns false after an error. */
 static bool add_items(Call *call)
 {
     Items items;
     bool is_done;
     if (!string_items(call, 2, 1, &items)) return false;
-    is_done = add_within(call, &items, NULL);
+    is_done = update(call, &items, NULL);
     free_items(&items);
     return is_done;
 }
@@ -184,7 +114,7 @@ static bool add_pairs(Call *call)
         is_done = number_argument(call, 3 + 2 * (int)i, 0, INT64_MAX, bad_number, &weight);
         weights[i] = (uint64_t)weight;
     }
-    is_done = is_done && add_within(call, &items, weights);
+    is_done = is_done && update(call, &items, weights);
     if (weights != room) free_block(weights);
     free_items(&items);
     return is_done;
@@ -199,7 +129,7 @@ int freq_addlines(Call *call)
 {
     Items items;
     if (!string_lines(call, 2, &items)) return REDISMODULE_OK;
-    if (add_within(call, &items, NULL)) RedisModule_ReplyWithLongLong(call->ctx, (long long)items.count);
+    if (update(call, &items, NULL)) RedisModule_ReplyWithLongLong(call->ctx, (long long)items.count);
     free_items(&items);
     return REDISMODULE_OK;
 }
@@ -422,7 +352,8 @@ static bool merge_others(Call *call, Sketch *into, int first)
         if (result < 0) return false;
     }
     count_strings(into);
-    return check_limit(call, into->string_bytes + status_of(into).max_map_size * BYTES_OF_SLOT);
+    ds_memory_bytes(&into->handle, &read);
+    return check_limit(call, read);
 }
 
 int freq_merge(Call *call)

@@ -173,6 +173,27 @@ bool string_lines(Call *call, int at, Items *items)
     return true;
 }
 
+/* Returns the next line of a string from a position on, which moves behind it: without the line feed, and without a carriage
+ * return before it. */
+static ds_string next_line(const uint8_t *text, size_t length, size_t *at)
+{
+    const uint8_t *line = text + *at, *feed = memchr(line, '\n', length - *at), *end = feed != NULL ? feed : text + length;
+    *at = (size_t)(end - text) + (feed != NULL);
+    if (feed != NULL && feed > line && feed[-1] == '\r') end--;
+    return (ds_string){line, (size_t)(end - line)};
+}
+
+size_t next_strings(const Items *items, size_t *at, ds_string *strings)
+{
+    size_t count = 0;
+    if (items->rows.kind == DS_ITEMS_STRINGS) {
+        while (count < MOST_STRINGS && *at < items->count) strings[count++] = items->strings[(*at)++];
+    } else {
+        while (count < MOST_STRINGS && *at < items->bytes) strings[count++] = next_line(items->rows.bytes, items->bytes, at);
+    }
+    return count;
+}
+
 void free_items(Items *items)
 {
     free_block(items->block);

@@ -58,7 +58,7 @@ typedef struct Sketch {
     uint64_t width; /* of frequent items: the width and depth of TOPK.RESERVE */
     uint64_t depth;
     size_t string_bytes; /* of frequent items: no less than the bytes of the strings in the table */
-    size_t added_bytes;  /* of frequent items: the part of `string_bytes` that was added since they were counted */
+    size_t spare_bytes;  /* of frequent items: the most by which `string_bytes` is above them */
     uint8_t *bytes;      /* of parts: those that came, and how many come in all */
     size_t length, room, total;
 } Sketch;
@@ -109,6 +109,9 @@ uint64_t estimated_items(Sketch *sketch);
 
 /* Returns the number of items at which a filter's hashes fit its bits best. */
 uint64_t capacity_of(Sketch *sketch);
+
+/* What a slot of a table of strings takes, by the formula of `ds_memory_bytes`. */
+#define BYTES_OF_SLOT 44
 
 /* --- calls.c: calls of commands. --- */
 
@@ -211,8 +214,34 @@ bool string_lines(Call *call, int at, Items *items);
 
 void free_items(Items *items);
 
+/* The most strings that `next_strings` takes. */
+#define MOST_STRINGS 256
+
+/* Writes the next strings of items of frequent items, from a position on, which moves behind them. It begins at 0. Returns their
+ * number: 0 at the end. */
+size_t next_strings(const Items *items, size_t *at, ds_string *strings);
+
 /* Returns a string of frequent items to the client, as the bytes that the item had. Overwrites the string. */
 void reply_item(Call *call, uint8_t *bytes, size_t length);
+
+/* --- distinct.c: strings without repeats. --- */
+
+/* A set of strings, which begins as {0}. It keeps pointers to the caller's bytes. */
+typedef struct Distinct {
+    struct Place *places;
+    size_t room, count;
+} Distinct;
+
+/* Adds a string. Returns DS_YES if it is new, DS_NO if the set has it, and DS_NO_MEMORY. */
+int32_t add_distinct(Distinct *set, ds_string string);
+
+void free_distinct(Distinct *set);
+
+/* --- updates.c --- */
+
+/* Adds items to frequent items, with weights or once each if they are null, and replicates that. Returns false after an error: then
+ * nothing changed. */
+bool update(Call *call, const Items *items, const uint64_t *weights);
 
 /* --- lines.c: the lines of an argument as items of filters and Count-Min sketches. --- */
 

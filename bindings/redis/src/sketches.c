@@ -71,8 +71,8 @@ void count_strings(Sketch *sketch)
     ds_status status = status_of(sketch);
     size_t bytes = 0, slots = status.current_map_capacity / 3 * 4;
     ds_memory_bytes(&sketch->handle, &bytes);
-    sketch->string_bytes = bytes - slots * 44;
-    sketch->added_bytes = 0;
+    sketch->string_bytes = bytes - slots * BYTES_OF_SLOT;
+    sketch->spare_bytes = 0;
 }
 
 uint64_t estimated_items(Sketch *sketch)

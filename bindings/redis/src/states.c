@@ -375,7 +375,7 @@ static void *copy(RedisModuleString *from, RedisModuleString *to, const void *va
                        .width = sketch->width,
                        .depth = sketch->depth,
                        .string_bytes = sketch->string_bytes,
-                       .added_bytes = sketch->added_bytes,
+                       .spare_bytes = sketch->spare_bytes,
                        .total = sketch->total};
     if (sketch->kind == PARTS ? grow(copied, sketch->length) : ds_clone(&copied->handle, &sketch->handle) == DS_OK) {
         if (sketch->kind == PARTS) memcpy(copied->bytes, sketch->bytes, copied->length = sketch->length);

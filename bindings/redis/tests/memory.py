@@ -168,7 +168,7 @@ def limits(tests):
         client.done("FREQ.ADD", "r", *[f"item {i}" for i in range(500)])
         before = client.done("DEBUG", "DIGEST")
         tests.check("strings count", client("FREQ.ADD", "r", "x" * 60000) == too_much and client.done("DEBUG", "DIGEST") == before)
-        lines = "\n" * 60000
+        lines = "\n".join(f"{i}".ljust(99, "x") for i in range(600))
         tests.check("lines count", client("FREQ.ADDLINES", "r", lines) == too_much and client.done("DEBUG", "DIGEST") == before)
         tests.check("short ones fit", client("FREQ.ADD", "r", "x" * 10000) == "OK")
         for i in range(30):

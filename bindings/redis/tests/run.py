@@ -20,6 +20,7 @@ sys.path.insert(0, HERE)
 
 import checked  # noqa: E402
 import commands  # noqa: E402
+import counted  # noqa: E402
 import damage  # noqa: E402
 import exact  # noqa: E402
 import memory  # noqa: E402
@@ -77,6 +78,8 @@ GROUPS = [
     commands.python,
     commands.documented,
     commands.any_words,
+    counted.counted_items,
+    counted.random_limits,
     exact.filters,
     exact.counts,
     exact.frequent,
