@@ -121,11 +121,19 @@ bool read_seed(RedisModuleString *from, uint64_t *seed)
     return is_number;
 }
 
-bool seed_argument(Call *call, int at, uint64_t *seed)
+bool seed_option(Call *call, int *at, uint64_t *seed)
 {
-    if (read_seed(call->argv[at], seed)) return true;
-    reply_error(call, bad_number);
-    return false;
+    if (*at < call->argc && is_word(call, *at, "KEYED")) {
+        *seed = random_seed();
+        *at += 1;
+    } else if (*at + 1 < call->argc && is_word(call, *at, "SEED")) {
+        if (!read_seed(call->argv[*at + 1], seed)) {
+            reply_error(call, bad_number);
+            return false;
+        }
+        *at += 2;
+    }
+    return true;
 }
 
 bool is_word(Call *call, int at, const char *word)

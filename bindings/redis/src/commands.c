@@ -15,7 +15,7 @@
 #define ITEMS ARGUMENT("item", STRING, .flags = MANY)
 #define WORD(is, word) ARGUMENT(is, PURE_TOKEN, .token = word, .flags = MAYBE)
 #define OPTION(is, kind, word) ARGUMENT(is, kind, .token = word, .flags = MAYBE)
-#define SEED_OPTION OPTION("seed", INTEGER, "SEED")
+#define SEED_OPTION ARGUMENT("seed", ONEOF, .flags = MAYBE, .subargs = seeds)
 #define END {0}
 /* clang-format on */
 
@@ -29,6 +29,7 @@ static Argument of_lines[] = {KEY("key", 0), STRING("lines"), END};
 static Argument pair[] = {STRING("item"), NUMBER("increment"), END};
 static Argument pairs[] = {KEY("key", 0), ARGUMENT("item_and_increment", BLOCK, .flags = MANY, .subargs = pair), END};
 static Argument after_items[] = {ITEMS, END};
+static Argument seeds[] = {ARGUMENT("seed", INTEGER, .token = "SEED"), ARGUMENT("keyed", PURE_TOKEN, .token = "KEYED"), END};
 static Argument of_bf_reserve[] = {KEY("key", 0),
                                    FRACTION("error_rate"),
                                    NUMBER("capacity"),
@@ -64,7 +65,7 @@ static Argument of_load[] = {KEY("key", 0),
                              STRING("kind"),
                              STRING("image"),
                              OPTION("maxbytes", INTEGER, "MAXBYTES"),
-                             SEED_OPTION,
+                             OPTION("seed", INTEGER, "SEED"),
                              WORD("replace", "REPLACE"),
                              END};
 static Argument of_state[] = {KEY("key", 0), NUMBER("position"), STRING("bytes"), END};
@@ -116,7 +117,7 @@ static Argument of_state[] = {KEY("key", 0), NUMBER("position"), STRING("bytes")
       "Multiplies each cell of a Count-Min sketch by a fraction, rounded down") \
     X(cms_halve, "CMS.HALVE", DS_COUNT_MIN_U64, WRITES, "write", WRITE_KEY, 2, just_key, "O(width * depth)", \
       "Halves each cell of a Count-Min sketch, rounded down") \
-    X(cms_merge, "CMS.MERGE", DS_COUNT_MIN_U64, WRITES, "write deny-oom", WRITE_KEY, -4, of_cms_merge, \
+    X(cms_merge, "CMS.MERGE", DS_COUNT_MIN_U64, WRITES, "write deny-oom getkeys-api", WRITE_KEY, -4, of_cms_merge, \
       "O(sources * width * depth)", "Makes a Count-Min sketch the sum of others, each times its weight") \
     X(topk_reserve, "TOPK.RESERVE", DS_FREQUENT_ITEMS_STRING, CREATES, "write deny-oom", NEW_KEY, -3, of_topk_reserve, "O(k)", \
       "Creates a sketch of frequent items that lists the first k") \
@@ -168,6 +169,18 @@ static Argument of_state[] = {KEY("key", 0), NUMBER("position"), STRING("bytes")
     }
 COMMANDS(DEFINE)
 
+/* Merges, or returns the keys of the command to the server. A cluster reads keys by positions alone, and not by a number of keys, so
+ * the server asks for them. If the number is wrong, the keys are those up to the end, and the command itself returns the error. */
+static int call_merge(RedisModuleCtx *ctx, RedisModuleString **argv, int argc)
+{
+    long long count;
+    if (!RedisModule_IsKeysPositionRequest(ctx)) return call_cms_merge(ctx, argv, argc);
+    RedisModule_KeyAtPos(ctx, 1);
+    if (argc < 3 || RedisModule_StringToLongLong(argv[2], &count) != REDISMODULE_OK) return REDISMODULE_OK;
+    for (int i = 3; i < argc && i - 3 < count; i++) RedisModule_KeyAtPos(ctx, i);
+    return REDISMODULE_OK;
+}
+
 /* A row of the table. */
 typedef struct Command {
     RedisModuleCmdFunc call;
@@ -211,7 +224,9 @@ static bool create_command(RedisModuleCtx *ctx, const Command *row)
             keys[1].fk.range.keystep = 1;
         }
     }
-    if (RedisModule_CreateCommand(ctx, row->name, row->call, row->flags, 1, 1, 1) != REDISMODULE_OK) return false;
+    if (RedisModule_CreateCommand(ctx, row->name, row->call != call_cms_merge ? row->call : call_merge, row->flags, 1, 1, 1) !=
+        REDISMODULE_OK)
+        return false;
     command = RedisModule_GetCommand(ctx, row->name);
     return command != NULL && RedisModule_SetCommandInfo(command, &info) == REDISMODULE_OK;
 }

@@ -1,25 +1,14 @@
 /* The commands CMS: Count-Min sketches, whose total stays below 2^63. */
 #include "module.h"
 
-/* Reads the option SEED at the end of a command. Returns false after an error. */
-static bool seed_option(Call *call, int at, uint64_t *seed, bool *is_servers)
-{
-    *seed = server_seed;
-    *is_servers = at == call->argc;
-    if (*is_servers) return true;
-    if (at + 2 == call->argc && is_word(call, at, "SEED")) return seed_argument(call, at + 1, seed);
-    reply_error(call, bad_syntax);
-    return false;
-}
-
 /* Creates the sketch of a call, whose options begin at an argument. */
 static int create(Call *call, uint64_t num_hashes, uint64_t num_buckets, int options)
 {
     Sketch *sketch = NULL;
-    uint64_t seed;
-    bool is_servers;
+    uint64_t seed = default_seed;
     int32_t result = num_hashes <= UINT8_MAX ? DS_OK : DS_BAD_NUM_HASHES;
-    if (!seed_option(call, options, &seed, &is_servers)) return REDISMODULE_OK;
+    if (!seed_option(call, &options, &seed)) return REDISMODULE_OK;
+    if (options != call->argc) return reply_error(call, bad_syntax);
     if (result == DS_OK && num_buckets > UINT32_MAX) result = DS_TABLE_TOO_LARGE;
     if (result == DS_OK && !check_limit(call, num_hashes * (num_buckets + 1) * 8)) return REDISMODULE_OK;
     if (result == DS_OK && (sketch = new_value(DS_COUNT_MIN_U64)) == NULL) result = DS_NO_MEMORY;
@@ -30,7 +19,6 @@ static int create(Call *call, uint64_t num_hashes, uint64_t num_buckets, int opt
         return reply_result(call, result);
     }
     sketch->seed = seed;
-    sketch->has_server_seed = is_servers;
     create_value(call, sketch);
     return RedisModule_ReplyWithSimpleString(call->ctx, "OK");
 }
@@ -202,7 +190,7 @@ static bool add_source(Call *call, Sum *sum, RedisModuleString *name, uint64_t w
     if (from.num_buckets != into.num_buckets || from.num_hashes != into.num_hashes) {
         reply_error(call, "CMS: width/depth is not equal");
     } else if (from.seed != into.seed) {
-        reply_error(call, "CMS: seeds differ: sketches to merge are created by one server, or with one SEED");
+        reply_error(call, "CMS: seeds differ: sketches to merge are created with one seed");
     } else if (weight != 0 && from.total_weight > (INT64_MAX - sum->total) / weight) {
         reply_error(call, "CMS: MERGE overflow");
     } else if (sum->read > max_merge_bytes && limit_of(call) != SIZE_MAX) {
@@ -259,7 +247,6 @@ int cms_merge(Call *call)
         return REDISMODULE_OK;
     }
     sum.sketch->seed = call->sketch->seed;
-    sum.sketch->has_server_seed = call->sketch->has_server_seed;
     put_value(call, sum.sketch);
     replicate_call(call);
     return RedisModule_ReplyWithSimpleString(call->ctx, "OK");

@@ -15,12 +15,12 @@ typedef struct Sizes {
     double rate;
     long long capacity;
     uint64_t seed;
-    bool has_server_seed;
+    bool has_seed;
 } Sizes;
 
 static Sizes default_sizes(void)
 {
-    return (Sizes){DEFAULT_RATE, DEFAULT_CAPACITY, server_seed, true};
+    return (Sizes){DEFAULT_RATE, DEFAULT_CAPACITY, default_seed, false};
 }
 
 static bool rate_argument(Call *call, int at, Sizes *sizes)
@@ -39,19 +39,20 @@ static bool capacity_argument(Call *call, int at, Sizes *sizes)
 /* Reads the option at a position that both BF.RESERVE and BF.INSERT take, and moves on. Returns false after an error. */
 static bool option_argument(Call *call, int *at, Sizes *sizes)
 {
-    bool has_value = *at + 1 < call->argc;
+    int before = *at;
     long long expansion;
-    if (is_word(call, *at, "NONSCALING")) {
+    if (!seed_option(call, at, &sizes->seed)) return false;
+    if (*at > before && !sizes->has_seed) {
+        sizes->has_seed = true;
+        return true;
+    }
+    if (is_word(call, before, "NONSCALING")) {
         *at += 1;
         return true;
     }
     *at += 2;
-    if (has_value && is_word(call, *at - 2, "EXPANSION"))
-        return number_argument(call, *at - 1, 0, INT64_MAX, "ERR bad expansion", &expansion);
-    if (has_value && is_word(call, *at - 2, "SEED")) {
-        sizes->has_server_seed = false;
-        return seed_argument(call, *at - 1, &sizes->seed);
-    }
+    if (*at <= call->argc && is_word(call, before, "EXPANSION"))
+        return number_argument(call, before + 1, 0, INT64_MAX, "ERR bad expansion", &expansion);
     reply_error(call, bad_syntax);
     return false;
 }
@@ -74,7 +75,6 @@ static Sketch *new_filter(Call *call, const Sizes *sizes)
         return NULL;
     }
     sketch->seed = sizes->seed;
-    sketch->has_server_seed = sizes->has_server_seed;
     sketch->capacity = (uint64_t)sizes->capacity;
     sketch->rate = sizes->rate;
     return sketch;

@@ -109,7 +109,10 @@ static bool load_options(Call *call, LoadOptions *options)
             if (!number_argument(call, at + 1, 0, INT64_MAX, bad_number, &options->limit)) return false;
             at += 2;
         } else if (has_value && is_word(call, at, "SEED")) {
-            if (!seed_argument(call, at + 1, &options->seed)) return false;
+            if (!read_seed(call->argv[at + 1], &options->seed)) {
+                reply_error(call, bad_number);
+                return false;
+            }
             at += 2;
         } else {
             reply_error(call, bad_syntax);

@@ -7,8 +7,6 @@
 /* Reads the arguments of the module: pairs of a name and a number. Returns false after a message in the server's log. */
 static bool read_arguments(Call *call)
 {
-    uint64_t seed;
-    const uint64_t *given = NULL;
     for (int i = 0; i < call->argc; i += 2) {
         bool has_value = i + 1 < call->argc;
         long long bytes = 0;
@@ -18,14 +16,14 @@ static bool read_arguments(Call *call)
             max_bytes = (size_t)bytes;
         } else if (is_size && is_word(call, i, "max-merge-bytes")) {
             max_merge_bytes = (size_t)bytes;
-        } else if (has_value && is_word(call, i, "seed") && read_seed(call->argv[i + 1], &seed)) {
-            given = &seed;
+        } else if (has_value && is_word(call, i, "seed") && read_seed(call->argv[i + 1], &default_seed) &&
+                   is_usable_seed(default_seed)) {
+            continue;
         } else {
             RedisModule_Log(call->ctx, "warning", "the arguments of the module are: max-bytes N, max-merge-bytes N, seed N");
             return false;
         }
     }
-    set_server_seed(given);
     return true;
 }
 

@@ -49,13 +49,12 @@ typedef int32_t Kind;
 typedef struct Sketch {
     ds_sketch handle; /* none if the value is parts of a state */
     Kind kind;
-    uint64_t seed;        /* of filters and Count-Min sketches */
-    bool has_server_seed; /* whether the seed is the server's, and was not given with the command */
-    ds_key table_key;     /* of frequent items: under which the table hashes. It is secret */
-    uint64_t capacity;    /* of a filter: the items that it was made for. Of frequent items: the k of TOPK */
-    uint64_t inserted;    /* of a filter: the additions that changed it */
-    double rate;    /* of a filter: the rate of false positives at its capacity. Of frequent items: the decay of TOPK.RESERVE */
-    uint64_t width; /* of frequent items: the width and depth of TOPK.RESERVE */
+    uint64_t seed;     /* of filters and Count-Min sketches */
+    ds_key table_key;  /* of frequent items: under which the table hashes. It is secret */
+    uint64_t capacity; /* of a filter: the items that it was made for. Of frequent items: the k of TOPK */
+    uint64_t inserted; /* of a filter: the additions that changed it */
+    double rate;       /* of a filter: the rate of false positives at its capacity. Of frequent items: the decay of TOPK.RESERVE */
+    uint64_t width;    /* of frequent items: the width and depth of TOPK.RESERVE */
     uint64_t depth;
     size_t string_bytes; /* of frequent items: no less than the bytes of the strings in the table */
     size_t spare_bytes;  /* of frequent items: the most by which `string_bytes` is above them */
@@ -73,8 +72,9 @@ extern Types types;
 extern size_t max_bytes;       /* a sketch may take */
 extern size_t max_merge_bytes; /* a merge may read */
 
-/* The seed of filters and Count-Min sketches that are created without one. */
-extern uint64_t server_seed;
+/* The seed of filters and Count-Min sketches that are created without one: an argument of the module, or the library's own. So those
+ * of all servers with the same argument can be merged. */
+extern uint64_t default_seed;
 
 /* Returns a new value without a sketch, or null if there is no memory. */
 Sketch *new_value(Kind kind);
@@ -91,12 +91,11 @@ ds_status status_of(Sketch *sketch);
 /* Returns random bytes as a number. */
 uint64_t random_word(void);
 
-/* Sets the server's seed to the argument of the module, or draws it if that is null. */
-void set_server_seed(const uint64_t *given);
+/* Returns whether Count-Min sketches take a seed. One of 65,536 seeds has a hash that they do not take. */
+bool is_usable_seed(uint64_t seed);
 
-/* Makes the server's seed that of a sketch that was read from a file or came from the master, if the sketch was created with the
- * server's seed then. So sketches from before a start and after it can be merged. */
-void take_server_seed(Sketch *sketch, bool is_trusted);
+/* Returns a random seed. */
+uint64_t random_seed(void);
 
 /* Counts the bytes of the strings of frequent items. */
 void count_strings(Sketch *sketch);
@@ -159,8 +158,8 @@ bool fraction_argument(Call *call, int at, const char *no_number, const char *ou
 /* Reads a seed: a whole number from 0 to 2^64 - 1. Returns whether it is one. */
 bool read_seed(RedisModuleString *from, uint64_t *seed);
 
-/* Reads an argument as a seed. Returns false after an error. */
-bool seed_argument(Call *call, int at, uint64_t *seed);
+/* Reads the option SEED N or KEYED at a position, if it is one of them, and moves on. Returns false after an error. */
+bool seed_option(Call *call, int *at, uint64_t *seed);
 
 /* Returns whether an argument is a word, in any case. */
 bool is_word(Call *call, int at, const char *word);

@@ -7,7 +7,7 @@
 Types types;
 size_t max_bytes = (size_t)64 << 20;
 size_t max_merge_bytes = (size_t)256 << 20;
-uint64_t server_seed;
+uint64_t default_seed = DS_DEFAULT_SEED;
 
 Sketch *new_value(Kind kind)
 {
@@ -49,21 +49,20 @@ uint64_t random_word(void)
     return word;
 }
 
-static bool is_seed_given;
-
-void set_server_seed(const uint64_t *given)
+bool is_usable_seed(uint64_t seed)
 {
     ds_sketch tried = DS_NONE;
-    is_seed_given = given != NULL;
-    do server_seed = is_seed_given ? *given : random_word();
-    while (ds_count_min_new(&tried, DS_COUNT_MIN_U64, 1, 3, server_seed) == DS_ZERO_SEED_HASH && !is_seed_given);
+    bool is_usable = ds_count_min_new(&tried, DS_COUNT_MIN_U64, 1, 3, seed) != DS_ZERO_SEED_HASH;
     ds_free(&tried);
+    return is_usable;
 }
 
-void take_server_seed(Sketch *sketch, bool is_trusted)
+uint64_t random_seed(void)
 {
-    if (!is_trusted) sketch->has_server_seed = false;
-    if (sketch->has_server_seed && !is_seed_given) server_seed = sketch->seed;
+    uint64_t seed;
+    do seed = random_word();
+    while (!is_usable_seed(seed));
+    return seed;
 }
 
 void count_strings(Sketch *sketch)

@@ -14,8 +14,8 @@
 /* The most bytes of a state in one command of a file: less than the least value of `proto-max-bulk-len`. */
 #define PART_BYTES ((size_t)512 << 10)
 
-/* What is set in the byte of flags. */
-enum { HAS_KEY = 1, HAS_SERVER_SEED = 2 };
+/* What is set in the byte of flags. Other flags are ignored: version 0.3.0 wrote 2, too. */
+enum { HAS_KEY = 1 };
 
 /* The header: "RSK" and the version, the kind, the flags, two bytes 0, and these numbers. */
 enum { LENGTH, SEED, KEY_0, KEY_1, CAPACITY, INSERTED, RATE, WIDTH, DEPTH, NUMBERS };
@@ -58,7 +58,6 @@ static uint8_t *state_in(Sketch *sketch, bool with_key, size_t *length, void *(*
     memset(state, 0, HEADER_BYTES);
     memcpy(state, magic, sizeof magic);
     state[4] = (uint8_t)sketch->kind;
-    if (with_key && sketch->has_server_seed) state[5] = HAS_SERVER_SEED;
 #ifdef PLANT_STATE_WITHOUT_KEY
     with_key = false;
 #endif
@@ -119,7 +118,6 @@ Sketch *read_state(const uint8_t *bytes, size_t length, size_t limit, int32_t *r
     *result = DS_NO_MEMORY;
     sketch = new_value(bytes[4]);
     if (sketch == NULL) return NULL;
-    sketch->has_server_seed = (bytes[5] & HAS_SERVER_SEED) != 0;
     sketch->seed = numbers[SEED];
     sketch->table_key = (ds_key){numbers[KEY_0], numbers[KEY_1]};
     if ((bytes[5] & HAS_KEY) == 0) sketch->table_key = (ds_key){random_word(), random_word()};
@@ -163,7 +161,6 @@ static bool put_state(Call *call, Kind kind, const uint8_t *bytes, size_t length
         reply_error(call, result == DS_NO_MEMORY ? no_memory : result == DS_TABLE_TOO_LARGE ? too_much : bad_data);
         return false;
     }
-    take_server_seed(sketch, limit == SIZE_MAX);
     put_value(call, sketch);
     return true;
 }
@@ -276,7 +273,6 @@ static void *load(RedisModuleIO *io, int version, Kind kind)
         result = DS_WRONG_KIND;
     }
     if (sketch == NULL) RedisModule_LogIOError(io, "warning", "a sketch cannot be read: %s", ds_result_message(result));
-    else take_server_seed(sketch, limit == SIZE_MAX);
     return sketch;
 }
 
@@ -367,7 +363,6 @@ static void *copy(RedisModuleString *from, RedisModuleString *to, const void *va
     *copied = (Sketch){.handle = DS_NONE,
                        .kind = sketch->kind,
                        .seed = sketch->seed,
-                       .has_server_seed = sketch->has_server_seed,
                        .table_key = sketch->table_key,
                        .capacity = sketch->capacity,
                        .inserted = sketch->inserted,

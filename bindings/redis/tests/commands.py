@@ -109,7 +109,7 @@ REPLIES = [
     ("CMS.MERGE d 1 none", Error("CMS: key does not exist")),
     ("CMS.MERGE none 1 c", Error("CMS: key does not exist")),
     ("CMS.INITBYDIM s 2000 5 SEED 7", OK),
-    ("CMS.MERGE d 1 s", Error("CMS: seeds differ: sketches to merge are created by one server, or with one SEED")),
+    ("CMS.MERGE d 1 s", Error("CMS: seeds differ: sketches to merge are created with one seed")),
     ("CMS.ADDLINES none a", Error("CMS: key does not exist")),
     ("CMS.ADDLINES s a", 1),
     ("CMS.QUERY s a", [1]),

@@ -40,7 +40,7 @@ def filters(tests):
         tests.check("a full filter says so", client.done("BF.INFO", "rate", "FULL") == [1])
         for name in ["one", "two"]:
             client.done("BF.RESERVE", name, "0.01", 1000)
-        tests.check("one seed for the server", client.done("SKETCH.SEED", "one") == client.done("SKETCH.SEED", "two") != b"9001")
+        tests.check("one seed for all servers", client.done("SKETCH.SEED", "one") == client.done("SKETCH.SEED", "two") == b"9001")
 
 
 def counts(tests):

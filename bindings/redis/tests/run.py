@@ -19,6 +19,7 @@ BINDINGS = os.path.dirname(MODULE)
 sys.path.insert(0, HERE)
 
 import checked  # noqa: E402
+import cluster  # noqa: E402
 import commands  # noqa: E402
 import counted  # noqa: E402
 import damage  # noqa: E402
@@ -91,6 +92,9 @@ GROUPS = [
     stored.rewritten,
     stored.killed,
     stored.seeds,
+    cluster.slots,
+    cluster.migrated,
+    cluster.keyed,
     replicas.follows,
     replicas.cut_off,
     damage.damaged_payloads,

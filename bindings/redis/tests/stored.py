@@ -271,28 +271,22 @@ def killed(tests):
 
 
 def seeds(tests):
-    """The server's seed: one for all keys, after a start too. It differs from that of another server, and an argument sets it."""
-    with tests.server("one seed") as on:
-        with on.client() as client:
-            client.done("BF.ADD", "f", "a")
-            client.done("CMS.INITBYDIM", "c", 100, 3)
-            client.done("CMS.INCRBY", "c", "a", 1)
-            seed = client.done("SKETCH.SEED", "f")
-            client.done("SAVE")
-        on.stop()
-        on.start()
-        with on.client() as client:
-            client.done("CMS.INITBYDIM", "d", 100, 3)
-            tests.check("the seed after a start", client.done("SKETCH.SEED", "d") == client.done("SKETCH.SEED", "c") == seed)
+    """The seed of the configuration: for new keys, and not for those that are there. A drawn one stays with its key after a start."""
+    on = tests.server("seeds")
+    drawn = None
+    for words, seed in [([], b"9001"), (["seed", "123456789012345"], b"123456789012345")]:
+        on.words = words
+        with on, on.client() as client:
+            client.done("BF.ADD", f"f {words}", "a")
+            tests.check(f"the seed with {words}", client.done("SKETCH.SEED", f"f {words}") == seed)
+            if drawn is None:
+                client.done("CMS.INITBYDIM", "c", 100, 3, "KEYED")
+                client.done("CMS.INCRBY", "c", "a", 1)
+                drawn = client.done("SKETCH.SEED", "c")
             tests.check(
-                "a merge of old and new",
-                client.done("CMS.MERGE", "d", 2, "c", "d") == "OK" and client.done("CMS.QUERY", "d", "a") == [1],
+                "a drawn seed stays", client.done("SKETCH.SEED", "c") == drawn != seed and client.done("CMS.QUERY", "c", "a") == [1]
             )
-    on = tests.server("given seed")
-    on.words = ["seed", "123456789012345"]
-    with on, on.client() as client:
-        client.done("BF.ADD", "f", "a")
-        tests.check("a seed given", client.done("SKETCH.SEED", "f") == b"123456789012345" != seed)
+            client.done("SAVE")
     for words in [["seed", "x"], ["what", "1"], ["max-bytes"], ["max-bytes", "-1"]]:
         on = tests.server("bad arguments " + " ".join(words))
         on.words = words
