@@ -1,11 +1,8 @@
-/* The commands BF: Bloom filters. A filter keeps its size. */
+/* The commands BF: Bloom filters. A filter keeps its size. If it is full, a new item is an error, and is not added. An item that the
+ * filter contains is none. What the master or a file of commands sends was decided there, and is added to any filter. */
 #include "module.h"
 
 #include <string.h>
-
-/* How a filter is made that the first addition creates, unless the command says otherwise. */
-#define DEFAULT_CAPACITY 100
-#define DEFAULT_RATE 0.01
 
 /* The most bytes of a chunk of BF.SCANDUMP. */
 #define CHUNK_BYTES ((size_t)8 << 20)
@@ -20,7 +17,7 @@ typedef struct Sizes {
 
 static Sizes default_sizes(void)
 {
-    return (Sizes){DEFAULT_RATE, DEFAULT_CAPACITY, default_seed, false};
+    return (Sizes){default_rate, (long long)default_capacity, default_seed, false};
 }
 
 static bool rate_argument(Call *call, int at, Sizes *sizes)
@@ -94,6 +91,16 @@ int bf_reserve(Call *call)
     return RedisModule_ReplyWithSimpleString(call->ctx, "OK");
 }
 
+/* The error of a new item that a full filter does not take, as clients know it of filters that do not scale. */
+static const char is_full[] = "ERR non scaling filter is full";
+
+/* Returns how many of a number of new items a filter takes. */
+static uint64_t room_for(Call *call, const Sketch *sketch, uint64_t items)
+{
+    uint64_t room = sketch->inserted < sketch->capacity ? sketch->capacity - sketch->inserted : 0;
+    return items <= room || limit_of(call) == SIZE_MAX ? items : room;
+}
+
 /* Returns results as booleans: one for a command with one item, and an array otherwise. */
 static void reply_booleans(Call *call, const bool *results, size_t count, bool as_array, bool when)
 {
@@ -112,29 +119,50 @@ static bool *room_for_results(Call *call, Items *items, bool *room, size_t count
     return results;
 }
 
-/* Inserts the items from an argument on. Creates the filter of the sizes if there is none. */
+/* Inserts items in order up to the first new one that a full filter does not take. Writes for each whether the filter contained it
+ * before. Returns the number of items before that one. No call allocates, so none returns an error. */
+static size_t insert_up_to_full(Call *call, Sketch *sketch, const Items *items, bool *results)
+{
+    size_t done = 0;
+    while (done < items->count) {
+        const ds_string *next = items->strings + done;
+        size_t part = (size_t)room_for(call, sketch, items->count - done);
+        if (part > 0) {
+            ds_items rows = ds_items_fed(next, part);
+            ds_bloom_contains_and_insert_all(&sketch->handle, &rows, results + done, part);
+            for (size_t i = 0; i < part; i++) sketch->inserted += !results[done + i];
+            done += part;
+        } else if (ds_bloom_contains_fed(&sketch->handle, next->bytes, next->length) == DS_YES) {
+            results[done++] = true;
+        } else {
+            break;
+        }
+    }
+    return done;
+}
+
+/* Inserts the items from an argument on. Creates the filter of the sizes if there is none. Replies end with an error at an item that
+ * a full filter does not take. The items before it are replicated alone. */
 static int insert(Call *call, int first, bool as_array, const Sizes *sizes)
 {
     Items items;
     bool room[256], *results;
     Sketch *created = NULL;
-    int32_t result;
-    uint64_t fresh = 0;
     if (!hashed_items(call, first, 1, &items)) return REDISMODULE_OK;
     results = room_for_results(call, &items, room, sizeof room);
     if (results == NULL) return REDISMODULE_OK;
     if (call->sketch == NULL) created = new_filter(call, sizes);
-    if (call->sketch != NULL || created != NULL) {
-        if (created != NULL) create_value(call, created);
-        result = ds_bloom_contains_and_insert_all(&call->sketch->handle, &items.rows, results, items.count);
-        if (result < 0) {
-            reply_result(call, result);
-        } else {
-            for (size_t i = 0; i < items.count; i++) fresh += !results[i];
-            call->sketch->inserted += fresh;
-            if (fresh > 0) replicate_call(call);
-            reply_booleans(call, results, items.count, as_array, false);
-        }
+    if (created != NULL) create_value(call, created);
+    if (call->sketch != NULL) {
+        uint64_t before = call->sketch->inserted;
+        size_t done = insert_up_to_full(call, call->sketch, &items, results);
+        bool is_whole = done == items.count;
+        if (call->sketch->inserted > before && is_whole) replicate_call(call);
+        if (call->sketch->inserted > before && !is_whole)
+            RedisModule_Replicate(call->ctx, "BF.MADD", "sv", call->argv[1], call->argv + first, done);
+        if (as_array) RedisModule_ReplyWithArray(call->ctx, (long)(done + !is_whole));
+        reply_booleans(call, results, done, false, false);
+        if (!is_whole) reply_error(call, is_full);
     }
     if (results != room) free_block(results);
     free_items(&items);
@@ -153,26 +181,65 @@ int bf_madd(Call *call)
     return insert(call, 2, true, &sizes);
 }
 
+/* Returns whether a filter takes all lines of a call: DS_YES, DS_NO or DS_NO_MEMORY. They are looked up only if they may be too
+ * many. */
+static int32_t takes_lines(Call *call, Sketch *sketch, Lines *lines)
+{
+    size_t length, count, room;
+    uint64_t num_lines;
+    ds_items rows;
+    bool results[MOST_LINES];
+    Distinct set = {0};
+    int32_t result = DS_YES;
+    RedisModule_StringPtrLen(call->argv[2], &length); /* no fewer than its lines */
+    if (room_for(call, sketch, length) == length) return DS_YES;
+    num_lines = count_lines(call, 2);
+    room = (size_t)room_for(call, sketch, num_lines);
+    if (room == num_lines) return DS_YES;
+    while (result >= 0 && set.count <= room && (count = next_lines(lines, &rows)) > 0) {
+        ds_bloom_contains_all(&sketch->handle, &rows, results, count);
+        for (size_t i = 0; i < count && result >= 0; i++)
+            if (!results[i]) result = add_distinct(&set, lines->strings[i]);
+    }
+    if (result >= 0) result = set.count <= room ? DS_YES : DS_NO;
+    free_distinct(&set);
+    copy_lines(call, 2, lines);
+    return result;
+}
+
+/* Inserts the lines of a call into a filter, and returns the number of new ones. No call allocates, so none returns an error. */
+static uint64_t insert_lines(Sketch *sketch, Lines *lines)
+{
+    uint64_t before = sketch->inserted;
+    bool results[MOST_LINES];
+    ds_items rows;
+    size_t count;
+    while ((count = next_lines(lines, &rows)) > 0) {
+        ds_bloom_contains_and_insert_all(&sketch->handle, &rows, results, count);
+        for (size_t i = 0; i < count; i++) sketch->inserted += !results[i];
+    }
+    return sketch->inserted - before;
+}
+
 int bf_addlines(Call *call)
 {
     Sizes sizes = default_sizes();
-    Sketch *created = NULL;
+    Sketch *created = NULL, *sketch = call->sketch;
     Lines lines;
-    ds_items rows;
-    uint64_t fresh = 0;
+    int32_t result = DS_NO;
     if (!begin_lines(call, 2, &lines)) return REDISMODULE_OK;
-    if (call->sketch == NULL) created = new_filter(call, &sizes);
-    if (created != NULL) create_value(call, created);
-    if (call->sketch != NULL) {
-        bool results[MOST_LINES];
-        size_t count;
-        while ((count = next_lines(&lines, &rows)) > 0) { /* no call allocates, so none returns an error */
-            ds_bloom_contains_and_insert_all(&call->sketch->handle, &rows, results, count);
-            for (size_t i = 0; i < count; i++) fresh += !results[i];
-        }
-        call->sketch->inserted += fresh;
+    if (sketch == NULL) sketch = created = new_filter(call, &sizes);
+    if (sketch != NULL) {
+        result = takes_lines(call, sketch, &lines);
+        if (result != DS_YES) reply_error(call, result == DS_NO ? is_full : no_memory);
+    }
+    if (result == DS_YES) {
+        if (created != NULL) create_value(call, created);
+        uint64_t fresh = insert_lines(sketch, &lines);
         if (fresh > 0) replicate_call(call);
         RedisModule_ReplyWithLongLong(call->ctx, (long long)fresh);
+    } else {
+        free_value(created);
     }
     end_lines(&lines);
     return REDISMODULE_OK;

@@ -6,18 +6,25 @@
 
 #include <string.h>
 
-bool begin_lines(Call *call, int at, Lines *lines)
+void copy_lines(Call *call, int at, Lines *lines)
 {
     size_t length;
     const char *text = RedisModule_StringPtrLen(call->argv[at], &length);
-    lines->block = length < sizeof lines->room ? NULL : try_block(length + 1);
     lines->next = lines->block != NULL ? lines->block : lines->room;
+    lines->end = lines->next + length;
+    memcpy(lines->next, text, length);
+}
+
+bool begin_lines(Call *call, int at, Lines *lines)
+{
+    size_t length;
+    RedisModule_StringPtrLen(call->argv[at], &length);
+    lines->block = length < sizeof lines->room ? NULL : try_block(length + 1);
     if (length >= sizeof lines->room && lines->block == NULL) {
         reply_error(call, no_memory);
         return false;
     }
-    memcpy(lines->next, text, length);
-    lines->end = lines->next + length;
+    copy_lines(call, at, lines);
     return true;
 }
 

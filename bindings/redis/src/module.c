@@ -4,25 +4,53 @@
 /* The version as one number, which MODULE LIST shows: 10203 is 1.2.3. */
 #define MODULE_VERSION (10000 * DS_VERSION_MAJOR + 100 * DS_VERSION_MINOR + DS_VERSION_PATCH)
 
-/* Reads the arguments of the module: pairs of a name and a number. Returns false after a message in the server's log. */
+/* Reads a number of bytes from an argument. Returns false if it is none. */
+static bool read_bytes(RedisModuleString *from, size_t *bytes)
+{
+    long long number;
+    if (RedisModule_StringToLongLong(from, &number) != REDISMODULE_OK || number < 1024 || number >= (long long)1 << 32)
+        return false;
+    *bytes = (size_t)number;
+    return true;
+}
+
+/* Reads the capacity of filters that an addition creates. Returns false if it is none. */
+static bool read_capacity(RedisModuleString *from)
+{
+    long long number;
+    if (RedisModule_StringToLongLong(from, &number) != REDISMODULE_OK || number <= 0) return false;
+    default_capacity = (uint64_t)number;
+    return true;
+}
+
+/* Reads their rate of false positives. Returns false if it is none. */
+static bool read_rate(RedisModuleString *from)
+{
+    double number;
+    if (RedisModule_StringToDouble(from, &number) != REDISMODULE_OK || !(number > 0 && number < 1)) return false;
+    default_rate = number;
+    return true;
+}
+
+/* Reads an argument of the module and its value. Returns false if it is none. */
+static bool read_argument(Call *call, int at)
+{
+    RedisModuleString *value = call->argv[at + 1];
+    if (is_word(call, at, "max-bytes")) return read_bytes(value, &max_bytes);
+    if (is_word(call, at, "max-merge-bytes")) return read_bytes(value, &max_merge_bytes);
+    if (is_word(call, at, "capacity")) return read_capacity(value);
+    if (is_word(call, at, "error")) return read_rate(value);
+    return is_word(call, at, "seed") && read_seed(value, &default_seed) && is_usable_seed(default_seed);
+}
+
+/* Reads the arguments of the module: pairs of a name and a value. Returns false after a message in the server's log. */
 static bool read_arguments(Call *call)
 {
     for (int i = 0; i < call->argc; i += 2) {
-        bool has_value = i + 1 < call->argc;
-        long long bytes = 0;
-        bool is_size = has_value && RedisModule_StringToLongLong(call->argv[i + 1], &bytes) == REDISMODULE_OK && bytes >= 1024 &&
-                       bytes < (long long)1 << 32;
-        if (is_size && is_word(call, i, "max-bytes")) {
-            max_bytes = (size_t)bytes;
-        } else if (is_size && is_word(call, i, "max-merge-bytes")) {
-            max_merge_bytes = (size_t)bytes;
-        } else if (has_value && is_word(call, i, "seed") && read_seed(call->argv[i + 1], &default_seed) &&
-                   is_usable_seed(default_seed)) {
-            continue;
-        } else {
-            RedisModule_Log(call->ctx, "warning", "the arguments of the module are: max-bytes N, max-merge-bytes N, seed N");
-            return false;
-        }
+        if (i + 1 < call->argc && read_argument(call, i)) continue;
+        RedisModule_Log(call->ctx, "warning",
+                        "the arguments of the module are: max-bytes N, max-merge-bytes N, capacity N, error R, seed N");
+        return false;
     }
     return true;
 }

@@ -76,6 +76,10 @@ extern size_t max_merge_bytes; /* a merge may read */
  * of all servers with the same argument can be merged. */
 extern uint64_t default_seed;
 
+/* The capacity of a filter that an addition creates, and its rate of false positives there: arguments of the module. */
+extern uint64_t default_capacity;
+extern double default_rate;
+
 /* Returns a new value without a sketch, or null if there is no memory. */
 Sketch *new_value(Kind kind);
 
@@ -257,6 +261,9 @@ typedef struct Lines {
 
 /* Copies the lines of an argument. Returns false after an error. */
 bool begin_lines(Call *call, int at, Lines *lines);
+
+/* Copies the same lines again, to take them from the first one on. Those that were taken are overwritten. */
+void copy_lines(Call *call, int at, Lines *lines);
 
 /* Takes the next lines as items, and returns their number: 0 at the end. */
 size_t next_lines(Lines *lines, ds_items *rows);

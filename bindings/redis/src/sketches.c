@@ -8,6 +8,8 @@ Types types;
 size_t max_bytes = (size_t)64 << 20;
 size_t max_merge_bytes = (size_t)256 << 20;
 uint64_t default_seed = DS_DEFAULT_SEED;
+uint64_t default_capacity = 100000;
+double default_rate = 0.01;
 
 Sketch *new_value(Kind kind)
 {

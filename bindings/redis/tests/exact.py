@@ -17,8 +17,8 @@ def filters(tests):
     numbers = random.Random(1)
     with tests.main.client() as client:
         client.done("FLUSHALL")
-        client.done("BF.RESERVE", "f", "0.01", 5000, "SEED", 77)
-        own = oracle.filter_for(tests.library, 5000, 100, 77)
+        client.done("BF.RESERVE", "f", "0.01", 10000, "SEED", 77)
+        own = oracle.filter_for(tests.library, 10000, 100, 77)
         for _ in range(50):
             batch = [f"key {numbers.randrange(10000)}" for _ in range(100)]
             got = client.done("BF.MADD", "f", *batch)
@@ -36,7 +36,7 @@ def filters(tests):
         wrong = sum(client.done("BF.MEXISTS", "rate", *[f"out {i}" for i in range(20000)]))
         tests.check("false positives", 100 <= wrong <= 300, wrong)
         tests.check("a full filter", client.done("BF.INFO", "rate", "FULL") == [0] and client.done("BF.CARD", "rate") > 9800)
-        client.done("BF.MADD", "rate", *[f"more {i}" for i in range(500)])
+        client("BF.MADD", "rate", *[f"more {i}" for i in range(500)])
         tests.check("a full filter says so", client.done("BF.INFO", "rate", "FULL") == [1])
         for name in ["one", "two"]:
             client.done("BF.RESERVE", name, "0.01", 1000)

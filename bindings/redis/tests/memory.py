@@ -57,7 +57,7 @@ COMMANDS = [
 
 def prepare(client):
     client.done("FLUSHALL")
-    client.done("BF.RESERVE", "filter", "0.01", 2000)
+    client.done("BF.RESERVE", "filter", "0.01", 4000)
     client.done("CMS.INITBYDIM", "count", 50, 3)
     for name, size in [("items", 256), ("other", 128), ("empty", 1024)]:
         client.done("FREQ.RESERVE", name, size)

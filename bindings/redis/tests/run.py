@@ -24,6 +24,7 @@ import commands  # noqa: E402
 import counted  # noqa: E402
 import damage  # noqa: E402
 import exact  # noqa: E402
+import full_filters  # noqa: E402
 import memory  # noqa: E402
 import oracle  # noqa: E402
 import planted  # noqa: E402
@@ -86,6 +87,9 @@ GROUPS = [
     exact.frequent,
     exact.images,
     exact.interleaved,
+    full_filters.default_sizes,
+    full_filters.full_filters,
+    full_filters.full_replicas,
     stored.reloads,
     stored.dumps,
     stored.chunks,

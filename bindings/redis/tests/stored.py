@@ -12,7 +12,7 @@ NUMBERS = random.Random(11)
 def fill(client, salt=0):
     """Makes a key of each kind, with purges, items of any bytes and a table that is larger than a sample."""
     client.done("FLUSHALL")
-    client.done("BF.RESERVE", "filter", "0.01", 3000)
+    client.done("BF.RESERVE", "filter", "0.01", 30000)
     client.done("CMS.INITBYDIM", "count", 500, 3)
     client.done("FREQ.RESERVE", "items", 64)
     client.done("TOPK.RESERVE", "top", 3, 8, 7, 0.9)
