@@ -1,6 +1,7 @@
 /* Calls of commands: their keys, their arguments, and what of them goes to replicas. */
 #include "module.h"
 
+#include <ctype.h>
 #include <math.h>
 #include <string.h>
 #include <strings.h>
@@ -79,11 +80,25 @@ void create_value(Call *call, Sketch *sketch)
     replicate_state(call, sketch);
 }
 
+void note_change(Call *call)
+{
+    char event[32];
+    size_t length = 0;
+    if (call->is_noted) return;
+    call->is_noted = true;
+    while (length < sizeof event - 1 && call->name[length] != '\0') {
+        event[length] = (char)tolower((unsigned char)call->name[length]);
+        length++;
+    }
+    event[length] = '\0';
+    RedisModule_SignalModifiedKey(call->ctx, call->argv[1]);
+    RedisModule_NotifyKeyspaceEvent(call->ctx, REDISMODULE_NOTIFY_MODULE, event, call->argv[1]);
+}
+
 void replicate_call(Call *call)
 {
-#ifdef PLANT_ADD_NOT_REPLICATED
-    (void)call;
-#else
+    note_change(call);
+#ifndef PLANT_ADD_NOT_REPLICATED
     RedisModule_ReplicateVerbatim(call->ctx);
 #endif
 }
@@ -154,6 +169,13 @@ bool check_limit(Call *call, uint64_t bytes)
 {
     if (bytes <= max_bytes || bytes <= limit_of(call)) return true;
     reply_error(call, too_much);
+    return false;
+}
+
+bool check_hashes(Call *call, uint64_t hashes)
+{
+    if (hashes <= max_hashes || limit_of(call) == SIZE_MAX) return true;
+    reply_error(call, too_many_hashes);
     return false;
 }
 

@@ -59,8 +59,8 @@ static Argument of_topk_reserve[] = {KEY("key", 0), NUMBER("k"), ARGUMENT("sizes
                                      END};
 static Argument of_topk_list[] = {KEY("key", 0), WORD("withcount", "WITHCOUNT"), END};
 static Argument of_freq_reserve[] = {KEY("key", 0), NUMBER("size"), END};
-static Argument of_rows[] = {KEY("key", 0), OPTION("threshold", INTEGER, "ABOVE"), END};
-static Argument of_freq_merge[] = {KEY("destination", 0), KEYS("source", 1), END};
+static Argument of_rows[] = {KEY("key", 0), OPTION("threshold", INTEGER, "ABOVE"), OPTION("count", INTEGER, "COUNT"), END};
+static Argument of_merge[] = {KEY("destination", 0), KEYS("source", 1), END};
 static Argument of_load[] = {KEY("key", 0),
                              STRING("kind"),
                              STRING("image"),
@@ -101,6 +101,8 @@ static Argument of_state[] = {KEY("key", 0), NUMBER("position"), STRING("bytes")
       "Returns the next chunk of a Bloom filter") \
     X(bf_loadchunk, "BF.LOADCHUNK", DS_BLOOM, REPLACES, "write deny-oom", NEW_KEY, 4, of_loadchunk, "O(bytes of the filter)", \
       "Loads a chunk of a Bloom filter") \
+    X(bf_merge, "BF.MERGE", DS_BLOOM, WRITES_ANY, "write deny-oom", WRITE_KEY, -3, of_merge, "O(bytes of all sources)", \
+      "Merges Bloom filters into one") \
     X(cms_initbydim, "CMS.INITBYDIM", DS_COUNT_MIN_U64, CREATES, "write deny-oom", NEW_KEY, -4, of_initbydim, "O(width * depth)", \
       "Creates a Count-Min sketch of these dimensions") \
     X(cms_initbyprob, "CMS.INITBYPROB", DS_COUNT_MIN_U64, CREATES, "write deny-oom", NEW_KEY, -4, of_initbyprob, \
@@ -126,11 +128,11 @@ static Argument of_state[] = {KEY("key", 0), NUMBER("position"), STRING("bytes")
     X(topk_incrby, "TOPK.INCRBY", DS_FREQUENT_ITEMS_STRING, WRITES, "write deny-oom fast", WRITE_KEY, -4, pairs, \
       "O(items) amortized", "Adds to the weight of each item") \
     X(topk_query, "TOPK.QUERY", DS_FREQUENT_ITEMS_STRING, READS, "readonly", READ_KEY, -3, many_items, \
-      "O(n log n) for n counters", "Returns whether each item is one of the first k") \
+      "O(items), or O(n) for n counters if that is not known", "Returns whether each item is one of the first k") \
     X(topk_count, "TOPK.COUNT", DS_FREQUENT_ITEMS_STRING, READS, "readonly fast", READ_KEY, -3, many_items, "O(items)", \
       "Returns estimates of the weights of items") \
     X(topk_list, "TOPK.LIST", DS_FREQUENT_ITEMS_STRING, READS, "readonly", READ_KEY, -2, of_topk_list, \
-      "O(n log n) for n counters", "Returns the first k items") \
+      "O(n + k log k) for n counters", "Returns the first k items") \
     X(topk_info, "TOPK.INFO", DS_FREQUENT_ITEMS_STRING, READS, "readonly fast", READ_KEY, 2, just_key, "O(1)", \
       "Returns k, and the other arguments of TOPK.RESERVE") \
     X(freq_reserve, "FREQ.RESERVE", DS_FREQUENT_ITEMS_STRING, CREATES, "write deny-oom", NEW_KEY, 3, of_freq_reserve, "O(1)", \
@@ -143,16 +145,20 @@ static Argument of_state[] = {KEY("key", 0), NUMBER("position"), STRING("bytes")
       "O(items) amortized", "Adds to the weight of each item") \
     X(freq_bounds, "FREQ.BOUNDS", DS_FREQUENT_ITEMS_STRING, READS, "readonly fast", READ_KEY, -3, many_items, "O(items)", \
       "Returns a lower and an upper bound of the weight of each item") \
-    X(freq_rows, "FREQ.ROWS", DS_FREQUENT_ITEMS_STRING, READS, "readonly", READ_KEY, -2, of_rows, "O(n log n) for n counters", \
-      "Returns each item whose weight may exceed a threshold, with bounds") \
+    X(freq_rows, "FREQ.ROWS", DS_FREQUENT_ITEMS_STRING, READS, "readonly", READ_KEY, -2, of_rows, \
+      "O(n + m log m) for n counters and m rows", "Returns each item whose weight may exceed a threshold, with bounds") \
     X(freq_info, "FREQ.INFO", DS_FREQUENT_ITEMS_STRING, READS, "readonly fast", READ_KEY, 2, just_key, "O(1)", \
       "Returns the sizes, the total and the error of a sketch of frequent items") \
-    X(freq_merge, "FREQ.MERGE", DS_FREQUENT_ITEMS_STRING, WRITES_ANY, "write deny-oom", WRITE_KEY, -3, of_freq_merge, \
+    X(freq_halve, "FREQ.HALVE", DS_FREQUENT_ITEMS_STRING, WRITES, "write", WRITE_KEY, 2, just_key, "O(n log n) for n counters", \
+      "Halves each weight of a sketch of frequent items, rounded down") \
+    X(freq_merge, "FREQ.MERGE", DS_FREQUENT_ITEMS_STRING, WRITES_ANY, "write deny-oom", WRITE_KEY, -3, of_merge, \
       "O(counters of all sources)", "Merges sketches of frequent items into one") \
     X(sketch_image, "SKETCH.IMAGE", SKETCH_OF_ANY_KIND, READS, "readonly", READ_KEY, 2, just_key, "O(bytes of the sketch)", \
       "Returns the image of a sketch, for other interfaces of the library") \
     X(sketch_load, "SKETCH.LOAD", SKETCH_OF_ANY_KIND, REPLACES, "write deny-oom", NEW_KEY, -4, of_load, \
       "O(bytes of the image and the sketch)", "Creates a sketch from an image") \
+    X(sketch_info, "SKETCH.INFO", SKETCH_OF_ANY_KIND, READS, "readonly", READ_KEY, 2, just_key, "O(n) for n counters, else O(1)", \
+      "Returns the kind and the sizes of a sketch, beside the limits") \
     X(sketch_seed, "SKETCH.SEED", SKETCH_OF_ANY_KIND, READS, "readonly admin", READ_KEY, 2, just_key, "O(1)", \
       "Returns the seed of a filter or a Count-Min sketch, a secret") \
     X(sketch_state, "SKETCH.STATE", SKETCH_OF_ANY_KIND, REPLACES, "write deny-oom admin", NEW_KEY, 4, of_state, "O(bytes)", \
@@ -162,7 +168,7 @@ static Argument of_state[] = {KEY("key", 0), NUMBER("position"), STRING("bytes")
 #define DEFINE(function, name, kind, access, flags, use, arity, arguments, complexity, summary) \
     static int call_##function(RedisModuleCtx *ctx, RedisModuleString **argv, int argc) \
     { \
-        Call call = {ctx, argv, argc, NULL, NULL}; \
+        Call call = {ctx, argv, argc, NULL, NULL, name, false}; \
         if (open_call(&call, kind, access)) function(&call); \
         close_call(&call); \
         return REDISMODULE_OK; \
@@ -195,6 +201,15 @@ typedef struct Command {
     {call_##function, name, flags, use, arity, arguments, complexity, summary},
 static const Command commands[] = {COMMANDS(ROW)};
 
+/* Returns the version of the module that a command came with. */
+static const char *since(const Command *row)
+{
+    RedisModuleCmdFunc later[] = {call_bf_merge, call_freq_halve, call_sketch_info};
+    bool is_later = row->arguments == of_lines;
+    for (size_t i = 0; i < sizeof later / sizeof *later; i++) is_later = is_later || row->call == later[i];
+    return is_later ? "0.4.0" : "0.3.0";
+}
+
 /* Creates a command. */
 static bool create_command(RedisModuleCtx *ctx, const Command *row)
 {
@@ -206,12 +221,12 @@ static bool create_command(RedisModuleCtx *ctx, const Command *row)
     RedisModuleCommandInfo info = {.version = REDISMODULE_COMMAND_INFO_VERSION,
                                    .summary = row->summary,
                                    .complexity = row->complexity,
-                                   .since = row->arguments == of_lines ? "0.4.0" : "0.3.0",
+                                   .since = since(row),
                                    .arity = row->arity,
                                    .key_specs = keys,
                                    .args = row->arguments};
     RedisModuleCommand *command;
-    if (row->arguments == of_cms_merge || row->arguments == of_freq_merge) {
+    if (row->arguments == of_cms_merge || row->arguments == of_merge) {
         keys[1] =
             (RedisModuleCommandKeySpec){.flags = READ_KEY, .begin_search_type = REDISMODULE_KSPEC_BS_INDEX, .bs.index.pos = 2};
         if (row->arguments == of_cms_merge) {

@@ -1,21 +1,28 @@
 /* The commands CMS: Count-Min sketches, whose total stays below 2^63. */
 #include "module.h"
 
+#include <math.h>
+
+/* The base of natural logarithms. */
+static const double e = 2.718281828459045;
+
 /* Creates the sketch of a call, whose options begin at an argument. */
 static int create(Call *call, uint64_t num_hashes, uint64_t num_buckets, int options)
 {
-    Sketch *sketch = NULL;
+    Sketch *sketch;
     uint64_t seed = default_seed;
-    int32_t result = num_hashes <= UINT8_MAX ? DS_OK : DS_BAD_NUM_HASHES;
+    int32_t result = DS_NO_MEMORY;
     if (!seed_option(call, &options, &seed)) return REDISMODULE_OK;
     if (options != call->argc) return reply_error(call, bad_syntax);
-    if (result == DS_OK && num_buckets > UINT32_MAX) result = DS_TABLE_TOO_LARGE;
-    if (result == DS_OK && !check_limit(call, num_hashes * (num_buckets + 1) * 8)) return REDISMODULE_OK;
-    if (result == DS_OK && (sketch = new_value(DS_COUNT_MIN_U64)) == NULL) result = DS_NO_MEMORY;
-    if (result == DS_OK)
+    if (!check_hashes(call, num_hashes)) return REDISMODULE_OK;
+    if (num_buckets > UINT32_MAX) return reply_error(call, too_much);
+    if (!check_limit(call, num_hashes * (num_buckets + 1) * 8)) return REDISMODULE_OK;
+    sketch = new_value(DS_COUNT_MIN_U64);
+    if (sketch != NULL)
         result = ds_count_min_new(&sketch->handle, DS_COUNT_MIN_U64, (uint8_t)num_hashes, (uint32_t)num_buckets, seed);
     if (result != DS_OK) {
         free_value(sketch);
+        if (result == DS_ZERO_SEED_HASH) return reply_error(call, "CMS: a sketch cannot have this seed: choose another");
         return reply_result(call, result);
     }
     sketch->seed = seed;
@@ -28,28 +35,28 @@ int cms_initbydim(Call *call)
     long long width, depth;
     if (!number_argument(call, 2, 1, INT64_MAX, "CMS: invalid width", &width)) return REDISMODULE_OK;
     if (!number_argument(call, 3, 1, INT64_MAX, "CMS: invalid depth", &depth)) return REDISMODULE_OK;
+    if (width < 3) return reply_error(call, "CMS: invalid width: it must be at least 3");
+    if (depth > UINT8_MAX) return reply_error(call, "CMS: invalid depth: it must be at most 255");
     return create(call, (uint64_t)depth, (uint64_t)width, 4);
 }
 
 int cms_initbyprob(Call *call)
 {
     static const char bad_error[] = "CMS: invalid overestimation value", bad_probability[] = "CMS: invalid prob value";
-    double error, probability;
-    uint32_t num_buckets = 0;
-    uint8_t num_hashes = 0;
-    int32_t result;
+    double error, probability, columns, rows;
     if (!fraction_argument(call, 2, bad_error, bad_error, &error)) return REDISMODULE_OK;
     if (!fraction_argument(call, 3, bad_probability, bad_probability, &probability)) return REDISMODULE_OK;
-    result = ds_count_min_suggest_num_buckets(inverse(error), &num_buckets);
-    if (result == DS_OK) result = ds_count_min_suggest_num_hashes(inverse(probability), &num_hashes);
-    if (result != DS_OK) return reply_result(call, result);
-    return create(call, num_hashes, num_buckets, 4);
+    columns = ceil(e / error);
+    rows = ceil(-log(probability));
+    if (rows > UINT8_MAX) return reply_error(call, "CMS: invalid prob value: it must be at least e^-255");
+    if (columns > UINT32_MAX) return reply_error(call, too_much);
+    return create(call, (uint64_t)rows, (uint64_t)columns, 4);
 }
 
 int cms_incrby(Call *call)
 {
     Items items;
-    uint64_t total = status_of(call->sketch).total_weight;
+    uint64_t before = status_of(call->sketch).total_weight, total = before;
     long long weight;
     if (call->argc % 2 != 0) return RedisModule_WrongArity(call->ctx);
     for (int i = 3; i < call->argc; i += 2) {
@@ -70,7 +77,7 @@ int cms_incrby(Call *call)
         ds_count_min_u64_estimate_fed(&call->sketch->handle, item->bytes, item->length, &estimate);
         RedisModule_ReplyWithLongLong(call->ctx, (long long)estimate);
     }
-    replicate_call(call);
+    if (total > before) replicate_call(call);
     free_items(&items);
     return REDISMODULE_OK;
 }
@@ -90,7 +97,7 @@ int cms_addlines(Call *call)
         added += (long long)count;
     }
     end_lines(&lines);
-    replicate_call(call);
+    if (added > 0) replicate_call(call);
     return RedisModule_ReplyWithLongLong(call->ctx, added);
 }
 
@@ -118,33 +125,36 @@ int cms_info(Call *call)
 {
     ds_status status = status_of(call->sketch);
     RedisModule_ReplyWithMap(call->ctx, 3);
-    RedisModule_ReplyWithSimpleString(call->ctx, "width");
-    RedisModule_ReplyWithLongLong(call->ctx, status.num_buckets);
-    RedisModule_ReplyWithSimpleString(call->ctx, "depth");
-    RedisModule_ReplyWithLongLong(call->ctx, status.num_hashes);
-    RedisModule_ReplyWithSimpleString(call->ctx, "count");
-    return RedisModule_ReplyWithLongLong(call->ctx, (long long)status.total_weight);
+    reply_number(call, "width", status.num_buckets);
+    reply_number(call, "depth", status.num_hashes);
+    reply_number(call, "count", status.total_weight);
+    return REDISMODULE_OK;
+}
+
+/* Multiplies the cells and the total by a fraction. That changes a sketch unless it is empty or the fraction is 1. */
+static int decay(Call *call, uint64_t numerator, uint64_t denominator)
+{
+    bool is_changed = numerator < denominator && status_of(call->sketch).total_weight > 0;
+    int32_t result = DS_OK;
+    if (is_changed && numerator == 1 && denominator == 2) result = ds_count_min_u64_halve(&call->sketch->handle);
+    else if (is_changed) result = ds_count_min_u64_decay(&call->sketch->handle, numerator, denominator);
+    if (result < 0) return reply_result(call, result);
+    if (is_changed) replicate_call(call);
+    return RedisModule_ReplyWithSimpleString(call->ctx, "OK");
 }
 
 int cms_decay(Call *call)
 {
     static const char bad_fraction[] = "CMS: the fraction must be above 0 and at most 1";
     long long numerator, denominator;
-    int32_t result;
     if (!number_argument(call, 2, 1, INT64_MAX, bad_fraction, &numerator)) return REDISMODULE_OK;
     if (!number_argument(call, 3, numerator, INT64_MAX, bad_fraction, &denominator)) return REDISMODULE_OK;
-    result = ds_count_min_u64_decay(&call->sketch->handle, (uint64_t)numerator, (uint64_t)denominator);
-    if (result < 0) return reply_result(call, result);
-    replicate_call(call);
-    return RedisModule_ReplyWithSimpleString(call->ctx, "OK");
+    return decay(call, (uint64_t)numerator, (uint64_t)denominator);
 }
 
 int cms_halve(Call *call)
 {
-    int32_t result = ds_count_min_u64_halve(&call->sketch->handle);
-    if (result < 0) return reply_result(call, result);
-    replicate_call(call);
-    return RedisModule_ReplyWithSimpleString(call->ctx, "OK");
+    return decay(call, 1, 2);
 }
 
 /* --- CMS.MERGE: the destination becomes the sum of the sources, each times its weight. --- */
@@ -238,8 +248,7 @@ int cms_merge(Call *call)
         return reply_result(call, result);
     }
     for (int i = 3; i < 3 + count && is_done; i++) {
-        if (has_weights)
-            is_done = number_argument(call, i + (int)count + 1, 0, INT64_MAX, "CMS: a weight must be a number from 0 on", &weight);
+        if (has_weights) is_done = number_argument(call, i + (int)count + 1, 0, INT64_MAX, "CMS: invalid weight value", &weight);
         is_done = is_done && add_source(call, &sum, call->argv[i], (uint64_t)weight);
     }
     if (!is_done) {
@@ -247,7 +256,11 @@ int cms_merge(Call *call)
         return REDISMODULE_OK;
     }
     sum.sketch->seed = call->sketch->seed;
-    put_value(call, sum.sketch);
-    replicate_call(call);
+    if (ds_equal(&sum.sketch->handle, &call->sketch->handle) == DS_YES) {
+        free_value(sum.sketch);
+    } else {
+        put_value(call, sum.sketch);
+        replicate_call(call);
+    }
     return RedisModule_ReplyWithSimpleString(call->ctx, "OK");
 }

@@ -2,6 +2,7 @@
  * filter contains is none. What the master or a file of commands sends was decided there, and is added to any filter. */
 #include "module.h"
 
+#include <math.h>
 #include <string.h>
 
 /* The most bytes of a chunk of BF.SCANDUMP. */
@@ -54,21 +55,43 @@ static bool option_argument(Call *call, int *at, Sizes *sizes)
     return false;
 }
 
+/* Returns the rate of false positives of a full filter with these bits for an item, by the published formula. */
+static double rate_of(double bits, double hashes)
+{
+    return pow(-expm1(-hashes / bits), hashes);
+}
+
+/* Writes the bits and hashes of a filter. The formula of the bits is for the best number of hashes, which need not be whole. So the
+ * hashes are the better ones of the two whole numbers, and there are more bits if the rate is above the given one then. */
+static int32_t suggest(const Sizes *sizes, uint64_t *num_bits, uint16_t *num_hashes)
+{
+    double items = (double)sizes->capacity, bits, hashes;
+    int32_t result = ds_bloom_suggest_num_bits((uint64_t)sizes->capacity, inverse(sizes->rate), num_bits);
+    if (result != DS_OK) return result;
+    bits = (double)*num_bits / items;
+    hashes = floor(bits * log(2));
+    if (hashes < 1 || rate_of(bits, hashes + 1) < rate_of(bits, hashes)) hashes++;
+    if (hashes > INT16_MAX) return DS_BAD_NUM_HASHES;
+    if (rate_of(bits, hashes) > sizes->rate) *num_bits = (uint64_t)ceil(items * -hashes / log1p(-pow(sizes->rate, 1 / hashes)));
+    *num_hashes = (uint16_t)hashes;
+    return DS_OK;
+}
+
 /* Returns a new filter, or null after an error. */
 static Sketch *new_filter(Call *call, const Sizes *sizes)
 {
     uint64_t num_bits = 0;
     uint16_t num_hashes = 0;
     Sketch *sketch;
-    int32_t result = ds_bloom_suggest_num_bits((uint64_t)sizes->capacity, inverse(sizes->rate), &num_bits);
-    if (result == DS_OK) result = ds_bloom_suggest_num_hashes(num_bits, (uint64_t)sizes->capacity, &num_hashes);
-    if (result == DS_OK && !check_limit(call, num_bits / 8)) return NULL;
+    int32_t result = suggest(sizes, &num_bits, &num_hashes);
+    if (result == DS_OK && !(check_limit(call, num_bits / 8) && check_hashes(call, num_hashes))) return NULL;
     sketch = result == DS_OK ? new_value(DS_BLOOM) : NULL;
     if (sketch != NULL) result = ds_bloom_new(&sketch->handle, num_bits, num_hashes, sizes->seed);
     else if (result == DS_OK) result = DS_NO_MEMORY;
     if (result != DS_OK) {
         free_value(sketch);
-        reply_result(call, result);
+        if (result == DS_BAD_NUM_BITS) reply_error(call, "ERR the capacity is too large for the error rate");
+        else reply_result(call, result);
         return NULL;
     }
     sketch->seed = sizes->seed;
@@ -324,19 +347,21 @@ int bf_info(Call *call)
         long long values[] = {
             (long long)sketch->capacity,         (long long)(bytes + sizeof *sketch), 1, (long long)sketch->inserted, 0,
             sketch->inserted >= sketch->capacity};
-        if (call->argc == 2) RedisModule_ReplyWithSimpleString(call->ctx, names[i]);
+        if (call->argc == 2) RedisModule_ReplyWithCString(call->ctx, names[i]);
         if (i == 4) RedisModule_ReplyWithNull(call->ctx); /* a filter does not expand */
         else RedisModule_ReplyWithLongLong(call->ctx, values[i]);
     }
     return REDISMODULE_OK;
 }
 
+static const char bad_iterator[] = "ERR Second argument must be numeric";
+
 int bf_scandump(Call *call)
 {
     long long position;
     size_t length, end;
     uint8_t *state;
-    if (!number_argument(call, 2, 0, INT64_MAX, "ERR Bad iterator", &position)) return REDISMODULE_OK;
+    if (!number_argument(call, 2, 0, INT64_MAX, bad_iterator, &position)) return REDISMODULE_OK;
     state = write_state(call->sketch, false, &length);
     if (state == NULL) return reply_error(call, no_memory);
     end = (uint64_t)position >= length ? 0 : length - (size_t)position < CHUNK_BYTES ? length : (size_t)position + CHUNK_BYTES;
@@ -353,9 +378,66 @@ int bf_loadchunk(Call *call)
     size_t length;
     const uint8_t *bytes = (const uint8_t *)RedisModule_StringPtrLen(call->argv[3], &length);
     long long end;
-    if (!number_argument(call, 2, 1, INT64_MAX, "ERR Bad iterator", &end)) return REDISMODULE_OK;
+    if (!number_argument(call, 2, 1, INT64_MAX, bad_iterator, &end)) return REDISMODULE_OK;
     if ((uint64_t)end < length) return reply_error(call, bad_data);
     if (!take_part(call, DS_BLOOM, (uint64_t)end - length, bytes, length)) return REDISMODULE_OK;
-    replicate_call(call);
+    return RedisModule_ReplyWithSimpleString(call->ctx, "OK");
+}
+
+/* --- BF.MERGE: the destination gets the items of the sources. --- */
+
+/* Merges the filters of a call's other keys into one. Returns false after an error. */
+static bool merge_others(Call *call, Sketch *into, int first)
+{
+    size_t read = 0, bytes = 0;
+    uint64_t items = into->inserted, most = items;
+    uint64_t bits = status_of(into).bits_used;
+    for (int i = first; i < call->argc; i++) {
+        Sketch *other;
+        RedisModuleKey *key = open_other(call, call->argv[i], DS_BLOOM, &other);
+        int32_t result = DS_OK;
+        if (key == NULL) return false;
+        ds_memory_bytes(&other->handle, &bytes);
+        read += 2 * bytes;
+        items = other->inserted > items ? other->inserted : items;
+        most += other->inserted;
+        if (read > max_merge_bytes && limit_of(call) != SIZE_MAX) result = TOO_MUCH_TO_MERGE;
+        if (result == DS_OK) result = ds_merge(&into->handle, &other->handle);
+        RedisModule_CloseKey(key);
+        if (result == DS_MISMATCH) reply_error(call, "ERR filters to merge must have the same bits, hashes and seed");
+        else if (result < 0) reply_result(call, result);
+        if (result < 0) return false;
+    }
+    if (status_of(into).bits_used == bits) return true;
+
+    /* The items of all are no fewer than those of one, and no more than the sum. Between these, the set bits give an estimate. */
+    into->inserted = estimated_items(into);
+    if (into->inserted < items) into->inserted = items;
+    if (into->inserted > most) into->inserted = most;
+    if (into->inserted <= into->capacity || limit_of(call) == SIZE_MAX) return true;
+    reply_error(call, is_full);
+    return false;
+}
+
+int bf_merge(Call *call)
+{
+    Sketch *into, *from = call->sketch;
+    RedisModuleKey *key = NULL;
+    uint64_t bits = from != NULL ? status_of(from).bits_used : 0;
+    if (from == NULL) key = open_other(call, call->argv[2], DS_BLOOM, &from);
+    if (from == NULL) return REDISMODULE_OK;
+    into = clone_value(from);
+    if (key != NULL) RedisModule_CloseKey(key);
+    if (into == NULL) return reply_error(call, no_memory);
+    if (!merge_others(call, into, key != NULL ? 3 : 2)) {
+        free_value(into);
+        return REDISMODULE_OK;
+    }
+    if (key == NULL && status_of(into).bits_used == bits) {
+        free_value(into);
+    } else {
+        put_value(call, into);
+        replicate_call(call);
+    }
     return RedisModule_ReplyWithSimpleString(call->ctx, "OK");
 }

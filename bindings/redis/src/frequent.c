@@ -1,6 +1,9 @@
 /* The commands FREQ and TOPK: frequent items, with bounds of their weights. Both families take the same sketches. */
 #include "module.h"
 
+/* The most slots of a table. */
+#define MOST_SLOTS (1 << 30)
+
 /* Counters for each of the k items of TOPK. */
 #define COUNTERS_OF_ITEM 8
 
@@ -24,7 +27,7 @@ static Sketch *new_frequent(Call *call, uint64_t max_map_size, uint64_t k)
 {
     Sketch *sketch;
     int32_t result = DS_NO_MEMORY;
-    if (max_map_size <= SIZE_MAX / BYTES_OF_SLOT && !check_limit(call, max_map_size * BYTES_OF_SLOT)) return NULL;
+    if (!check_limit(call, max_map_size * BYTES_OF_SLOT)) return NULL;
     sketch = new_value(DS_FREQUENT_ITEMS_STRING);
     if (sketch != NULL) {
         sketch->table_key = (ds_key){random_word(), random_word()};
@@ -40,9 +43,11 @@ static Sketch *new_frequent(Call *call, uint64_t max_map_size, uint64_t k)
 
 int freq_reserve(Call *call)
 {
+    static const char bad_size[] = "ERR the size must be a power of two from 8 to 1073741824";
     long long size;
     Sketch *sketch;
-    if (!number_argument(call, 2, 0, INT64_MAX, bad_number, &size)) return REDISMODULE_OK;
+    if (!number_argument(call, 2, 8, MOST_SLOTS, bad_size, &size)) return REDISMODULE_OK;
+    if ((size & (size - 1)) != 0) return reply_error(call, bad_size);
     sketch = new_frequent(call, (uint64_t)size, (uint64_t)size / 4 * 3);
     if (sketch == NULL) return REDISMODULE_OK;
     create_value(call, sketch);
@@ -95,8 +100,8 @@ static bool add_items(Call *call)
     return is_done;
 }
 
-/* Adds the pairs of an item and its weight of a call. Returns false after an error. */
-static bool add_pairs(Call *call)
+/* Adds the pairs of an item and its weight of a call. Returns false after an error, which is this one for a weight that is none. */
+static bool add_pairs(Call *call, const char *bad_weight)
 {
     Items items;
     uint64_t room[128], *weights;
@@ -111,7 +116,7 @@ static bool add_pairs(Call *call)
     if (!is_done) reply_error(call, no_memory);
     for (size_t i = 0; i < items.count && is_done; i++) {
         long long weight = 0;
-        is_done = number_argument(call, 3 + 2 * (int)i, 0, INT64_MAX, bad_number, &weight);
+        is_done = number_argument(call, 3 + 2 * (int)i, 0, INT64_MAX, bad_weight, &weight);
         weights[i] = (uint64_t)weight;
     }
     is_done = is_done && update(call, &items, weights);
@@ -136,7 +141,7 @@ int freq_addlines(Call *call)
 
 int freq_incrby(Call *call)
 {
-    return add_pairs(call) ? RedisModule_ReplyWithSimpleString(call->ctx, "OK") : REDISMODULE_OK;
+    return add_pairs(call, bad_number) ? RedisModule_ReplyWithSimpleString(call->ctx, "OK") : REDISMODULE_OK;
 }
 
 /* Returns null for each added item: none is known to have left the first k. */
@@ -154,7 +159,8 @@ int topk_add(Call *call)
 
 int topk_incrby(Call *call)
 {
-    return add_pairs(call) ? reply_nulls(call, call->argc / 2 - 1) : REDISMODULE_OK;
+    return add_pairs(call, "TopK: increment must be an integer greater or equal to 0") ? reply_nulls(call, call->argc / 2 - 1)
+                                                                                       : REDISMODULE_OK;
 }
 
 /* --- Bounds of items. --- */
@@ -199,7 +205,7 @@ int topk_count(Call *call)
     ds_frequent_items_bounds *bounds = bounds_of(call, &count);
     if (bounds == NULL) return REDISMODULE_OK;
     RedisModule_ReplyWithArray(call->ctx, (long)count);
-    for (size_t i = 0; i < count; i++) RedisModule_ReplyWithLongLong(call->ctx, (long long)bounds[i].estimate);
+    for (size_t i = 0; i < count; i++) RedisModule_ReplyWithLongLong(call->ctx, (long long)bounds[i].upper_bound);
     free_block(bounds);
     return REDISMODULE_OK;
 }
@@ -215,12 +221,19 @@ typedef struct Rows {
     uint8_t *bytes;
 } Rows;
 
-/* Takes the rows whose upper bounds exceed a threshold. Returns false after an error. */
-static bool take_rows(Call *call, uint64_t threshold, Rows *rows)
+/* Takes the rows whose upper bounds exceed a threshold, at least the first `most` of them. Returns false after an error. */
+static bool take_rows(Call *call, uint64_t threshold, uint64_t most, Rows *rows)
 {
     Sketch *sketch = call->sketch;
     size_t active = status_of(sketch).num_active_items, num_bytes;
-    int32_t result = DS_NO_MEMORY;
+    uint64_t kth = 0;
+    int32_t result = most > 0 && most < active ? kth_estimate(sketch, most, &kth) : DS_OK;
+    if (result < 0) {
+        reply_result(call, result);
+        return false;
+    }
+    if (kth > threshold) threshold = kth - 1;
+    result = DS_NO_MEMORY;
     count_strings(sketch);
     rows->block = try_block(active * sizeof *rows->bounds + (active + 1) * sizeof *rows->offsets + sketch->string_bytes);
     if (rows->block != NULL) {
@@ -243,13 +256,19 @@ static void reply_row_item(Call *call, const Rows *rows, size_t i)
 
 int freq_rows(Call *call)
 {
-    long long threshold = 0;
+    long long threshold = 0, most = 0;
+    size_t count;
     Rows rows;
-    if (call->argc != 2 && !(call->argc == 4 && is_word(call, 2, "ABOVE"))) return reply_error(call, bad_syntax);
-    if (call->argc == 4 && !number_argument(call, 3, 0, INT64_MAX, bad_number, &threshold)) return REDISMODULE_OK;
-    if (!take_rows(call, (uint64_t)threshold, &rows)) return REDISMODULE_OK;
-    RedisModule_ReplyWithArray(call->ctx, (long)rows.count);
-    for (size_t i = 0; i < rows.count; i++) {
+    for (int at = 2; at < call->argc; at += 2) {
+        bool is_threshold = is_word(call, at, "ABOVE");
+        if (at + 1 == call->argc || !(is_threshold || is_word(call, at, "COUNT"))) return reply_error(call, bad_syntax);
+        if (!number_argument(call, at + 1, !is_threshold, INT64_MAX, bad_number, is_threshold ? &threshold : &most))
+            return REDISMODULE_OK;
+    }
+    if (!take_rows(call, (uint64_t)threshold, (uint64_t)most, &rows)) return REDISMODULE_OK;
+    count = most > 0 && (uint64_t)most < rows.count ? (size_t)most : rows.count;
+    RedisModule_ReplyWithArray(call->ctx, (long)count);
+    for (size_t i = 0; i < count; i++) {
         RedisModule_ReplyWithArray(call->ctx, 3);
         reply_row_item(call, &rows, i);
         RedisModule_ReplyWithLongLong(call->ctx, (long long)rows.bounds[i].lower_bound);
@@ -264,8 +283,9 @@ int topk_list(Call *call)
     bool has_counts = call->argc == 3;
     Rows rows;
     size_t count;
-    if (call->argc > 3 || (has_counts && !is_word(call, 2, "WITHCOUNT"))) return reply_error(call, bad_syntax);
-    if (!take_rows(call, 0, &rows)) return REDISMODULE_OK;
+    if (call->argc > 3 || (has_counts && !is_word(call, 2, "WITHCOUNT")))
+        return reply_error(call, "TopK: WITHCOUNT keyword expected");
+    if (!take_rows(call, 0, call->sketch->capacity, &rows)) return REDISMODULE_OK;
     count = rows.count < call->sketch->capacity ? rows.count : call->sketch->capacity;
     RedisModule_ReplyWithArray(call->ctx, (long)(has_counts ? 2 * count : count));
     for (size_t i = 0; i < count; i++) {
@@ -278,17 +298,17 @@ int topk_list(Call *call)
 
 int topk_query(Call *call)
 {
-    size_t count, last;
-    uint64_t least = 1;
-    Rows rows;
+    size_t count;
+    uint64_t least;
+    int32_t result;
     ds_frequent_items_bounds *bounds = bounds_of(call, &count);
     if (bounds == NULL) return REDISMODULE_OK;
-    if (take_rows(call, 0, &rows)) {
-        last = call->sketch->capacity - 1;
-        if (last < rows.count) least = rows.bounds[last].estimate;
+    result = least_of_top(call->sketch, bounds, count, &least);
+    if (result < 0) {
+        reply_result(call, result);
+    } else {
         RedisModule_ReplyWithArray(call->ctx, (long)count);
         for (size_t i = 0; i < count; i++) RedisModule_ReplyWithBool(call->ctx, bounds[i].estimate >= least);
-        free_block(rows.block);
     }
     free_block(bounds);
     return REDISMODULE_OK;
@@ -296,19 +316,13 @@ int topk_query(Call *call)
 
 /* --- Numbers. --- */
 
-static void reply_number(Call *call, const char *name, uint64_t number)
-{
-    RedisModule_ReplyWithSimpleString(call->ctx, name);
-    RedisModule_ReplyWithLongLong(call->ctx, (long long)number);
-}
-
 int topk_info(Call *call)
 {
     RedisModule_ReplyWithMap(call->ctx, 4);
     reply_number(call, "k", call->sketch->capacity);
     reply_number(call, "width", call->sketch->width);
     reply_number(call, "depth", call->sketch->depth);
-    RedisModule_ReplyWithSimpleString(call->ctx, "decay");
+    RedisModule_ReplyWithCString(call->ctx, "decay");
     return RedisModule_ReplyWithDouble(call->ctx, call->sketch->rate);
 }
 
@@ -341,15 +355,13 @@ static bool merge_others(Call *call, Sketch *into, int first)
         ds_memory_bytes(&into->handle, &bytes);
         read += bytes; /* the library works on a copy */
         if (status_of(other).total_weight > INT64_MAX - status_of(into).total_weight) result = DS_WEIGHT_OVERFLOW;
-        if (read > max_merge_bytes && limit_of(call) != SIZE_MAX) {
-            reply_error(call, "ERR the sketches of a merge take more bytes than the module's max-merge-bytes");
-            result = DS_BAD_ARGUMENT;
-        } else {
-            if (result == DS_OK) result = ds_merge(&into->handle, &other->handle);
-            if (result < 0) reply_result(call, result);
-        }
+        if (read > max_merge_bytes && limit_of(call) != SIZE_MAX) result = TOO_MUCH_TO_MERGE;
+        if (result == DS_OK) result = ds_merge(&into->handle, &other->handle);
         RedisModule_CloseKey(key);
-        if (result < 0) return false;
+        if (result < 0) {
+            reply_result(call, result);
+            return false;
+        }
     }
     count_strings(into);
     ds_memory_bytes(&into->handle, &read);
@@ -358,32 +370,19 @@ static bool merge_others(Call *call, Sketch *into, int first)
 
 int freq_merge(Call *call)
 {
-    Sketch *into = new_value(DS_FREQUENT_ITEMS_STRING), *from = call->sketch;
+    Sketch *into, *from = call->sketch;
     RedisModuleKey *key = NULL;
-    if (into == NULL) return reply_error(call, no_memory);
-    if (from == NULL) key = open_other(call, call->argv[2], into->kind, &from);
-    if (from == NULL) {
-        free_value(into);
-        return REDISMODULE_OK;
-    }
-    *into = (Sketch){.handle = DS_NONE,
-                     .kind = from->kind,
-                     .table_key = from->table_key,
-                     .capacity = from->capacity,
-                     .rate = from->rate,
-                     .width = from->width,
-                     .depth = from->depth};
-    if (ds_clone(&into->handle, &from->handle) < 0) {
-        free_value(into);
-        into = NULL;
-        reply_error(call, no_memory);
-    }
+    if (from == NULL) key = open_other(call, call->argv[2], DS_FREQUENT_ITEMS_STRING, &from);
+    if (from == NULL) return REDISMODULE_OK;
+    into = clone_value(from);
     if (key != NULL) RedisModule_CloseKey(key);
-    if (into == NULL) return REDISMODULE_OK;
+    if (into == NULL) return reply_error(call, no_memory);
+    into->kth = 0;
     if (!merge_others(call, into, key != NULL ? 3 : 2)) {
         free_value(into);
         return REDISMODULE_OK;
     }
-    create_value(call, into);
+    if (key == NULL && status_of(into).total_weight == status_of(from).total_weight) free_value(into);
+    else create_value(call, into);
     return RedisModule_ReplyWithSimpleString(call->ctx, "OK");
 }

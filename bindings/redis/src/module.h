@@ -31,6 +31,24 @@ static inline size_t reserve_for(size_t bytes)
     return (bytes + 15) / 16 * 16 + 32;
 }
 
+/* --- Numbers in bytes, the lowest first. --- */
+
+static inline uint64_t read_number(const uint8_t *from, int bytes)
+{
+    uint64_t number = 0;
+    for (int i = 0; i < bytes; i++) number |= (uint64_t)from[i] << 8 * i;
+    return number;
+}
+
+static inline void write_number(uint8_t *to, uint64_t number)
+{
+    for (int i = 0; i < 8; i++) to[i] = (uint8_t)(number >> 8 * i);
+}
+
+/* Where the image of frequent items that has counters has its numbers: that of the counters in four bytes, and others in eight. The
+ * weights of the counters are followed by the items, each with its length in four bytes before it. */
+enum { COUNTERS_AT = 8, TOTAL_AT = 16, ERROR_AT = 24, WEIGHTS_AT = 32 };
+
 #ifdef RATTLE_FAILING_ALLOCATIONS
 /* Makes the allocation after `count` others fail, and each after it if `for_good`. Below 0, none fails. Returns the number of
  * allocations that were left until the failure that was set before. */
@@ -58,7 +76,10 @@ typedef struct Sketch {
     uint64_t depth;
     size_t string_bytes; /* of frequent items: no less than the bytes of the strings in the table */
     size_t spare_bytes;  /* of frequent items: the most by which `string_bytes` is above them */
-    uint8_t *bytes;      /* of parts: those that came, and how many come in all */
+    uint64_t kth;        /* of frequent items: the k-th largest estimate at the time of a total, or 0 if that is not known */
+    uint64_t kth_total;
+    uint8_t *bytes; /* of a state that comes in parts: those that came, and how many come in all. A sketch has them until the last
+                          * part is there, and is then replaced. They are no part of it: no file and no copy has them */
     size_t length, room, total;
 } Sketch;
 
@@ -71,6 +92,7 @@ extern Types types;
 /* The arguments of the module. */
 extern size_t max_bytes;       /* a sketch may take */
 extern size_t max_merge_bytes; /* a merge may read */
+extern size_t max_hashes;      /* of an item, in a sketch */
 
 /* The seed of filters and Count-Min sketches that are created without one: an argument of the module, or the library's own. So those
  * of all servers with the same argument can be merged. */
@@ -82,6 +104,9 @@ extern double default_rate;
 
 /* Returns a new value without a sketch, or null if there is no memory. */
 Sketch *new_value(Kind kind);
+
+/* Returns a copy of a value with its sketch, or null if there is no memory. Parts of a state are left out. */
+Sketch *clone_value(Sketch *sketch);
 
 /* Frees a value with its sketch. */
 void free_value(void *value);
@@ -124,7 +149,9 @@ typedef struct Call {
     RedisModuleString **argv;
     int argc;
     RedisModuleKey *key;
-    Sketch *sketch; /* the key's value, or null if there is no key */
+    Sketch *sketch;   /* the key's value, or null if there is no key */
+    const char *name; /* of the command, as the table of commands has it */
+    bool is_noted;    /* whether clients were told of a change of the key */
 } Call;
 
 /* What a command does with its key. */
@@ -150,7 +177,11 @@ void put_value(Call *call, Sketch *sketch);
 /* Puts a new value into the key, and replicates it. */
 void create_value(Call *call, Sketch *sketch);
 
-/* Replicates the call as it came. */
+/* Tells clients that the key changed: those that watch it, and those that take events of the key space. The event is the name of the
+ * command. A call tells them once, however often it is made. */
+void note_change(Call *call);
+
+/* Notes a change, and replicates the call as it came. */
 void replicate_call(Call *call);
 
 /* Reads an argument as a whole number from `least` to `most`. Returns false after this error. */
@@ -174,19 +205,31 @@ size_t limit_of(Call *call);
 /* Returns whether a sketch may take these bytes. Returns false after an error. */
 bool check_limit(Call *call, uint64_t bytes);
 
+/* Returns whether a sketch may have these hashes of an item. Returns false after an error. */
+bool check_hashes(Call *call, uint64_t hashes);
+
 /* Returns 1 / `fraction` as a whole number, rounded up, unless rounding alone put it above a whole number. */
 uint64_t inverse(double fraction);
 
 /* --- errors.c --- */
 
 /* Errors that several commands return. Each family of commands has its own words for the first two, which its clients know. */
-extern const char no_memory[], bad_data[], bad_syntax[], bad_number[], too_much[];
+extern const char no_memory[], bad_data[], bad_syntax[], bad_number[], too_much[], too_many_hashes[];
+
+/* Results beside those of the library. */
+enum { BAD_CHECKSUM = -1000, TOO_MANY_HASHES = -1001, TOO_MUCH_TO_MERGE = -1002 };
+
+/* Returns the words of a result below 0. */
+const char *message_of(int32_t result);
 
 /* Returns an error to the client. */
 int reply_error(Call *call, const char *error);
 
 /* Returns the error of a result below 0 to the client. */
 int reply_result(Call *call, int32_t result);
+
+/* Returns a number and its name, as a part of a map. */
+void reply_number(Call *call, const char *name, uint64_t number);
 
 /* Return the errors that a key is not there, and that it is there, in the words of the command's family. */
 int reply_missing(Call *call);
@@ -246,6 +289,14 @@ void free_distinct(Distinct *set);
  * nothing changed. */
 bool update(Call *call, const Items *items, const uint64_t *weights);
 
+/* --- ranks.c --- */
+
+/* Writes the k-th largest estimate of a sketch that has at least k counters, k from 1. Returns DS_NO_MEMORY and DS_ITEM_TOO_LONG. */
+int32_t kth_estimate(Sketch *sketch, uint64_t k, uint64_t *estimate);
+
+/* Writes an estimate that these items reach if they are among the first k, and only then. Returns the errors of `kth_estimate`. */
+int32_t least_of_top(Sketch *sketch, const ds_frequent_items_bounds *bounds, size_t count, uint64_t *least);
+
 /* --- lines.c: the lines of an argument as items of filters and Count-Min sketches. --- */
 
 /* The most lines that one call of the library takes. */
@@ -279,19 +330,23 @@ uint64_t count_lines(Call *call, int at);
  * `with_key`. */
 uint8_t *write_state(Sketch *sketch, bool with_key, size_t *length);
 
-/* Returns the value of bytes. Returns null, and the result, if they are damaged or the sketch takes more than `limit` bytes. */
+/* Returns the value of bytes. Returns null, and the result, if they are damaged or the sketch takes more than `limit` bytes. If there
+ * is a limit, it returns null for too many hashes, too. */
 Sketch *read_state(const uint8_t *bytes, size_t length, size_t limit, int32_t *result);
 
-/* Takes bytes of a state from a position on into the key. With the last ones, the key gets the sketch, of a kind or of any kind if
- * it is 0. Returns false after an error: then nothing changed. */
+/* Takes bytes of a state from a position on for the key, and replicates what changed. With the last ones, the key gets the sketch, of a
+ * kind or of any kind if it is 0. Until then it keeps the one that it has, if any. Returns false after an error: then nothing changed. */
 bool take_part(Call *call, Kind kind, uint64_t position, const uint8_t *bytes, size_t length);
 
-/* Replicates a call as the state of its key's value. */
+/* Notes a change, and replicates a call as the state of its key's value. */
 void replicate_state(Call *call, Sketch *sketch);
 
 /* Returns the image of a sketch, to free by `free_block`. That of frequent items has its items in the order of their bytes, so equal
  * sketches have equal images. Returns null if there is no memory. */
 uint8_t *write_image(Sketch *sketch, size_t *length);
+
+/* Returns the hashes of an item in the image of a filter, and 0 for other kinds, whose images have few. */
+uint32_t hashes_in_image(Kind kind, const uint8_t *image, size_t length);
 
 /* Creates the types of values. Returns whether it did. */
 bool create_types(RedisModuleCtx *ctx);
@@ -300,14 +355,14 @@ bool create_types(RedisModuleCtx *ctx);
 
 int bf_reserve(Call *call), bf_add(Call *call), bf_madd(Call *call), bf_addlines(Call *call), bf_insert(Call *call),
     bf_exists(Call *call), bf_mexists(Call *call), bf_card(Call *call), bf_info(Call *call), bf_scandump(Call *call),
-    bf_loadchunk(Call *call);
+    bf_loadchunk(Call *call), bf_merge(Call *call);
 int cms_initbydim(Call *call), cms_initbyprob(Call *call), cms_incrby(Call *call), cms_addlines(Call *call), cms_query(Call *call),
     cms_merge(Call *call), cms_info(Call *call), cms_decay(Call *call), cms_halve(Call *call);
 int topk_reserve(Call *call), topk_add(Call *call), topk_incrby(Call *call), topk_query(Call *call), topk_count(Call *call),
     topk_list(Call *call), topk_info(Call *call);
 int freq_reserve(Call *call), freq_add(Call *call), freq_addlines(Call *call), freq_incrby(Call *call), freq_bounds(Call *call),
-    freq_rows(Call *call), freq_info(Call *call), freq_merge(Call *call);
-int sketch_image(Call *call), sketch_load(Call *call), sketch_seed(Call *call), sketch_state(Call *call);
+    freq_rows(Call *call), freq_info(Call *call), freq_halve(Call *call), freq_merge(Call *call);
+int sketch_image(Call *call), sketch_load(Call *call), sketch_info(Call *call), sketch_seed(Call *call), sketch_state(Call *call);
 
 /* Creates the commands. Returns whether it did. */
 bool create_commands(RedisModuleCtx *ctx);

@@ -7,6 +7,7 @@
 Types types;
 size_t max_bytes = (size_t)64 << 20;
 size_t max_merge_bytes = (size_t)256 << 20;
+size_t max_hashes = 255;
 uint64_t default_seed = DS_DEFAULT_SEED;
 uint64_t default_capacity = 100000;
 double default_rate = 0.01;
@@ -16,6 +17,19 @@ Sketch *new_value(Kind kind)
     Sketch *sketch = try_block(sizeof *sketch);
     if (sketch != NULL) *sketch = (Sketch){.handle = DS_NONE, .kind = kind};
     return sketch;
+}
+
+Sketch *clone_value(Sketch *sketch)
+{
+    Sketch *copied = new_value(sketch->kind);
+    if (copied == NULL) return NULL;
+    *copied = *sketch;
+    copied->handle = (ds_sketch)DS_NONE;
+    copied->bytes = NULL;
+    copied->length = copied->room = copied->total = 0;
+    if (ds_clone(&copied->handle, &sketch->handle) == DS_OK) return copied;
+    free_value(copied);
+    return NULL;
 }
 
 void free_value(void *value)

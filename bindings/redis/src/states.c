@@ -5,7 +5,7 @@
  * to clients, and have no key: a sketch of frequent items that is read without one draws another. */
 #include "module.h"
 
-#include <math.h>
+#include <stdio.h>
 #include <string.h>
 
 /* The version of the values in files, and of the states in them. */
@@ -26,18 +26,6 @@ static const uint8_t magic[4] = {'R', 'S', 'K', VERSION};
 
 /* Whether a file is being written, or a replica's copy of all keys. Only then are keys of tables written. */
 static bool is_saving;
-
-static void put_number(uint8_t *to, uint64_t number)
-{
-    for (int i = 0; i < 8; i++) to[i] = (uint8_t)(number >> 8 * i);
-}
-
-static uint64_t get_number(const uint8_t *from)
-{
-    uint64_t number = 0;
-    for (int i = 0; i < 8; i++) number |= (uint64_t)from[i] << 8 * i;
-    return number;
-}
 
 /* Returns the checksum of bytes: a hash under a fixed key. It finds damage, and is no signature. */
 static uint64_t checksum(const uint8_t *bytes, size_t length)
@@ -68,9 +56,9 @@ static uint8_t *state_in(Sketch *sketch, bool with_key, size_t *length, void *(*
     }
     numbers[LENGTH] = *length;
     memcpy(&numbers[RATE], &sketch->rate, sizeof sketch->rate);
-    for (int i = 0; i < NUMBERS; i++) put_number(state + 8 + 8 * i, numbers[i]);
+    for (int i = 0; i < NUMBERS; i++) write_number(state + 8 + 8 * i, numbers[i]);
     ds_serialize(&sketch->handle, state + HEADER_BYTES, image, &image);
-    put_number(state + HEADER_BYTES + image, checksum(state, HEADER_BYTES + image));
+    write_number(state + HEADER_BYTES + image, checksum(state, HEADER_BYTES + image));
     return state;
 }
 
@@ -109,12 +97,14 @@ Sketch *read_state(const uint8_t *bytes, size_t length, size_t limit, int32_t *r
     if (length < HEADER_BYTES + CHECKSUM_BYTES) return NULL;
     *result = DS_BAD_VERSION;
     if (memcmp(bytes, magic, sizeof magic) != 0) return NULL;
-    *result = DS_BAD_ITEM;
+    *result = BAD_CHECKSUM;
     image = length - HEADER_BYTES - CHECKSUM_BYTES;
-    if (checksum(bytes, HEADER_BYTES + image) != get_number(bytes + HEADER_BYTES + image)) return NULL;
-    for (int i = 0; i < NUMBERS; i++) numbers[i] = get_number(bytes + 8 + 8 * i);
+    if (checksum(bytes, HEADER_BYTES + image) != read_number(bytes + HEADER_BYTES + image, 8)) return NULL;
+    for (int i = 0; i < NUMBERS; i++) numbers[i] = read_number(bytes + 8 + 8 * i, 8);
     *result = DS_WRONG_KIND;
     if (bytes[4] != DS_BLOOM && bytes[4] != DS_COUNT_MIN_U64 && bytes[4] != DS_FREQUENT_ITEMS_STRING) return NULL;
+    *result = TOO_MANY_HASHES;
+    if (limit != SIZE_MAX && hashes_in_image(bytes[4], bytes + HEADER_BYTES, image) > max_hashes) return NULL;
     *result = DS_NO_MEMORY;
     sketch = new_value(bytes[4]);
     if (sketch == NULL) return NULL;
@@ -129,6 +119,7 @@ Sketch *read_state(const uint8_t *bytes, size_t length, size_t limit, int32_t *r
     ds_image_options options = {limit, sketch->seed, &sketch->table_key};
     *result = ds_deserialize_prefix(&sketch->handle, sketch->kind, bytes + HEADER_BYTES, image, &options, &used);
     if (*result == DS_OK && (used != image || numbers[LENGTH] != length || !is_sound(sketch))) *result = DS_VALUE_OUT_OF_RANGE;
+    if (*result == DS_OK && limit != SIZE_MAX && status_of(sketch).num_hashes > max_hashes) *result = TOO_MANY_HASHES;
     if (*result != DS_OK) {
         free_value(sketch);
         return NULL;
@@ -137,12 +128,13 @@ Sketch *read_state(const uint8_t *bytes, size_t length, size_t limit, int32_t *r
     return sketch;
 }
 
-/* --- States in parts, of BF.LOADCHUNK and SKETCH.STATE. --- */
+/* --- States in parts, of BF.LOADCHUNK and SKETCH.STATE. A key without a value gets parts as its value. A sketch keeps them aside
+ * until the last one is there. --- */
 
 /* Returns the length of the state that begins with these bytes, or 0 if none of at most `limit` bytes does. */
 static size_t length_of_state(const uint8_t *bytes, size_t length, size_t limit)
 {
-    uint64_t total = length >= HEADER_BYTES && memcmp(bytes, magic, sizeof magic) == 0 ? get_number(bytes + 8) : 0;
+    uint64_t total = length >= HEADER_BYTES && memcmp(bytes, magic, sizeof magic) == 0 ? read_number(bytes + 8, 8) : 0;
     return total >= length && total <= limit ? (size_t)total : 0;
 }
 
@@ -150,61 +142,97 @@ static size_t length_of_state(const uint8_t *bytes, size_t length, size_t limit)
 static bool put_state(Call *call, Kind kind, const uint8_t *bytes, size_t length)
 {
     int32_t result;
-    size_t limit = limit_of(call);
-    Sketch *sketch = read_state(bytes, length, limit, &result);
+    Sketch *sketch = read_state(bytes, length, limit_of(call), &result);
     if (sketch != NULL && kind != 0 && sketch->kind != kind) {
         free_value(sketch);
         sketch = NULL;
         result = DS_WRONG_KIND;
     }
     if (sketch == NULL) {
-        reply_error(call, result == DS_NO_MEMORY ? no_memory : result == DS_TABLE_TOO_LARGE ? too_much : bad_data);
+        if (result == DS_NO_MEMORY || result == DS_TABLE_TOO_LARGE || result == TOO_MANY_HASHES) reply_result(call, result);
+        else reply_error(call, bad_data);
         return false;
     }
     put_value(call, sketch);
     return true;
 }
 
-/* Makes room for more bytes in parts. The room doubles, so that many small parts cost no more than their bytes. */
-static bool grow(Sketch *parts, size_t more)
+/* Adds bytes to parts. The room doubles, so that many small parts cost no more than their bytes. Returns false if there is no memory:
+ * then nothing changed. */
+static bool add_bytes(Sketch *parts, const uint8_t *more, size_t length)
 {
-    size_t room = parts->room * 2 > parts->length + more ? parts->room * 2 : parts->length + more;
-    uint8_t *bytes;
-    if (parts->length + more <= parts->room) return true;
-    if (room > parts->total) room = parts->total;
-    bytes = try_block(room);
-    if (bytes == NULL) return false;
-    if (parts->length > 0) memcpy(bytes, parts->bytes, parts->length);
-    free_block(parts->bytes);
-    parts->bytes = bytes;
-    parts->room = room;
+    size_t needed = parts->length + length, room = parts->room * 2 > needed ? parts->room * 2 : needed;
+    if (needed > parts->room) {
+        uint8_t *bytes = try_block(room < parts->total ? room : parts->total);
+        if (bytes == NULL) return false;
+        if (parts->length > 0) memcpy(bytes, parts->bytes, parts->length);
+        free_block(parts->bytes);
+        parts->bytes = bytes;
+        parts->room = room < parts->total ? room : parts->total;
+    }
+    memcpy(parts->bytes + parts->length, more, length);
+    parts->length = needed;
     return true;
+}
+
+/* Takes the first part of a state of `total` bytes. Returns false after an error. */
+static bool begin_parts(Call *call, size_t total, const uint8_t *bytes, size_t length)
+{
+    Sketch first = {.handle = DS_NONE, .kind = PARTS, .total = total}, *parts = call->sketch;
+    bool is_new = parts == NULL || parts->kind == PARTS;
+    if (is_new) parts = new_value(PARTS);
+    if (parts == NULL || !add_bytes(&first, bytes, length)) {
+        if (is_new) free_value(parts);
+        reply_error(call, no_memory);
+        return false;
+    }
+    free_block(parts->bytes);
+    parts->bytes = first.bytes;
+    parts->length = length;
+    parts->room = first.room;
+    parts->total = total;
+    if (is_new) put_value(call, parts);
+    return true;
+}
+
+/* Takes a part of a state behind those that came. Returns false after an error. */
+static bool continue_parts(Call *call, Kind kind, const uint8_t *bytes, size_t length)
+{
+    Sketch *parts = call->sketch;
+    size_t before = parts->length;
+    if (!add_bytes(parts, bytes, length)) {
+        reply_error(call, no_memory);
+        return false;
+    }
+    if (parts->length < parts->total || put_state(call, kind, parts->bytes, parts->total)) return true;
+    parts->length = before;
+    return false;
 }
 
 bool take_part(Call *call, Kind kind, uint64_t position, const uint8_t *bytes, size_t length)
 {
-    Sketch *parts = call->sketch;
+    const Sketch *before = call->sketch;
     size_t limit = limit_of(call), most = limit < SIZE_MAX / 4 ? 2 * limit + (1 << 20) : SIZE_MAX;
-    size_t total = position == 0 ? length_of_state(bytes, length, most) : 0;
-    if (position == 0 && total == length && total > 0) return put_state(call, kind, bytes, length);
-    if (position == 0 ? total == 0
-                      : parts == NULL || parts->kind != PARTS || parts->length != position || length > parts->total - position) {
+    size_t total = position == 0 ? length_of_state(bytes, length, most) : before != NULL ? before->total : 0;
+    bool is_aside = before != NULL && before->kind != PARTS, is_done;
+    if (total == 0 || (position > 0 && (before->length != position || length > total - position))) {
         reply_error(call, bad_data);
         return false;
     }
-    if (position == 0) {
-        parts = new_value(PARTS);
-        if (parts != NULL) parts->total = total;
+    if (position > 0) is_done = continue_parts(call, kind, bytes, length);
+    else if (total == length) is_done = put_state(call, kind, bytes, length);
+    else is_done = begin_parts(call, total, bytes, length);
+    if (!is_done) return false;
+
+    /* Parts aside change nothing that a client sees. A replica may have read its copy of all keys between two of them, and has none
+     * then: so it gets the whole sketch with the last one. */
+    if (is_aside && position + length < total) {
+        if (limit == SIZE_MAX) RedisModule_ReplicateVerbatim(call->ctx);
+    } else if (is_aside && position > 0 && limit != SIZE_MAX) {
+        replicate_state(call, call->sketch);
+    } else {
+        replicate_call(call);
     }
-    if (parts == NULL || !grow(parts, length)) {
-        if (position == 0) free_value(parts);
-        reply_error(call, no_memory);
-        return false;
-    }
-    memcpy(parts->bytes + parts->length, bytes, length);
-    if (parts->length + length == parts->total) return put_state(call, kind, parts->bytes, parts->total);
-    parts->length += length;
-    if (position == 0) put_value(call, parts);
     return true;
 }
 
@@ -215,7 +243,6 @@ int sketch_state(Call *call)
     const uint8_t *bytes = (const uint8_t *)RedisModule_StringPtrLen(call->argv[3], &length);
     if (!number_argument(call, 2, 0, INT64_MAX, bad_number, &position)) return REDISMODULE_OK;
     if (!take_part(call, 0, (uint64_t)position, bytes, length)) return REDISMODULE_OK;
-    replicate_call(call);
     return RedisModule_ReplyWithSimpleString(call->ctx, "OK");
 }
 
@@ -226,6 +253,7 @@ void replicate_state(Call *call, Sketch *sketch)
 {
     size_t length;
     uint8_t *state = saved_state(sketch, true, &length);
+    note_change(call);
     for (size_t at = 0; at < length; at += PART_BYTES) {
         size_t part = length - at < PART_BYTES ? length - at : PART_BYTES;
         RedisModule_Replicate(call->ctx, state_command, state_arguments, call->argv[1], (long long)at, (char *)state + at, part);
@@ -258,6 +286,24 @@ static size_t limit_of_file(void)
     return (flags & (REDISMODULE_CTX_FLAGS_LOADING | REDISMODULE_CTX_FLAGS_ASYNC_LOADING)) != 0 ? SIZE_MAX : max_bytes;
 }
 
+/* Logs that the value of a key cannot be read, and why. Bytes of the key that are not printable are shown as numbers. */
+static void log_unread(RedisModuleIO *io, int32_t result)
+{
+    char key[256];
+    size_t length = 0, at = 0;
+    const RedisModuleString *name = RedisModule_GetKeyNameFromIO(io);
+    const char *bytes = name != NULL ? RedisModule_StringPtrLen(name, &length) : "";
+    for (size_t i = 0; i < length && at + 8 < sizeof key; i++) {
+        unsigned char byte = (unsigned char)bytes[i];
+        bool is_shown = byte >= ' ' && byte <= '~' && byte != '\'' && byte != '\\';
+        at += (size_t)snprintf(key + at, sizeof key - at, is_shown ? "%c" : "\\x%02x", byte);
+        if (i + 1 < length && at + 8 >= sizeof key) at += (size_t)snprintf(key + at, sizeof key - at, "...");
+    }
+    key[at] = '\0';
+    RedisModule_LogIOError(io, "warning", "the sketch of the key '%s' in database %d cannot be read: %s", key,
+                           RedisModule_GetDbIdFromIO(io), message_of(result));
+}
+
 /* Loads a value of a kind. Returns null if its bytes are damaged. */
 static void *load(RedisModuleIO *io, int version, Kind kind)
 {
@@ -272,7 +318,7 @@ static void *load(RedisModuleIO *io, int version, Kind kind)
         sketch = NULL;
         result = DS_WRONG_KIND;
     }
-    if (sketch == NULL) RedisModule_LogIOError(io, "warning", "a sketch cannot be read: %s", ds_result_message(result));
+    if (sketch == NULL) log_unread(io, result);
     return sketch;
 }
 
@@ -305,6 +351,7 @@ static void *load_parts(RedisModuleIO *io, int version)
         parts->length = parts->room = length;
         parts->total = total;
     } else {
+        log_unread(io, bytes == NULL ? DS_NO_MEMORY : DS_INSUFFICIENT_DATA);
         free_block(bytes);
     }
     return parts;
@@ -356,26 +403,14 @@ static size_t free_effort(RedisModuleString *key, const void *value)
 
 static void *copy(RedisModuleString *from, RedisModuleString *to, const void *value)
 {
-    Sketch *sketch = (Sketch *)value, *copied = new_value(sketch->kind);
+    Sketch *sketch = (Sketch *)value, *copied;
     (void)from;
     (void)to;
+    if (sketch->kind != PARTS) return clone_value(sketch);
+    copied = new_value(PARTS);
     if (copied == NULL) return NULL;
-    *copied = (Sketch){.handle = DS_NONE,
-                       .kind = sketch->kind,
-                       .seed = sketch->seed,
-                       .table_key = sketch->table_key,
-                       .capacity = sketch->capacity,
-                       .inserted = sketch->inserted,
-                       .rate = sketch->rate,
-                       .width = sketch->width,
-                       .depth = sketch->depth,
-                       .string_bytes = sketch->string_bytes,
-                       .spare_bytes = sketch->spare_bytes,
-                       .total = sketch->total};
-    if (sketch->kind == PARTS ? grow(copied, sketch->length) : ds_clone(&copied->handle, &sketch->handle) == DS_OK) {
-        if (sketch->kind == PARTS) memcpy(copied->bytes, sketch->bytes, copied->length = sketch->length);
-        return copied;
-    }
+    copied->total = sketch->total;
+    if (add_bytes(copied, sketch->bytes, sketch->length)) return copied;
     free_value(copied);
     return NULL;
 }
@@ -412,7 +447,7 @@ bool create_types(RedisModuleCtx *ctx)
     types.counts = create_type(ctx, "rsk-count", load_count);
     types.frequent = create_type(ctx, "rsk-items", load_frequent);
     types.parts = create_type(ctx, "rsk-parts", load_parts);
-    RedisModule_SetModuleOptions(ctx, REDISMODULE_OPTIONS_HANDLE_IO_ERRORS);
+    RedisModule_SetModuleOptions(ctx, REDISMODULE_OPTIONS_HANDLE_IO_ERRORS | REDISMODULE_OPTION_NO_IMPLICIT_SIGNAL_MODIFIED);
     return types.filters != NULL && types.counts != NULL && types.frequent != NULL && types.parts != NULL &&
            RedisModule_SubscribeToServerEvent(ctx, RedisModuleEvent_Persistence, note_saving) == REDISMODULE_OK;
 }

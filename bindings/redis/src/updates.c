@@ -116,6 +116,7 @@ bool update(Call *call, const Items *items, const uint64_t *weights)
     Sketch *sketch = call->sketch;
     ds_status before = status_of(sketch);
     Stored stored;
+    ds_status after;
     int32_t result;
     if (!has_room(&before, items, weights)) {
         reply_result(call, DS_WEIGHT_OVERFLOW);
@@ -132,12 +133,14 @@ bool update(Call *call, const Items *items, const uint64_t *weights)
         reply_result(call, result);
         return false;
     }
+    after = status_of(sketch);
+    if (after.total_weight == before.total_weight) return true; /* all weights were 0 */
     sketch->string_bytes += stored.bytes;
     if (!stored.is_weighed) sketch->spare_bytes += stored.bytes;
 
     /* What a purge removes depends on where items are in the table, so it is replicated as the sketch after it. All else is the same
      * in any table with the same counters, and is replicated as it came. */
-    if (status_of(sketch).maximum_error != before.maximum_error) {
+    if (after.maximum_error != before.maximum_error) {
         sketch->spare_bytes = sketch->string_bytes;
         replicate_state(call, sketch);
     } else {

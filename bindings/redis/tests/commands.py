@@ -56,12 +56,24 @@ REPLIES = [
     ("BF.RESERVE e 0.1 10 SEED 18446744073709551615 NONSCALING", OK),
     ("SKETCH.SEED e", b"18446744073709551615"),
     ("BF.RESERVE big 0.000001 1000000000", Error("ERR a sketch of this command takes more bytes than the module's max-bytes")),
-    ("BF.RESERVE big 0.1 9223372036854775807", Error("ERR num_bits out of range")),
+    ("BF.RESERVE big 0.1 9223372036854775807", Error("ERR the capacity is too large for the error rate")),
     ("BF.ADD f", Error("ERR wrong number of arguments for 'BF.ADD' command")),
     ("BF.ADDLINES f line", 1),
     ("BF.ADDLINES f line", 0),
     ("BF.CARD f", 4),
     ("BF.ADDLINES f a b", Error("ERR wrong number of arguments for 'BF.ADDLINES' command")),
+    ("BF.RESERVE u 0.01 2 NONSCALING", OK),
+    ("BF.MADD u x y x z", [True, True, False, Error("ERR non scaling filter is full")]),
+    ("BF.ADD u z", Error("ERR non scaling filter is full")),
+    ("BF.ADD u x", False),
+    ("BF.ADDLINES u z", Error("ERR non scaling filter is full")),
+    ("BF.MERGE w u", OK),
+    ("BF.MEXISTS w x y z", [True, True, False]),
+    ("BF.MERGE w f", Error("ERR filters to merge must have the same bits, hashes and seed")),
+    ("BF.MERGE w none", Error("ERR not found")),
+    ("SKETCH.INFO w", {"kind": b"bloom_filter", "bytes": 8, "max-bytes": 67108864, "bits": 64, "hashes": 7, "max-hashes": 255}),
+    ("SKETCH.INFO none", Error("ERR no such key")),
+    ("DEL u w", 2),
     ("BF.INSERT f ITEMS", Error("ERR wrong number of arguments for 'BF.INSERT' command")),
     ("CMS.INITBYDIM c 2000 5", OK),
     ("CMS.INITBYDIM c 2000 5", Error("CMS: key already exists")),
@@ -82,10 +94,10 @@ REPLIES = [
     ("CMS.INFO p", {"width": 2719, "depth": 5, "count": 0}),
     ("CMS.INITBYDIM q 0 5", Error("CMS: invalid width")),
     ("CMS.INITBYDIM q 100 x", Error("CMS: invalid depth")),
-    ("CMS.INITBYDIM q 2 5", Error("ERR num_buckets below 3")),
-    ("CMS.INITBYDIM q 100 256", Error("ERR num_hashes out of range")),
+    ("CMS.INITBYDIM q 2 5", Error("CMS: invalid width: it must be at least 3")),
+    ("CMS.INITBYDIM q 100 256", Error("CMS: invalid depth: it must be at most 255")),
     ("CMS.INITBYDIM q 100000000 200", Error("ERR a sketch of this command takes more bytes than the module's max-bytes")),
-    ("CMS.INITBYDIM q 99999999999 1", Error("ERR table too large")),
+    ("CMS.INITBYDIM q 99999999999 1", Error("ERR a sketch of this command takes more bytes than the module's max-bytes")),
     ("CMS.INITBYPROB q 2 0.1", Error("CMS: invalid overestimation value")),
     ("CMS.INITBYPROB q 0.1 0", Error("CMS: invalid prob value")),
     ("CMS.INITBYDIM d 2000 5", OK),
@@ -102,7 +114,7 @@ REPLIES = [
     ("CMS.QUERY d a b", [7 * 922337203685477580, 3 * 922337203685477580]),
     ("CMS.MERGE d 1 c WEIGHTS 922337203685477581", Error("CMS: MERGE overflow")),
     ("CMS.QUERY d b", [3 * 922337203685477580]),
-    ("CMS.MERGE d 1 c WEIGHTS -1", Error("CMS: a weight must be a number from 0 on")),
+    ("CMS.MERGE d 1 c WEIGHTS -1", Error("CMS: invalid weight value")),
     ("CMS.MERGE d x c", Error("CMS: invalid numkeys")),
     ("CMS.MERGE d 5 c", Error("CMS: wrong number of keys")),
     ("CMS.MERGE d 1 p", Error("CMS: width/depth is not equal")),
@@ -130,7 +142,7 @@ REPLIES = [
     ("TOPK.LIST t WITHCOUNT", [b"a", 5, b"c", 4]),
     ("TOPK.QUERY t a b c z", [True, False, True, False]),
     ("TOPK.COUNT t a b c z", [5, 1, 4, 0]),
-    ("TOPK.LIST t WHAT", Error("ERR syntax error")),
+    ("TOPK.LIST t WHAT", Error("TopK: WITHCOUNT keyword expected")),
     ("TOPK.ADD none a", Error("TopK: key does not exist")),
     ("TOPK.RESERVE u 0", Error("TopK: invalid k")),
     ("TOPK.RESERVE u 1 0 1 0.5", Error("TopK: invalid width")),
@@ -143,7 +155,7 @@ REPLIES = [
     ("TOPK.LIST u", []),
     ("TOPK.INCRBY u a 0", [None]),
     ("TOPK.LIST u", []),
-    ("TOPK.INCRBY u a -1", Error("ERR value is not an integer or out of range")),
+    ("TOPK.INCRBY u a -1", Error("TopK: increment must be an integer greater or equal to 0")),
     ("FREQ.RESERVE r 64", OK),
     ("FREQ.RESERVE r 64", Error("BUSYKEY Target key name already exists.")),
     ("FREQ.ADD r a b a", OK),
@@ -153,14 +165,19 @@ REPLIES = [
     ("FREQ.ROWS r ABOVE 4", [[b"a", 5, 5]]),
     ("FREQ.ROWS r ABOVE -1", Error("ERR value is not an integer or out of range")),
     ("FREQ.ROWS r 4", Error("ERR syntax error")),
+    ("FREQ.ROWS r COUNT 2", [[b"a", 5, 5], [b"c", 4, 4]]),
+    ("FREQ.ROWS r ABOVE 1 COUNT 9", [[b"a", 5, 5], [b"c", 4, 4]]),
+    ("FREQ.ROWS r COUNT 0", Error("ERR value is not an integer or out of range")),
+    ("FREQ.ROWS r 4 COUNT", Error("ERR syntax error")),
     ("FREQ.INFO r", {"size": 64, "counters": 48, "items": 3, "total": 10, "error": 0}),
     ("FREQ.ADDLINES none a", Error("ERR no such key")),
     ("FREQ.INCRBY r a 9223372036854775797 b 1", Error("ERR total weight overflow")),
     ("FREQ.BOUNDS r a b", [[5, 5], [1, 1]]),
     ("FREQ.INCRBY r a", Error("ERR wrong number of arguments for 'FREQ.INCRBY' command")),
-    ("FREQ.RESERVE v 63", Error("ERR map size is not a power of two")),
-    ("FREQ.RESERVE v 4", Error("ERR map size below 8")),
-    ("FREQ.RESERVE v 2147483648", Error("ERR a sketch of this command takes more bytes than the module's max-bytes")),
+    ("FREQ.RESERVE v 63", Error("ERR the size must be a power of two from 8 to 1073741824")),
+    ("FREQ.RESERVE v 4", Error("ERR the size must be a power of two from 8 to 1073741824")),
+    ("FREQ.RESERVE v 2147483648", Error("ERR the size must be a power of two from 8 to 1073741824")),
+    ("FREQ.RESERVE v 1073741824", Error("ERR a sketch of this command takes more bytes than the module's max-bytes")),
     ("FREQ.ADD none a", Error("ERR no such key")),
     ("FREQ.MERGE m r r", OK),
     ("FREQ.ROWS m", [[b"a", 10, 10], [b"c", 8, 8], [b"b", 2, 2]]),
@@ -171,6 +188,9 @@ REPLIES = [
     ("FREQ.MERGE m c", WRONG_TYPE),
     ("TOPK.LIST m", [b"a", b"c", b"b"]),
     ("TOPK.LIST r", [b"a", b"c", b"b"]),
+    ("FREQ.HALVE m", OK),
+    ("FREQ.ROWS m", [[b"a", 7, 7], [b"c", 6, 6], [b"b", 1, 1]]),
+    ("FREQ.HALVE none", Error("ERR no such key")),
     ("FREQ.ADD t d", OK),
     ("TOPK.COUNT t d", [1]),
     ("FREQ.ADDLINES t d", 1),
@@ -183,9 +203,9 @@ REPLIES = [
     ("SKETCH.LOAD f bloom_filter x", Error("BUSYKEY Target key name already exists.")),
     ("SKETCH.STATE l 0 x", Error("ERR received bad data")),
     ("BF.LOADCHUNK l 1 x", Error("ERR received bad data")),
-    ("BF.LOADCHUNK l 0 x", Error("ERR Bad iterator")),
+    ("BF.LOADCHUNK l 0 x", Error("ERR Second argument must be numeric")),
     ("BF.SCANDUMP none 0", Error("ERR not found")),
-    ("BF.SCANDUMP f x", Error("ERR Bad iterator")),
+    ("BF.SCANDUMP f x", Error("ERR Second argument must be numeric")),
     ("SET text x", OK),
     ("OBJECT ENCODING f", b"raw"),
     ("EXISTS l e q u v", 2),
@@ -204,6 +224,8 @@ OF_KINDS = {
         "BF.INFO K",
         "BF.SCANDUMP K 0",
         "BF.RESERVE K 0.1 10",
+        "BF.MERGE K f",
+        "BF.MERGE f K",
     ],
     "c": [
         "CMS.INCRBY K a 1",
@@ -231,6 +253,7 @@ OF_KINDS = {
         "FREQ.BOUNDS K a",
         "FREQ.ROWS K",
         "FREQ.INFO K",
+        "FREQ.HALVE K",
         "FREQ.MERGE K t",
         "FREQ.MERGE t K",
         "FREQ.RESERVE K 64",
@@ -263,7 +286,7 @@ def of_version(reply, version):
     if isinstance(reply, list):
         return [of_version(part, version) for part in reply]
     if isinstance(reply, dict) and version == 2:
-        return [part for name, value in reply.items() for part in (name, value)]
+        return [part for name, value in reply.items() for part in (name.encode(), value)]
     return reply
 
 
@@ -303,6 +326,7 @@ def kinds(tests):
             "SKETCH.LOAD text bloom_filter x REPLACE",
             "SKETCH.STATE text 0 x",
             "SKETCH.SEED text",
+            "SKETCH.INFO text",
         ]:
             tests.check(f"{command}", client(*command.split()) == WRONG_TYPE and client.done("GET", "text") == b"x")
 
@@ -522,6 +546,10 @@ def python(tests):
     client.close()
 
 
+# Commands that came with version 0.4.0.
+LATER = ("BF.MERGE", "FREQ.HALVE", "SKETCH.INFO")
+
+
 def documented(tests):
     """What the server knows of each command: flags, keys and documentation. Redis 7.0 gives commands of modules no categories."""
     with tests.main.client(3) as client:
@@ -530,7 +558,7 @@ def documented(tests):
         infos = {
             info[0].decode() if isinstance(info[0], bytes) else info[0]: info for info in client.done("COMMAND", "INFO", *names)
         }
-        tests.check("the number of commands", len(names) == 39, names)
+        tests.check("the number of commands", len(names) == 42, names)
         modules = {module["name"]: module["ver"] for module in client.done("MODULE", "LIST")}
         with open(f"{TOP}/VERSION", encoding="utf-8") as file:
             major, minor, patch = [int(number) for number in file.read().split(".")]
@@ -541,7 +569,7 @@ def documented(tests):
                 f"COMMAND DOCS {name}",
                 doc["summary"]
                 and doc["complexity"].startswith(b"O(")
-                and doc["since"] == (b"0.4.0" if name.endswith(".ADDLINES") else b"0.3.0")
+                and doc["since"] == (b"0.4.0" if name.endswith(".ADDLINES") or name in LATER else b"0.3.0")
                 and {word if isinstance(word, str) else word.decode() for word in doc["arguments"][0]} >= {"name", "type"},
                 doc,
             )
@@ -550,7 +578,7 @@ def documented(tests):
             tests.check(f"flags of {name}", reads != ("write" in flags), flags)
             tests.check(f"secrets of {name}", ("admin" in flags) == (name in ("SKETCH.SEED", "SKETCH.STATE")), flags)
             tests.check(
-                f"memory of {name}", ("denyoom" in flags) == ("write" in flags and name not in ("CMS.DECAY", "CMS.HALVE")), flags
+                f"memory of {name}", ("denyoom" in flags) == ("write" in flags and name not in ("CMS.DECAY", "CMS.HALVE", "FREQ.HALVE")), flags
             )
             key_flags = set(info[8][0]["flags"])
             tests.check(f"keys of {name}", ({"RO", "access"} <= key_flags) == reads, key_flags)
@@ -559,6 +587,7 @@ def documented(tests):
         tests.check("keys of BF.ADD", keys("BF.ADD k a") == [b"k"])
         tests.check("keys of BF.MADD", keys("BF.MADD k a b c") == [b"k"])
         tests.check("keys of CMS.MERGE", keys("CMS.MERGE d 2 x y WEIGHTS 1 2") == [b"d", b"x", b"y"])
+        tests.check("keys of BF.MERGE", keys("BF.MERGE d x y") == [b"d", b"x", b"y"])
         tests.check("keys of FREQ.MERGE", keys("FREQ.MERGE d x y") == [b"d", b"x", b"y"])
         tests.check("keys of SKETCH.LOAD", keys("SKETCH.LOAD k bloom_filter x") == [b"k"])
         client.done("FLUSHALL")
@@ -631,6 +660,8 @@ WORDS = [
     "WEIGHTS",
     "WITHCOUNT",
     "ABOVE",
+    "COUNT",
+    "KEYED",
     "MAXBYTES",
     "REPLACE",
     "bloom_filter",

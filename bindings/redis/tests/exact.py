@@ -159,7 +159,7 @@ def images(tests):
             "counts from C", client.done("CMS.QUERY", "c", "a") == [9] and client.done("SKETCH.IMAGE", "c") == counted.image()
         )
         tests.check(
-            "MAXBYTES", str(client("SKETCH.LOAD", "d", "bloom_filter", own.image(), "MAXBYTES", 100)) == "ERR table too large"
+            "MAXBYTES", str(client("SKETCH.LOAD", "d", "bloom_filter", own.image(), "MAXBYTES", 100)) == "ERR the sketch takes more bytes than MAXBYTES"
         )
         large = oracle.frequent(tests.library, 2**30).image()
         tests.check(

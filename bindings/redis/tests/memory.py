@@ -14,6 +14,10 @@ COMMANDS = [
     ("BF.INSERT", "new", "ITEMS", *range(500)),
     ("BF.ADDLINES", "filter", "\n".join(map(str, range(3000)))),
     ("BF.ADDLINES", "new", "\n".join(map(str, range(3000)))),
+    ("BF.ADDLINES", "filter", "\n".join(map(str, [*range(2500), *range(2500)]))),
+    ("BF.MADD", "filter", *range(4100)),
+    ("BF.MERGE", "filter", "more"),
+    ("BF.MERGE", "new", "filter", "more"),
     ("BF.EXISTS", "filter", "a"),
     ("BF.MEXISTS", "filter", *range(1000)),
     ("BF.CARD", "filter"),
@@ -44,7 +48,10 @@ COMMANDS = [
     ("FREQ.INCRBY", "empty", *[word for i in range(600) for word in (f"w {i}", i)]),
     ("FREQ.BOUNDS", "items", *range(200)),
     ("FREQ.ROWS", "items"),
+    ("FREQ.ROWS", "items", "COUNT", 3),
     ("FREQ.INFO", "items"),
+    ("FREQ.HALVE", "items"),
+    ("SKETCH.INFO", "items"),
     ("FREQ.MERGE", "items", "other"),
     ("FREQ.MERGE", "new", "items", "other"),
     ("SKETCH.IMAGE", "items"),
@@ -58,6 +65,8 @@ COMMANDS = [
 def prepare(client):
     client.done("FLUSHALL")
     client.done("BF.RESERVE", "filter", "0.01", 4000)
+    client.done("BF.RESERVE", "more", "0.01", 4000)
+    client.done("BF.MADD", "more", *range(50, 150))
     client.done("CMS.INITBYDIM", "count", 50, 3)
     for name, size in [("items", 256), ("other", 128), ("empty", 1024)]:
         client.done("FREQ.RESERVE", name, size)
@@ -84,6 +93,7 @@ SPARING = [
     "TOPK.INFO",
     "FREQ.INFO",
     "SKETCH.SEED",
+    "SKETCH.INFO",
     "BF.EXISTS",
     "CMS.DECAY",
     "CMS.HALVE",
@@ -127,8 +137,14 @@ def failing(tests):
             more.append(("SKETCH.LOAD", "new", kind, client.done("SKETCH.IMAGE", key)))
         whole = client.done("BF.SCANDUMP", "filter", 0)[1]
         more += [("BF.LOADCHUNK", "new", 1000, whole[:1000]), ("BF.LOADCHUNK", "new", len(whole), whole)]
-        for command in COMMANDS + more:
+        looked_up = [
+            ("FREQ.ADD", "empty", *[f"{i % 50} ".ljust(100, "x") for i in range(600)]),
+            ("FREQ.ADDLINES", "empty", "\n".join(f"{i % 150}".ljust(100, "x") for i in range(600))),
+            ("FREQ.ADD", "items", *[f"item {i}" for i in range(150)] * 20),
+        ]
+        for command in COMMANDS + more + looked_up:
             name = " ".join(map(str, command))[:60]
+            client.done("CONFIG", "SET", "rattle_sketches.max-bytes", "46000" if command in looked_up else "64mb")
             for for_good in [[], ["for good"]]:
                 errors, wrong = fail_each(client, command, for_good)
                 tests.check(f"allocations of {name} that fail {for_good}", not wrong, wrong[:2])
@@ -184,7 +200,7 @@ def limits(tests):
             errors[0] == "OK" and errors[-1] == too_much and client.done("MEMORY", "USAGE", "grows") <= 65536 + 400,
         )
         wide = oracle.filter_for(tests.library, 10**6, 100, 1)
-        tests.check("an image", client("SKETCH.LOAD", "w", "bloom_filter", wide.image()) == Error("ERR table too large"))
+        tests.check("an image", client("SKETCH.LOAD", "w", "bloom_filter", wide.image()) == too_much)
         tests.check("an empty image of a large sketch", len(wide.image()) == 24)
         client.done("CMS.INITBYDIM", "e", 2047, 4)
         merge_limit = "module's max-merge-bytes"

@@ -18,6 +18,8 @@ MODULE = os.path.dirname(HERE)
 BINDINGS = os.path.dirname(MODULE)
 sys.path.insert(0, HERE)
 
+import answers  # noqa: E402
+import changes  # noqa: E402
 import checked  # noqa: E402
 import cluster  # noqa: E402
 import commands  # noqa: E402
@@ -25,6 +27,7 @@ import counted  # noqa: E402
 import damage  # noqa: E402
 import exact  # noqa: E402
 import full_filters  # noqa: E402
+import guards  # noqa: E402
 import memory  # noqa: E402
 import oracle  # noqa: E402
 import planted  # noqa: E402
@@ -87,6 +90,25 @@ GROUPS = [
     exact.frequent,
     exact.images,
     exact.interleaved,
+    answers.sizes,
+    answers.rates,
+    answers.top_counts,
+    answers.top_queries,
+    answers.large_tables,
+    answers.first_rows,
+    answers.halves,
+    answers.merged_filters,
+    answers.scripts,
+    answers.replaced,
+    changes.events_and_watch,
+    changes.quiet_replicas,
+    changes.live_filters,
+    changes.live_replicas,
+    guards.secrets,
+    guards.hashes,
+    guards.information,
+    guards.parameters,
+    guards.damaged_keys,
     full_filters.default_sizes,
     full_filters.full_filters,
     full_filters.full_replicas,
