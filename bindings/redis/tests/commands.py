@@ -6,6 +6,7 @@ import random
 import subprocess
 
 import redis
+from redis.commands.bf import commands as bf_commands
 
 from resp import Error
 
@@ -474,9 +475,30 @@ def raises(error, call, *words, **options):
     return False
 
 
+def dumped(client, key, at):
+    """Returns the next chunk of a filter. Where python3-hiredis is installed, python3-redis has no call for it."""
+    try:
+        return client.bf().scandump(key, at)
+    except redis.exceptions.ModuleError:
+        return client.execute_command("BF.SCANDUMP", key, at)
+
+
 def python(tests):
-    """Debian's python3-redis, unchanged: its calls for filters, counts and frequent items."""
-    client = redis.Redis(unix_socket_path=tests.main.socket)
+    """Debian's python3-redis, unchanged: its calls for filters, counts and frequent items. With and without python3-hiredis: what it
+    does where that is installed is tried in any case, and its parser if it is there."""
+    parsers = [redis.connection.PythonParser] + [redis.connection.HiredisParser] * redis.utils.HIREDIS_AVAILABLE
+    for parser in parsers:
+        for has_hiredis in {False, True} if parser is redis.connection.PythonParser else {True}:
+            bf_commands.HIREDIS_AVAILABLE = has_hiredis
+            pool = redis.ConnectionPool(
+                connection_class=redis.UnixDomainSocketConnection, path=tests.main.socket, parser_class=parser
+            )
+            python_calls(tests, redis.Redis(connection_pool=pool))
+            pool.disconnect()
+    bf_commands.HIREDIS_AVAILABLE = redis.utils.HIREDIS_AVAILABLE
+
+
+def python_calls(tests, client):
     client.flushall()
     bf, cms, topk = client.bf(), client.cms(), client.topk()
     check = tests.check
@@ -495,6 +517,17 @@ def python(tests):
         and bf.insert("i", ["x", "z"], noCreate=True) == [0, 1]
         and raises("not found", bf.insert, "none", ["x"], noCreate=True),
     )
+    bf.create("n", 0.01, 2, noScale=True)
+    got = bf.madd("n", "a", "b", "a", "c")
+    check(
+        "python: a full filter",
+        got[:3] == [1, 1, 0]
+        and isinstance(got[3], redis.ResponseError)
+        and len(got) == 4
+        and raises("non scaling filter is full", bf.add, "n", "c")
+        and bf.add("n", "a") == 0,
+        got,
+    )
     info = bf.info("f")
     check(
         "python: bf().info",
@@ -503,7 +536,7 @@ def python(tests):
     )
     chunks, at = [], 0
     while True:
-        at, data = bf.scandump("f", at)
+        at, data = dumped(client, "f", at)
         if at == 0:
             break
         chunks.append((at, data))
