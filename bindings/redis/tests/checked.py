@@ -25,7 +25,7 @@ def reports_of(log):
         stack
         for stack in stacks
         if "rattle_sketches" in stack
-        or re.search(r"\((allocator|calls|commands|counts|errors|filters|frequent|images|items|sketches|states)\.c:", stack)
+        or re.search(r"\((allocator|calls|commands|counts|distinct|errors|filters|frequent|images|items|lines|module|ranks|sketches|states|updates)\.c:", stack)
     ]
 
 
@@ -43,13 +43,34 @@ def valgrind(tests):
             client.done("FREQ.ADD", "r", item)
         client.done("FREQ.ROWS", "r")
         stored.fill(client, "checked")
-        client.done("BF.LOADCHUNK", "parts", 100, client.done("BF.SCANDUMP", "filter", 0)[1][:100])
+        whole = client.done("BF.SCANDUMP", "filter", 0)[1]
+        client.done("BF.LOADCHUNK", "parts", 100, whole[:100])
+        for key in ["top", "large"]:
+            client.done("TOPK.QUERY", key, "item 1 checked", "none")
+            client.done("FREQ.ROWS", key, "COUNT", 5)
         before = stored.state(client)
         client.done("DEBUG", "RELOAD")
         for key in stored.KEYS:
             client.done("COPY", key, f"{key} copied")
             client.done("RESTORE", f"{key} restored", 0, client.done("DUMP", key))
         tests.check("under valgrind", stored.state(client) == before)
+        client.done("BF.RESERVE", "live", "0.01", 10)
+        for end in [100, 300]:  # parts aside, which a new value, an expiry and a second begin free
+            client.done("BF.LOADCHUNK", "live", 100, whole[:100])
+            client.done("BF.LOADCHUNK", "live", end + 100, whole[100 : end + 100])
+        client.done("BF.MADD", "live", *range(5))
+        client.done("BF.MERGE", "merged", "live")
+        client("BF.MADD", "live", *range(100))
+        client("BF.ADDLINES", "live", "\n".join(map(str, range(3000))))
+        client.done("BF.ADDLINES", "live", "0\n1\n" * 3000)
+        client.done("BF.LOADCHUNK", "live", 100, whole[:100])
+        client.done("BF.LOADCHUNK", "live", len(whole), whole)
+        client.done("FREQ.HALVE", "large")
+        client.done("CONFIG", "SET", "rattle_sketches.max-bytes", "100kb")
+        for item in ["x", "y", "z"]:
+            client("FREQ.ADD", "large", *[f"{item}{i % 300}".ljust(200, "x") for i in range(2000)], *["item 1 checked"] * 500)
+        client("FREQ.ADDLINES", "large", "\n".join(f"new {i}".ljust(50) for i in range(9000)))
+        client.done("CONFIG", "SET", "rattle_sketches.max-bytes", "64mb")
         keys = damage.small(client)
         numbers = damage.random.Random(5)
         for key in keys:
