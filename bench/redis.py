@@ -39,7 +39,7 @@ ROWS = [
 
 
 def values_of(name):
-    return 500 if name.endswith("of 500") else RANGE
+    return 500 if name.endswith("of 500") else 100000 if name.endswith("filter for 100,000") else RANGE
 
 
 def build(work, archive):
