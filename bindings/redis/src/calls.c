@@ -1,7 +1,6 @@
 /* Calls of commands: their keys, their arguments, and what of them goes to replicas. */
 #include "module.h"
 
-#include <ctype.h>
 #include <math.h>
 #include <string.h>
 #include <strings.h>
@@ -86,9 +85,9 @@ void note_change(Call *call)
     size_t length = 0;
     if (call->is_noted) return;
     call->is_noted = true;
-    while (length < sizeof event - 1 && call->name[length] != '\0') {
-        event[length] = (char)tolower((unsigned char)call->name[length]);
-        length++;
+    for (; length < sizeof event - 1 && call->name[length] != '\0'; length++) {
+        char letter = call->name[length];
+        event[length] = letter >= 'A' && letter <= 'Z' ? (char)(letter - 'A' + 'a') : letter;
     }
     event[length] = '\0';
     RedisModule_SignalModifiedKey(call->ctx, call->argv[1]);

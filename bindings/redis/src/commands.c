@@ -128,7 +128,7 @@ static Argument of_state[] = {KEY("key", 0), NUMBER("position"), STRING("bytes")
     X(topk_incrby, "TOPK.INCRBY", DS_FREQUENT_ITEMS_STRING, WRITES, "write deny-oom fast", WRITE_KEY, -4, pairs, \
       "O(items) amortized", "Adds to the weight of each item") \
     X(topk_query, "TOPK.QUERY", DS_FREQUENT_ITEMS_STRING, READS, "readonly", READ_KEY, -3, many_items, \
-      "O(items), or O(n) for n counters if that is not known", "Returns whether each item is one of the first k") \
+      "O(items), and O(n) for n counters at first", "Returns whether each item is one of the first k") \
     X(topk_count, "TOPK.COUNT", DS_FREQUENT_ITEMS_STRING, READS, "readonly fast", READ_KEY, -3, many_items, "O(items)", \
       "Returns estimates of the weights of items") \
     X(topk_list, "TOPK.LIST", DS_FREQUENT_ITEMS_STRING, READS, "readonly", READ_KEY, -2, of_topk_list, \

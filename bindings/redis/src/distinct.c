@@ -1,16 +1,10 @@
-/* Strings without repeats, to count what a command would store before it changes a sketch.
+/* Strings without repeats, each with a weight, to find out what the items of a command are before or after it.
  *
  * The set is a table of pointers to the caller's bytes, which it hashes under a random key: no way is known to choose strings that
  * collide. */
 #include "module.h"
 
 #include <string.h>
-
-/* A place of the table: a string and its hash, or no string if the bytes are null. */
-struct Place {
-    ds_string string;
-    uint64_t hash;
-};
 
 /* Returns the key of all sets of the process. */
 static const ds_key *key_of_sets(void)
@@ -23,7 +17,7 @@ static const ds_key *key_of_sets(void)
 }
 
 /* Returns the place of a string: the one that has it, or a free one. */
-static struct Place *place_of(struct Place *places, size_t room, ds_string string, uint64_t hash)
+static Place *place_of(Place *places, size_t room, ds_string string, uint64_t hash)
 {
     size_t at = (size_t)hash & (room - 1);
     while (places[at].string.bytes != NULL && (places[at].hash != hash || places[at].string.length != string.length ||
@@ -36,7 +30,7 @@ static struct Place *place_of(struct Place *places, size_t room, ds_string strin
 static bool grow(Distinct *set)
 {
     size_t room = set->room != 0 ? 2 * set->room : 256;
-    struct Place *places = try_block(room * sizeof *places);
+    Place *places = try_block(room * sizeof *places);
     if (places == NULL) return false;
     memset(places, 0, room * sizeof *places);
     for (size_t i = 0; i < set->room; i++)
@@ -48,15 +42,18 @@ static bool grow(Distinct *set)
     return true;
 }
 
-int32_t add_distinct(Distinct *set, ds_string string)
+int32_t add_distinct(Distinct *set, ds_string string, uint64_t weight)
 {
     const ds_key *key = key_of_sets();
     uint64_t hash = ds_keyed_hash(string.bytes, string.length, key->k0, key->k1);
-    struct Place *place;
+    Place *place;
     if (2 * set->count >= set->room && !grow(set)) return DS_NO_MEMORY;
     place = place_of(set->places, set->room, string, hash);
-    if (place->string.bytes != NULL) return DS_NO;
-    *place = (struct Place){string, hash};
+    if (place->string.bytes != NULL) {
+        place->weight += weight;
+        return DS_NO;
+    }
+    *place = (Place){string, hash, weight};
     set->count++;
     return DS_YES;
 }

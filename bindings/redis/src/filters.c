@@ -222,7 +222,7 @@ static int32_t takes_lines(Call *call, Sketch *sketch, Lines *lines)
     while (result >= 0 && set.count <= room && (count = next_lines(lines, &rows)) > 0) {
         ds_bloom_contains_all(&sketch->handle, &rows, results, count);
         for (size_t i = 0; i < count && result >= 0; i++)
-            if (!results[i]) result = add_distinct(&set, lines->strings[i]);
+            if (!results[i]) result = add_distinct(&set, lines->strings[i], 1);
     }
     if (result >= 0) result = set.count <= room ? DS_YES : DS_NO;
     free_distinct(&set);

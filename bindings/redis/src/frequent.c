@@ -377,7 +377,7 @@ int freq_merge(Call *call)
     into = clone_value(from);
     if (key != NULL) RedisModule_CloseKey(key);
     if (into == NULL) return reply_error(call, no_memory);
-    into->kth = 0;
+    forget_top(into);
     if (!merge_others(call, into, key != NULL ? 3 : 2)) {
         free_value(into);
         return REDISMODULE_OK;

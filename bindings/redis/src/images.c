@@ -220,7 +220,7 @@ int freq_halve(Call *call)
     bool is_changed = status_of(sketch).total_weight > 0;
     int32_t result = is_changed ? halve_sketch(sketch) : DS_OK;
     if (result < 0) return reply_result(call, result);
-    sketch->kth = 0;
+    forget_top(sketch);
     count_strings(sketch);
     if (is_changed) replicate_call(call);
     return RedisModule_ReplyWithSimpleString(call->ctx, "OK");

@@ -76,6 +76,7 @@ typedef struct Sketch {
     uint64_t depth;
     size_t string_bytes; /* of frequent items: no less than the bytes of the strings in the table */
     size_t spare_bytes;  /* of frequent items: the most by which `string_bytes` is above them */
+    uint64_t *top;       /* of frequent items: the k largest estimates, in descending order, or null: see ranks.c */
     uint64_t kth;        /* of frequent items: the k-th largest estimate at the time of a total, or 0 if that is not known */
     uint64_t kth_total;
     uint8_t *bytes; /* of a state that comes in parts: those that came, and how many come in all. A sketch has them until the last
@@ -272,14 +273,20 @@ void reply_item(Call *call, uint8_t *bytes, size_t length);
 
 /* --- distinct.c: strings without repeats. --- */
 
+/* A place of a set: a string with its hash and its weight, or none if the bytes are null. */
+typedef struct Place {
+    ds_string string;
+    uint64_t hash, weight;
+} Place;
+
 /* A set of strings, which begins as {0}. It keeps pointers to the caller's bytes. */
 typedef struct Distinct {
-    struct Place *places;
-    size_t room, count;
+    Place *places;
+    size_t room, count; /* places, and those with a string */
 } Distinct;
 
-/* Adds a string. Returns DS_YES if it is new, DS_NO if the set has it, and DS_NO_MEMORY. */
-int32_t add_distinct(Distinct *set, ds_string string);
+/* Adds to the weight of a string. Returns DS_YES if it is new, DS_NO if the set has it, and DS_NO_MEMORY. */
+int32_t add_distinct(Distinct *set, ds_string string, uint64_t weight);
 
 void free_distinct(Distinct *set);
 
@@ -296,6 +303,12 @@ int32_t kth_estimate(Sketch *sketch, uint64_t k, uint64_t *estimate);
 
 /* Writes an estimate that these items reach if they are among the first k, and only then. Returns the errors of `kth_estimate`. */
 int32_t least_of_top(Sketch *sketch, const ds_frequent_items_bounds *bounds, size_t count, uint64_t *least);
+
+/* Keeps the k largest estimates of a sketch right after updates with items, with weights or 1 each if they are null. */
+void follow_top(Sketch *sketch, const Items *items, const uint64_t *weights);
+
+/* Forgets the largest estimates of a sketch, before it changes in another way. */
+void forget_top(Sketch *sketch);
 
 /* --- lines.c: the lines of an argument as items of filters and Count-Min sketches. --- */
 

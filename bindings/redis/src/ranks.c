@@ -1,11 +1,18 @@
 /* The k-th largest estimate of frequent items: what an item needs to be one of the first k.
  *
- * It is found in one pass over the counters, without their order. TOPK.QUERY keeps it, with the total at that time. Estimates only
- * grow, by no more than what was added since. So most later questions are answered from what is kept: an estimate below the k-th of
- * then is not one of the first k, and one that is above it by what was added since is. */
+ * The first TOPK.QUERY of a sketch finds the k largest estimates, in one pass over the counters. From then on each update looks its
+ * items up afterwards, and keeps these numbers right. So later queries do not look at the counters.
+ *
+ * If k is too large for that, the k-th estimate is kept with the total at that time. Estimates only grow, by no more than what was
+ * added since. So most queries are answered from that: an item whose estimate is below the k-th of then is not one of the first k, and
+ * one that is above it by what was added since is. */
 #include "module.h"
 
+#include <stdlib.h>
 #include <string.h>
+
+/* The most estimates that are kept right. An update moves up to so many numbers for an item. */
+#define MOST_TOP 4096
 
 /* Returns the next of a sequence of random numbers. */
 static uint64_t next_random(void)
@@ -44,26 +51,132 @@ static uint64_t kth_largest(uint64_t *numbers, size_t count, size_t k)
     }
 }
 
-int32_t kth_estimate(Sketch *sketch, uint64_t k, uint64_t *estimate)
+/* Reads the estimates of a sketch that has at least k counters, and moves the k largest ones to the front. Returns null, and the
+ * result, after an error. The caller frees the block. */
+static void *largest_estimates(Sketch *sketch, size_t k, uint64_t **estimates, int32_t *result)
 {
     size_t length = 0, count;
     uint8_t *image;
-    uint64_t *weights;
-    ds_status status = status_of(sketch);
-    int32_t result = ds_serialized_bytes(&sketch->handle, &length);
-    if (result < 0) return result;
+    uint64_t error = status_of(sketch).maximum_error;
+    *result = ds_serialized_bytes(&sketch->handle, &length);
+    if (*result < 0) return NULL;
     image = try_block(length);
-    if (image == NULL) return DS_NO_MEMORY;
+    *result = image != NULL ? DS_OK : DS_NO_MEMORY;
+    if (image == NULL) return NULL;
     ds_serialize(&sketch->handle, image, length, &length);
     count = (size_t)read_number(image + COUNTERS_AT, 4);
-    weights = (uint64_t *)(void *)(image + WEIGHTS_AT);
+    *estimates = (uint64_t *)(void *)(image + WEIGHTS_AT);
     for (size_t i = 0; i < count; i++) {
-        uint64_t weight = read_number(image + WEIGHTS_AT + 8 * i, 8);
-        memcpy(&weights[i], &weight, sizeof weight);
+        uint64_t estimate = read_number(image + WEIGHTS_AT + 8 * i, 8) + error;
+        memcpy(*estimates + i, &estimate, sizeof estimate);
     }
-    *estimate = kth_largest(weights, count, (size_t)k) + status.maximum_error;
-    free_block(image);
+    kth_largest(*estimates, count, k);
+    return image;
+}
+
+int32_t kth_estimate(Sketch *sketch, uint64_t k, uint64_t *estimate)
+{
+    int32_t result;
+    uint64_t *estimates;
+    void *block = largest_estimates(sketch, (size_t)k, &estimates, &result);
+    if (block != NULL) *estimate = estimates[k - 1];
+    free_block(block);
+    return result;
+}
+
+static int compare_descending(const void *one, const void *other)
+{
+    uint64_t a, b;
+    memcpy(&a, one, sizeof a);
+    memcpy(&b, other, sizeof b);
+    return (a < b) - (a > b);
+}
+
+/* Finds the k-th largest estimate, and keeps what later queries need. */
+static int32_t find_top(Sketch *sketch, uint64_t *kth)
+{
+    size_t k = (size_t)sketch->capacity;
+    int32_t result;
+    uint64_t *estimates;
+    void *block = largest_estimates(sketch, k, &estimates, &result);
+    if (block == NULL) return result;
+    *kth = sketch->kth = estimates[k - 1];
+    sketch->kth_total = status_of(sketch).total_weight;
+    if (k <= MOST_TOP && sketch->top == NULL) sketch->top = try_block(k * sizeof *sketch->top);
+    if (sketch->top != NULL) {
+        memcpy(sketch->top, estimates, k * sizeof *sketch->top);
+        qsort(sketch->top, k, sizeof *sketch->top, compare_descending);
+    }
+    free_block(block);
     return DS_OK;
+}
+
+void forget_top(Sketch *sketch)
+{
+    free_block(sketch->top);
+    sketch->top = NULL;
+    sketch->kth = 0;
+}
+
+/* Returns the number of the k largest estimates that are at least `estimate`. */
+static size_t rank_of(const uint64_t *top, size_t k, uint64_t estimate)
+{
+    size_t begin = 0, end = k;
+    while (begin < end) {
+        size_t middle = begin + (end - begin) / 2;
+        if (top[middle] >= estimate) begin = middle + 1;
+        else end = middle;
+    }
+    return begin;
+}
+
+/* Keeps the k largest estimates right when one grows. If it was one of them, it leaves its place, and else the k-th does. */
+static void raise_estimate(uint64_t *top, size_t k, uint64_t before, uint64_t after)
+{
+    size_t from = before >= top[k - 1] ? rank_of(top, k, before + 1) : k - 1, to = rank_of(top, k, after);
+    if (after <= top[k - 1]) return;
+    memmove(top + to + 1, top + to, (from - to) * sizeof *top);
+    top[to] = after;
+}
+
+/* Adds the weights of the items of updates whose estimates are above the k-th. Returns the result of the last one. */
+static int32_t gather_risen(Sketch *sketch, const Items *items, const uint64_t *weights, uint64_t kth, Distinct *risen)
+{
+    ds_string strings[MOST_STRINGS];
+    ds_frequent_items_bounds bounds[MOST_STRINGS];
+    size_t at = 0, count, first = 0;
+    int32_t result = DS_OK;
+    while (result >= 0 && (count = next_strings(items, &at, strings)) > 0) {
+        ds_items rows = ds_items_strings(strings, count);
+        result = ds_frequent_items_bounds_all(&sketch->handle, &rows, bounds, count);
+        for (size_t i = 0; i < count && result >= 0; i++)
+            if (bounds[i].estimate > kth) result = add_distinct(risen, strings[i], weights != NULL ? weights[first + i] : 1);
+        first += count;
+    }
+    return result;
+}
+
+void follow_top(Sketch *sketch, const Items *items, const uint64_t *weights)
+{
+    size_t k = (size_t)sketch->capacity;
+    Distinct risen = {0};
+    if (sketch->top == NULL) return;
+
+    /* An item with one of the k largest estimates was not purged if they are above the error. Any other one had less than the k-th
+     * before, or none. */
+    if (sketch->top[k - 1] <= status_of(sketch).maximum_error ||
+        gather_risen(sketch, items, weights, sketch->top[k - 1], &risen) < 0) {
+        forget_top(sketch);
+    } else {
+        for (size_t i = 0; i < risen.room; i++) {
+            const Place *place = &risen.places[i];
+            ds_frequent_items_bounds bounds;
+            if (place->string.bytes == NULL || place->weight == 0) continue;
+            ds_frequent_items_string_bounds(&sketch->handle, place->string.bytes, place->string.length, &bounds);
+            raise_estimate(sketch->top, k, bounds.estimate > place->weight ? bounds.estimate - place->weight : 0, bounds.estimate);
+        }
+    }
+    free_distinct(&risen);
 }
 
 /* What is known of the k-th largest estimate: it is from `least` to `most`. */
@@ -75,6 +188,7 @@ typedef struct Known {
 static Known known_kth(const Sketch *sketch, const ds_status *status)
 {
     if (status->num_active_items <= sketch->capacity) return (Known){1, 1};
+    if (sketch->top != NULL) return (Known){sketch->top[sketch->capacity - 1], sketch->top[sketch->capacity - 1]};
 
     /* A counter whose estimate is above the error was not purged. */
     if (sketch->kth <= status->maximum_error) return (Known){1, UINT64_MAX};
@@ -88,11 +202,5 @@ int32_t least_of_top(Sketch *sketch, const ds_frequent_items_bounds *bounds, siz
     size_t i = 0;
     *least = known.most;
     while (i < count && (bounds[i].estimate < known.least || bounds[i].estimate >= known.most)) i++;
-    if (i < count) {
-        int32_t result = kth_estimate(sketch, sketch->capacity, least);
-        if (result < 0) return result;
-        sketch->kth = *least;
-        sketch->kth_total = status.total_weight;
-    }
-    return DS_OK;
+    return i < count ? find_top(sketch, least) : DS_OK;
 }

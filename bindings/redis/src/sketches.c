@@ -27,6 +27,7 @@ Sketch *clone_value(Sketch *sketch)
     copied->handle = (ds_sketch)DS_NONE;
     copied->bytes = NULL;
     copied->length = copied->room = copied->total = 0;
+    copied->top = NULL;
     if (ds_clone(&copied->handle, &sketch->handle) == DS_OK) return copied;
     free_value(copied);
     return NULL;
@@ -38,6 +39,7 @@ void free_value(void *value)
     if (sketch == NULL) return;
     ds_free(&sketch->handle);
     free_block(sketch->bytes);
+    free_block(sketch->top);
     free_block(sketch);
 }
 

@@ -374,7 +374,7 @@ static size_t memory(const void *value)
     Sketch *sketch = (Sketch *)value;
     size_t bytes = 0;
     if (sketch->kind != PARTS) ds_memory_bytes(&sketch->handle, &bytes);
-    return sizeof *sketch + sketch->room + bytes;
+    return sizeof *sketch + sketch->room + (sketch->top != NULL ? sketch->capacity * sizeof *sketch->top : 0) + bytes;
 }
 
 /* Adds what two equal sketches have in common to a digest: all but keys, and not the order of items. */

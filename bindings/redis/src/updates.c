@@ -56,7 +56,7 @@ static int32_t weigh(Sketch *sketch, const ds_status *status, const Items *items
             if (bounds[i].estimate != 0 || (weights != NULL && weights[first + i] == 0)) continue;
             all += strings[i].length;
             if (strings[i].length > longest) longest = strings[i].length;
-            if (!is_purged) result = add_distinct(&set, strings[i]);
+            if (!is_purged) result = add_distinct(&set, strings[i], 1);
             if (!is_purged && result == DS_YES) stored->bytes += strings[i].length;
             is_purged = status->num_active_items + set.count > most;
         }
@@ -137,6 +137,8 @@ bool update(Call *call, const Items *items, const uint64_t *weights)
     if (after.total_weight == before.total_weight) return true; /* all weights were 0 */
     sketch->string_bytes += stored.bytes;
     if (!stored.is_weighed) sketch->spare_bytes += stored.bytes;
+
+    follow_top(sketch, items, weights);
 
     /* What a purge removes depends on where items are in the table, so it is replicated as the sketch after it. All else is the same
      * in any table with the same counters, and is replicated as it came. */

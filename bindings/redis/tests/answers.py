@@ -90,25 +90,33 @@ def top_queries(tests):
     with tests.main.client() as client:
         client.done("FLUSHALL")
         wrong, asked = [], 0
-        for turn in range(12):
-            k = [1, 2, 3, 10, 30, 1][turn % 6]
+        for turn in range(25):
+            k = [1, 2, 3, 10, 30, 5000][turn % 6] if turn < 18 or turn == 23 else [1, 4, 20][turn % 3]
             key = f"t {turn}"
             client.done("TOPK.RESERVE", key, k)
-            names = [f"item {i}" for i in range(400)]
-            for step in range(60):
-                how = numbers.randrange(12)
+            names = [f"item {i}" for i in range(400 if k < 5000 else 9000)]
+            if k == 5000:
+                client.done("TOPK.ADD", key, *names[:6000])
+            for step in range(60 if k < 5000 else 10):
+                how = numbers.randrange(13)
                 if how == 0:
                     client.done("FREQ.HALVE", key)
                 elif how == 1:
                     client.done("FREQ.MERGE", key, key)
                 elif how == 2:
                     client.done("TOPK.INCRBY", key, numbers.choice(names), numbers.randrange(50))
+                elif how == 12:
+                    pairs = [(name, numbers.choice([0, 1, 1, 2, 30])) for name in skewed(numbers, 40, 30)]
+                    client.done("FREQ.INCRBY", key, *[word for pair in pairs for word in pair])
                 elif how < 5:
                     client.done("TOPK.ADD", key, numbers.choice(names))
                 elif how < 8:
                     client.done("FREQ.ADD", key, *skewed(numbers, 20))
                 if step % 20 == 19:
                     client.done("TOPK.ADD", key, *names[: numbers.randrange(1, 300)])
+                if step % 30 == 29:
+                    client.done("COPY", key, f"{key} copied")
+                    client.done("RENAME", f"{key} copied", key)
                 rows = client.done("FREQ.ROWS", key)
                 estimates = {name.decode(): high for name, _, high in rows}
                 ordered = sorted(estimates.values(), reverse=True)

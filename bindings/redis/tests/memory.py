@@ -37,6 +37,9 @@ COMMANDS = [
     ("TOPK.ADD", "empty", *[f"new {i}" for i in range(700)]),
     ("TOPK.INCRBY", "items", *[word for i in range(200) for word in (f"other {i}", i)]),
     ("TOPK.QUERY", "items", "item 1", "b"),
+    ("TOPK.QUERY", "top", "item 1", "item 2"),
+    ("TOPK.INCRBY", "asked", *[word for i in range(12) for word in (f"item {i}", 100 * i)]),
+    ("TOPK.QUERY", "asked", "item 1", "item 2"),
     ("TOPK.COUNT", "items", "item 1"),
     ("TOPK.LIST", "items", "WITHCOUNT"),
     ("TOPK.INFO", "items"),
@@ -64,6 +67,10 @@ COMMANDS = [
 
 def prepare(client):
     client.done("FLUSHALL")
+    for name in ["top", "asked"]:
+        client.done("TOPK.RESERVE", name, 2)
+        client.done("TOPK.INCRBY", name, *[word for i in range(10) for word in (f"item {i}", 5 + 3 * i)])
+    client.done("TOPK.QUERY", "asked", "item 1", "item 8")
     client.done("BF.RESERVE", "filter", "0.01", 4000)
     client.done("BF.RESERVE", "more", "0.01", 4000)
     client.done("BF.MADD", "more", *range(50, 150))
