@@ -65,6 +65,7 @@ static Argument of_load[] = {KEY("key", 0),
                              STRING("kind"),
                              STRING("image"),
                              OPTION("maxbytes", INTEGER, "MAXBYTES"),
+                             OPTION("capacity", INTEGER, "CAPACITY"),
                              OPTION("seed", INTEGER, "SEED"),
                              WORD("replace", "REPLACE"),
                              END};

@@ -87,13 +87,13 @@ static const struct {
 
 /* The options of SKETCH.LOAD. */
 typedef struct LoadOptions {
-    long long limit;
+    long long limit, capacity; /* of a filter, or 0 to guess it */
     uint64_t seed;
     bool replaces;
 } LoadOptions;
 
 /* Reads the options of SKETCH.LOAD. Returns false after an error. */
-static bool load_options(Call *call, LoadOptions *options)
+static bool load_options(Call *call, Kind kind, LoadOptions *options)
 {
     int at = 4;
     while (at < call->argc) {
@@ -103,6 +103,9 @@ static bool load_options(Call *call, LoadOptions *options)
             at++;
         } else if (has_value && is_word(call, at, "MAXBYTES")) {
             if (!number_argument(call, at + 1, 0, INT64_MAX, bad_number, &options->limit)) return false;
+            at += 2;
+        } else if (has_value && kind == DS_BLOOM && is_word(call, at, "CAPACITY")) {
+            if (!number_argument(call, at + 1, 1, INT64_MAX, "ERR bad capacity", &options->capacity)) return false;
             at += 2;
         } else if (has_value && is_word(call, at, "SEED")) {
             if (!read_seed(call->argv[at + 1], &options->seed)) {
@@ -118,14 +121,14 @@ static bool load_options(Call *call, LoadOptions *options)
     return true;
 }
 
-/* Fills in what the image of a sketch does not say: a guess of it. */
-static void guess_numbers(Sketch *sketch)
+/* Fills in what the image of a sketch does not say, if the command does not: a guess of it. */
+static void guess_numbers(Sketch *sketch, const LoadOptions *options)
 {
     ds_status status = status_of(sketch);
     if (sketch->kind == DS_BLOOM) {
         sketch->seed = status.seed;
         sketch->inserted = estimated_items(sketch);
-        sketch->capacity = capacity_of(sketch);
+        sketch->capacity = options->capacity > 0 ? (uint64_t)options->capacity : capacity_of(sketch);
         sketch->rate = 0.01;
     } else if (sketch->kind == DS_FREQUENT_ITEMS_STRING) {
         make_top(sketch, status.maximum_map_capacity);
@@ -137,12 +140,12 @@ int sketch_load(Call *call)
 {
     size_t length, kind = 0, num_kinds = sizeof kinds / sizeof *kinds;
     const uint8_t *image = (const uint8_t *)RedisModule_StringPtrLen(call->argv[3], &length);
-    LoadOptions options = {(long long)max_bytes, DS_DEFAULT_SEED, false};
+    LoadOptions options = {(long long)max_bytes, 0, DS_DEFAULT_SEED, false};
     Sketch *sketch;
     int32_t result = DS_NO_MEMORY;
     while (kind < num_kinds && !is_word(call, 2, kinds[kind].name)) kind++;
     if (kind == num_kinds) return reply_error(call, "ERR the kind must be bloom_filter, count_min or frequent_strings");
-    if (!load_options(call, &options)) return REDISMODULE_OK;
+    if (!load_options(call, kinds[kind].kind, &options)) return REDISMODULE_OK;
     if (call->sketch != NULL && !options.replaces) return reply_exists(call);
     if (!check_hashes(call, hashes_in_image(kinds[kind].kind, image, length))) return REDISMODULE_OK;
     sketch = new_value(kinds[kind].kind);
@@ -162,7 +165,7 @@ int sketch_load(Call *call)
         if (result == DS_SEED_HASH_MISMATCH) return reply_error(call, "ERR the image has another seed: give its seed after SEED");
         return reply_result(call, result);
     }
-    guess_numbers(sketch);
+    guess_numbers(sketch, &options);
     if (call->sketch != NULL && RedisModule_GetAbsExpire(call->key) != REDISMODULE_NO_EXPIRE) {
         RedisModule_SetAbsExpire(call->key, REDISMODULE_NO_EXPIRE); /* as other commands with REPLACE do */
         RedisModule_Replicate(call->ctx, "PERSIST", "s", call->argv[1]);

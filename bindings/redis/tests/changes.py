@@ -168,7 +168,9 @@ def quiet_replicas(tests):
         prepare(client)
         replicas.same_place(client, other)
         sent = lambda: client.done("INFO", "commandstats") and int(
-            next(line for line in client.done("INFO", "replication").decode().split("\r\n") if line.startswith("master_repl_offset")).split(":")[1]
+            next(
+                line for line in client.done("INFO", "replication").decode().split("\r\n") if line.startswith("master_repl_offset")
+            ).split(":")[1]
         )
         for command, changes in COMMANDS:
             prepare(client)
@@ -211,11 +213,17 @@ def live_filters(tests):
             before = client.done("DEBUG", "DIGEST")
             for damaged in [data[:-1] + bytes([data[-1] ^ 1]), bytes([data[0] ^ 128]) + data[1:]]:
                 got = client("BF.LOADCHUNK", "live", end, damaged)
-                tests.check("a damaged chunk", got == Error("ERR received bad data") and client.done("DEBUG", "DIGEST") == before, got)
+                tests.check(
+                    "a damaged chunk", got == Error("ERR received bad data") and client.done("DEBUG", "DIGEST") == before, got
+                )
             tests.check(
-                "the old filter stays after it", client.done("BF.MEXISTS", "live", *old) == [1] * 50 and client.done("PTTL", "live") > 0
+                "the old filter stays after it",
+                client.done("BF.MEXISTS", "live", *old) == [1] * 50 and client.done("PTTL", "live") > 0,
             )
-        tests.check("a copy is the old filter", client.done("COPY", "live", "copy") == 1 and client.done("BF.CARD", "copy") == client.done("BF.CARD", "live"))
+        tests.check(
+            "a copy is the old filter",
+            client.done("COPY", "live", "copy") == 1 and client.done("BF.CARD", "copy") == client.done("BF.CARD", "live"),
+        )
         tests.check("a copy has no parts", client("BF.LOADCHUNK", "copy", *chunks[-1]) == Error("ERR received bad data"))
         tests.check("parts count as memory", client.done("MEMORY", "USAGE", "live") - client.done("MEMORY", "USAGE", "copy") >= 300)
         client.done("DEBUG", "RELOAD")
@@ -225,7 +233,8 @@ def live_filters(tests):
             client.done("BF.LOADCHUNK", "live", *chunk)
         tests.check(
             "the last chunk replaces it",
-            client.done("SKETCH.IMAGE", "live") == client.done("SKETCH.IMAGE", "new") and client.done("BF.INFO", "live", "CAPACITY") == [500],
+            client.done("SKETCH.IMAGE", "live") == client.done("SKETCH.IMAGE", "new")
+            and client.done("BF.INFO", "live", "CAPACITY") == [500],
         )
         client.done("CMS.INITBYDIM", "count", 9, 3)
         tests.check("a key of another kind", "WRONGTYPE" in str(client("BF.LOADCHUNK", "count", *chunks[0])))

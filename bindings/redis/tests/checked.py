@@ -1,10 +1,17 @@
 """A session under valgrind: every command, files and copies, with no report of the module or the library."""
 import glob
+import os
 import re
 
 import commands
 import damage
 import stored
+
+SOURCES = [
+    os.path.splitext(name)[0]
+    for name in os.listdir(os.path.join(os.path.dirname(os.path.abspath(__file__)), "../src"))
+    if name.endswith(".c")
+]
 
 VALGRIND = [
     "valgrind",
@@ -25,7 +32,10 @@ def reports_of(log):
         stack
         for stack in stacks
         if "rattle_sketches" in stack
-        or re.search(r"\((allocator|calls|commands|counts|distinct|errors|filters|frequent|images|items|lines|module|ranks|sketches|states|updates)\.c:", stack)
+        or re.search(
+            rf"\(({'|'.join(SOURCES)})\.c:",
+            stack,
+        )
     ]
 
 

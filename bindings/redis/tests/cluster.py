@@ -43,7 +43,9 @@ def slots(tests):
             and client("FREQ.MERGE", "{t}xr", "{t}yr") == "OK"
             and client.done("FREQ.BOUNDS", "{t}xr", "a") == [[2, 2]],
         )
-        tests.check("keys of CMS.MERGE", client.done("COMMAND", "GETKEYS", *"CMS.MERGE d 2 x y WEIGHTS 1 2".split()) == [b"d", b"x", b"y"])
+        tests.check(
+            "keys of CMS.MERGE", client.done("COMMAND", "GETKEYS", *"CMS.MERGE d 2 x y WEIGHTS 1 2".split()) == [b"d", b"x", b"y"]
+        )
 
 
 def migrated(tests):
@@ -85,7 +87,12 @@ def keyed(tests):
     with tests.main.client() as client:
         client.done("FLUSHALL")
         for at, command in enumerate(
-            ["BF.RESERVE {} 0.01 100 KEYED", "BF.INSERT {} KEYED ITEMS a", "CMS.INITBYDIM {} 100 3 KEYED", "CMS.INITBYPROB {} 0.03 0.1 KEYED"]
+            [
+                "BF.RESERVE {} 0.01 100 KEYED",
+                "BF.INSERT {} KEYED ITEMS a",
+                "CMS.INITBYDIM {} 100 3 KEYED",
+                "CMS.INITBYPROB {} 0.03 0.1 KEYED",
+            ]
         ):
             found = set()
             for turn in range(8):

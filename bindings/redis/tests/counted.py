@@ -26,7 +26,9 @@ def counted_items(tests):
             kept.append(f"{len(kept):03d}" + "x" * 197)
         # With n items of 200 bytes and a table for them, one more is beyond the limit.
         count = len(kept)
-        tests.check("items up to the limit", 200 * count + SLOT * slots_for(count) <= 4096 < 200 * (count + 1) + SLOT * slots_for(count + 1))
+        tests.check(
+            "items up to the limit", 200 * count + SLOT * slots_for(count) <= 4096 < 200 * (count + 1) + SLOT * slots_for(count + 1)
+        )
         tests.check("one of them again", client("FREQ.ADD", "q", kept[0]) == "OK")
         tests.check("all of them, often", client("FREQ.ADD", "q", *kept * 30) == "OK")
         tests.check("as lines", client("FREQ.ADDLINES", "q", "\n".join(kept * 30)) == 30 * count)
@@ -55,7 +57,10 @@ def counted_items(tests):
         client.done("FREQ.RESERVE", "two", 64)
         client.done("FREQ.ADD", "one", "u" * 1500)
         tests.check("a merge weighs the table that it makes", client("FREQ.MERGE", "two", "one") == "OK")
-        tests.check("memory stays within the limit", all(client.done("MEMORY", "USAGE", key) < 4096 + 400 for key in ["q", "often", "many", "two"]))
+        tests.check(
+            "memory stays within the limit",
+            all(client.done("MEMORY", "USAGE", key) < 4096 + 400 for key in ["q", "often", "many", "two"]),
+        )
     with tests.main.client() as client:
         client.done("FLUSHALL")
         client.done("FREQ.RESERVE", "large", 64)
@@ -64,7 +69,9 @@ def counted_items(tests):
         tests.check("its weight", client.done("FREQ.BOUNDS", "large", item) == [[2, 2]])
         tests.check("60 MB in all", client("FREQ.ADD", "large", b"y" * (20 << 20)) == "OK")
         before = client.done("DEBUG", "DIGEST")
-        tests.check("68 MB in all", client("FREQ.ADD", "large", b"z" * (8 << 20)) == TOO_MUCH and client.done("DEBUG", "DIGEST") == before)
+        tests.check(
+            "68 MB in all", client("FREQ.ADD", "large", b"z" * (8 << 20)) == TOO_MUCH and client.done("DEBUG", "DIGEST") == before
+        )
         client.done("DEL", "large")
         for size, parts in [(8, 3 << 20), (8 << 20, 3)]:
             client.done("FREQ.RESERVE", "lines", 64)

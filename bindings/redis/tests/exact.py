@@ -4,7 +4,7 @@ import random
 import threading
 
 import oracle
-from resp import Client, packed
+from resp import Client, Error, packed
 
 
 def words(random_numbers, count, many=500):
@@ -151,7 +151,19 @@ def images(tests):
             950 <= client.done("BF.CARD", "f") <= 1050 and 950 <= client.done("BF.INFO", "f", "CAPACITY")[0] <= 1100,
             client.done("BF.INFO", "f"),
         )
+        tests.check(
+            "a capacity for an image",
+            client("SKETCH.LOAD", "more", "bloom_filter", own.image(), "CAPACITY", 1200) == "OK"
+            and client.done("BF.INFO", "more", "CAPACITY") == [1200]
+            and sum(client.done("BF.MADD", "more", *[f"new {i}" for i in range(120)])) > 100,
+        )
+        for words in [["CAPACITY", 0], ["CAPACITY", "x"], ["CAPACITY"]]:
+            tests.check(f"{words}", isinstance(client("SKETCH.LOAD", "bad", "bloom_filter", own.image(), *words), Error))
         counted = oracle.count_min(tests.library, 3, 100, 5)
+        tests.check(
+            "a capacity of counts",
+            str(client("SKETCH.LOAD", "bad", "count_min", counted.image(), "CAPACITY", 5)) == "ERR syntax error",
+        )
         oracle.add(counted, "a", 9)
         tests.check("another seed", "seed" in str(client("SKETCH.LOAD", "c", "count_min", counted.image())))
         client.done("SKETCH.LOAD", "c", "count_min", counted.image(), "SEED", 5)
@@ -159,7 +171,9 @@ def images(tests):
             "counts from C", client.done("CMS.QUERY", "c", "a") == [9] and client.done("SKETCH.IMAGE", "c") == counted.image()
         )
         tests.check(
-            "MAXBYTES", str(client("SKETCH.LOAD", "d", "bloom_filter", own.image(), "MAXBYTES", 100)) == "ERR the sketch takes more bytes than MAXBYTES"
+            "MAXBYTES",
+            str(client("SKETCH.LOAD", "d", "bloom_filter", own.image(), "MAXBYTES", 100))
+            == "ERR the sketch takes more bytes than MAXBYTES",
         )
         large = oracle.frequent(tests.library, 2**30).image()
         tests.check(

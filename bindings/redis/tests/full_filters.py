@@ -26,9 +26,14 @@ def default_sizes(tests):
     with on, on.client() as client:
         client.done("BF.ADD", "f", "a")
         # n ln(1 / rate) / (ln 2)^2 bits: 959 for 50 items and 0.0001, in words of 64
-        tests.check("sizes as arguments", client.done("BF.INFO", "f", "CAPACITY") == [50] and 120 <= client.done("MEMORY", "USAGE", "f") < 500)
+        tests.check(
+            "sizes as arguments",
+            client.done("BF.INFO", "f", "CAPACITY") == [50] and 120 <= client.done("MEMORY", "USAGE", "f") < 500,
+        )
         got = client("BF.MADD", "f", *range(100))
-        tests.check("an argument's capacity is a limit", len(got) < 60 and got[-1] == FULL and client.done("BF.CARD", "f") == 50, got)
+        tests.check(
+            "an argument's capacity is a limit", len(got) < 60 and got[-1] == FULL and client.done("BF.CARD", "f") == 50, got
+        )
     for words in [["capacity", 0], ["capacity", "x"], ["error", 0], ["error", 1], ["error", "nan"], ["error"]]:
         on = tests.server("bad sizes " + " ".join(map(str, words)))
         on.words = words
@@ -60,10 +65,16 @@ def full_filters(tests):
         client.done("BF.RESERVE", "five", "0.00001", 5)
         tests.check("BF.MADD up to the error", client("BF.MADD", "five", *"abcab") == [1, 1, 1, 0, 0])
         before = client.done("DEBUG", "DIGEST")
-        tests.check("BF.ADDLINES adds all or none", client("BF.ADDLINES", "five", "d\ne\nf\n") == FULL and client.done("DEBUG", "DIGEST") == before)
+        tests.check(
+            "BF.ADDLINES adds all or none",
+            client("BF.ADDLINES", "five", "d\ne\nf\n") == FULL and client.done("DEBUG", "DIGEST") == before,
+        )
         tests.check("lines that are there, and twice", client("BF.ADDLINES", "five", "a\nd\n" * 300 + "b") == 1)
         tests.check("BF.MADD ends at the error", client("BF.MADD", "five", *"aefab") == [0, 1, FULL])
-        tests.check("nothing is added from there on", client.done("BF.MEXISTS", "five", *"abcdef") == [1] * 5 + [0] and client.done("BF.CARD", "five") == 5)
+        tests.check(
+            "nothing is added from there on",
+            client.done("BF.MEXISTS", "five", *"abcdef") == [1] * 5 + [0] and client.done("BF.CARD", "five") == 5,
+        )
         before = client.done("DEBUG", "DIGEST")
         for command, wanted in [
             ("BF.ADD five f", FULL),
@@ -84,8 +95,13 @@ def full_filters(tests):
         room = 3000 - client.done("BF.CARD", "large")
         lines = "\n".join(f"last {i}" for i in range(room + 60))
         before = client.done("DEBUG", "DIGEST")
-        tests.check("lines beyond the room", client("BF.ADDLINES", "large", lines) == FULL and client.done("DEBUG", "DIGEST") == before)
-        tests.check("an absent key", client("BF.ADDLINES", "none", "\n".join(map(str, range(100001)))) == FULL and client.done("EXISTS", "none") == 0)
+        tests.check(
+            "lines beyond the room", client("BF.ADDLINES", "large", lines) == FULL and client.done("DEBUG", "DIGEST") == before
+        )
+        tests.check(
+            "an absent key",
+            client("BF.ADDLINES", "none", "\n".join(map(str, range(100001)))) == FULL and client.done("EXISTS", "none") == 0,
+        )
         tests.check("an absent key that fits", client("BF.ADDLINES", "none", "\n".join(map(str, range(100000)))) > 99000)
     with tests.main.client(3) as client:
         tests.check("the third version of the protocol", client("BF.MADD", "five", "a", "f") == [False, FULL])
@@ -100,7 +116,12 @@ def full_replicas(tests):
         client.done("BF.RESERVE", "f", "0.001", 20)
         for command in ["BF.MADD", "BF.ADD", "BF.ADDLINES", "BF.INSERT"]:
             for at in range(30):
-                words = {"BF.MADD": range(at, at + 9), "BF.ADD": [at], "BF.ADDLINES": ["x\ny"], "BF.INSERT": ["ITEMS", at, f"{at} b"]}
+                words = {
+                    "BF.MADD": range(at, at + 9),
+                    "BF.ADD": [at],
+                    "BF.ADDLINES": ["x\ny"],
+                    "BF.INSERT": ["ITEMS", at, f"{at} b"],
+                }
                 client(command, "f", *words[command])
         client("BF.INSERT", "g", "CAPACITY", 3, "ITEMS", *range(9))
         tests.check("a full filter on the replica", replicas.same_place(client, other))

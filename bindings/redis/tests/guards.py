@@ -35,7 +35,13 @@ def secrets(tests):
         client.done("FREQ.RESERVE", "r", 64)
         shown = [SEED.to_bytes(8, "little"), str(SEED).encode()]
         has_secret = lambda reply: any(part in (reply if isinstance(reply, bytes) else repr(reply).encode()) for part in shown)
-        flat = lambda reply: b"".join(map(flat, reply)) if isinstance(reply, list) else reply if isinstance(reply, bytes) else str(reply).encode()
+        flat = (
+            lambda reply: b"".join(map(flat, reply))
+            if isinstance(reply, list)
+            else reply
+            if isinstance(reply, bytes)
+            else str(reply).encode()
+        )
         for command in ["SKETCH.SEED f", "SKETCH.SEED c", "SKETCH.IMAGE f", "BF.SCANDUMP f 0", "DUMP f", "DUMP c"]:
             tests.check(f"{command} has the seed", has_secret(flat(client.done(*command.split()))))
         client.done("ACL", "SETUSER", "guest", "on", "nopass", "~*", "+@all", *rule())
@@ -46,9 +52,24 @@ def secrets(tests):
             for name in names + ["DUMP", "MIGRATE", "DEBUG", "SYNC", "COPY", "OBJECT", "EVAL"]:
                 for key in ["f", "c"]:
                     words = {"BF.SCANDUMP": [0], "COPY": [f"copy {key}"], "SKETCH.STATE": [0, "x"]}.get(name, ["a"])
-                    if name in ("DEBUG", "EVAL", "OBJECT", "DUMP", "SKETCH.SEED", "SKETCH.IMAGE", "SKETCH.INFO", "CMS.INFO", "BF.INFO", "FREQ.HALVE"):
+                    if name in (
+                        "DEBUG",
+                        "EVAL",
+                        "OBJECT",
+                        "DUMP",
+                        "SKETCH.SEED",
+                        "SKETCH.IMAGE",
+                        "SKETCH.INFO",
+                        "CMS.INFO",
+                        "BF.INFO",
+                        "FREQ.HALVE",
+                    ):
                         words = []
-                    subcommand = {"OBJECT": ["ENCODING"], "DEBUG": ["OBJECT"], "EVAL": ["return redis.call('DUMP', KEYS[1])", 1]}.get(name, [])
+                    subcommand = {
+                        "OBJECT": ["ENCODING"],
+                        "DEBUG": ["OBJECT"],
+                        "EVAL": ["return redis.call('DUMP', KEYS[1])", 1],
+                    }.get(name, [])
                     if name == "SYNC" or name == "MIGRATE":
                         reply = client("ACL", "DRYRUN", "guest", name, *([] if name == "SYNC" else ["127.0.0.1", 1, key, 0, 1]))
                         denied |= {name} if reply != "OK" else set()
@@ -71,7 +92,9 @@ def hashes(tests):
                 began = time.monotonic()
                 got = client("SKETCH.LOAD", "l", "bloom_filter", empty_image(count, words))
                 took = time.monotonic() - began
-                tests.check(f"an image of {count} hashes", got == wanted and took < 0.05 and client.done("EXISTS", "l") == 0, (got, took))
+                tests.check(
+                    f"an image of {count} hashes", got == wanted and took < 0.05 and client.done("EXISTS", "l") == 0, (got, took)
+                )
         tests.check("an image of 255 hashes", client("SKETCH.LOAD", "l", "bloom_filter", empty_image(255)) == "OK")
         tests.check("255 rows", client("CMS.INITBYDIM", "rows", 3, 255) == "OK")
     on = tests.server("many hashes", rdbcompression="no")
@@ -126,23 +149,52 @@ def parameters(tests):
     on.words = ["max-bytes", "64kb", "MAX-MERGE-BYTES", "1m", "max-hashes", 20]
     with on, on.client() as client:
         get = lambda name: client.done("CONFIG", "GET", f"rattle_sketches.{name}")[1:]
-        tests.check("arguments with units", [get("max-bytes"), get("max-merge-bytes"), get("max-hashes")] == [[b"65536"], [b"1000000"], [b"20"]])
+        tests.check(
+            "arguments with units",
+            [get("max-bytes"), get("max-merge-bytes"), get("max-hashes")] == [[b"65536"], [b"1000000"], [b"20"]],
+        )
         tests.check("a limit of an argument", client("BF.RESERVE", "f", "0.01", 55000) == TOO_MUCH)
-        for value, bytes_of_it in [("128kb", 131072), ("1mb", 1 << 20), ("2GB", 2 << 30), ("3m", 3000000), ("100000", 100000), ("4gb", 4 << 30)]:
+        for value, bytes_of_it in [
+            ("128kb", 131072),
+            ("1mb", 1 << 20),
+            ("2GB", 2 << 30),
+            ("3m", 3000000),
+            ("100000", 100000),
+            ("4gb", 4 << 30),
+        ]:
             client.done("CONFIG", "SET", "rattle_sketches.max-bytes", value)
             tests.check(f"CONFIG SET of {value}", get("max-bytes") == [str(bytes_of_it).encode()])
         client.done("CONFIG", "SET", "rattle_sketches.max-bytes", "70kb", "rattle_sketches.max-merge-bytes", "10kb")
-        tests.check("a new limit holds", client("BF.RESERVE", "f", "0.01", 55000) == "OK" and client("BF.RESERVE", "g", "0.01", 60000) == TOO_MUCH)
+        tests.check(
+            "a new limit holds",
+            client("BF.RESERVE", "f", "0.01", 55000) == "OK" and client("BF.RESERVE", "g", "0.01", 60000) == TOO_MUCH,
+        )
         tests.check("a new limit of merges holds", "max-merge-bytes" in str(client("BF.MERGE", "f", "f")))
-        for name, value in [("max-bytes", "x"), ("max-bytes", "-1"), ("max-bytes", 1023), ("max-bytes", "2000gb"), ("max-hashes", 0), ("max-hashes", 32768), ("max-hashes", "1kb")]:
+        for name, value in [
+            ("max-bytes", "x"),
+            ("max-bytes", "-1"),
+            ("max-bytes", 1023),
+            ("max-bytes", "2000gb"),
+            ("max-hashes", 0),
+            ("max-hashes", 32768),
+            ("max-hashes", "1kb"),
+        ]:
             got = client("CONFIG", "SET", f"rattle_sketches.{name}", value)
             tests.check(f"CONFIG SET of {name} {value}", isinstance(got, Error) and get(name) in ([b"71680"], [b"20"]), got)
         client.done("CONFIG", "REWRITE")
         on.stop()
         with open(f"{on.folder}/redis.conf", encoding="utf-8") as file:
             written = file.read()
-        tests.check("CONFIG REWRITE", re.search(r"^rattle_sketches\.max-bytes (70kb|71680)$", written, re.MULTILINE), written[-500:])
-    for words in [["max-bytes", "1kb2"], ["max-bytes", "kb"], ["max-hashes", "1k"], ["max-bytes", "99999999999999999999"], ["max-bytes", "9999999999gb"]]:
+        tests.check(
+            "CONFIG REWRITE", re.search(r"^rattle_sketches\.max-bytes (70kb|71680)$", written, re.MULTILINE), written[-500:]
+        )
+    for words in [
+        ["max-bytes", "1kb2"],
+        ["max-bytes", "kb"],
+        ["max-hashes", "1k"],
+        ["max-bytes", "99999999999999999999"],
+        ["max-bytes", "9999999999gb"],
+    ]:
         on = tests.server("bad limit " + " ".join(map(str, words)))
         on.words = words
         on.start(wait=False)
@@ -164,7 +216,9 @@ def damaged_keys(tests):
         for key, shown in [("my:key", "'my:key'"), (b"a\nb'\xff\\", "'a\\x0ab\\x27\\xff\\x5c'"), (b"x" * 1000, "'" + "x" * 200)]:
             tests.check("a wrong checksum", client("RESTORE", key, 0, damaged) == Error("ERR Bad data format"))
             line = next((line for line in on.log().split("\n") if shown in line), "")
-            tests.check(f"the log of {shown[:20]}", "database 3" in line and "wrong checksum" in line and len(line) < 500, on.log()[-600:])
+            tests.check(
+                f"the log of {shown[:20]}", "database 3" in line and "wrong checksum" in line and len(line) < 500, on.log()[-600:]
+            )
         tests.check("a line for each key", on.log().count("cannot be read: wrong checksum") == 3)
         client.done("SELECT", 0)
         client.done("SAVE")
@@ -177,5 +231,9 @@ def damaged_keys(tests):
         on.start(wait=False)
         on.process.wait(timeout=30)
         on.process = None
-        tests.check("the log of a file", "the sketch of the key 'f' in database 0 cannot be read: wrong checksum" in on.log(), on.log()[-600:])
+        tests.check(
+            "the log of a file",
+            "the sketch of the key 'f' in database 0 cannot be read: wrong checksum" in on.log(),
+            on.log()[-600:],
+        )
         os.remove(f"{on.folder}/dump.rdb")

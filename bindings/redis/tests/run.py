@@ -21,6 +21,7 @@ sys.path.insert(0, HERE)
 import answers  # noqa: E402
 import changes  # noqa: E402
 import checked  # noqa: E402
+import clients  # noqa: E402
 import cluster  # noqa: E402
 import commands  # noqa: E402
 import counted  # noqa: E402
@@ -79,8 +80,8 @@ GROUPS = [
     commands.kinds,
     commands.binary,
     commands.lines,
-    commands.command_line,
-    commands.python,
+    clients.command_line,
+    clients.python,
     commands.documented,
     commands.any_words,
     counted.counted_items,
