@@ -108,8 +108,9 @@ static bool read_arguments(Call *call)
 {
     for (int i = 0; i < call->argc; i += 2) {
         if (i + 1 < call->argc && read_argument(call, i)) continue;
-        RedisModule_Log(call->ctx, "warning",
-                        "the arguments of the module are: max-bytes N, max-merge-bytes N, capacity N, error R, seed N");
+        RedisModule_Log(
+            call->ctx, "warning",
+            "the arguments of the module are: max-bytes N, max-merge-bytes N, max-hashes N, capacity N, error R, seed N");
         return false;
     }
     return true;

@@ -62,7 +62,7 @@ static int32_t weigh(Sketch *sketch, const ds_status *status, const Items *items
         }
         first += count;
         stored->count = set.count;
-        is_too_much = !is_purged && !fits(status, sketch->string_bytes - sketch->spare_bytes, stored, limit);
+        is_too_much = stored->count > 0 && !is_purged && !fits(status, sketch->string_bytes - sketch->spare_bytes, stored, limit);
     }
     free_distinct(&set);
     stored->allocated = is_purged ? items->bytes : stored->bytes;
@@ -115,8 +115,8 @@ bool update(Call *call, const Items *items, const uint64_t *weights)
 {
     Sketch *sketch = call->sketch;
     ds_status before = status_of(sketch);
-    Stored stored;
     ds_status after;
+    Stored stored;
     int32_t result;
     if (!has_room(&before, items, weights)) {
         reply_result(call, DS_WEIGHT_OVERFLOW);
@@ -137,7 +137,6 @@ bool update(Call *call, const Items *items, const uint64_t *weights)
     if (after.total_weight == before.total_weight) return true; /* all weights were 0 */
     sketch->string_bytes += stored.bytes;
     if (!stored.is_weighed) sketch->spare_bytes += stored.bytes;
-
     follow_top(sketch, items, weights);
 
     /* What a purge removes depends on where items are in the table, so it is replicated as the sketch after it. All else is the same

@@ -61,6 +61,18 @@ def counted_items(tests):
             "memory stays within the limit",
             all(client.done("MEMORY", "USAGE", key) < 4096 + 400 for key in ["q", "often", "many", "two"]),
         )
+        client.done("CONFIG", "SET", "rattle_sketches.max-bytes", "64kb")
+        client.done("FREQ.RESERVE", "lower", 1024)
+        names = [f"item {i}" for i in range(500)]
+        client.done("FREQ.ADD", "lower", *names)
+        client.done("CONFIG", "SET", "rattle_sketches.max-bytes", "1kb")
+        before = client.done("DEBUG", "DIGEST")
+        tests.check(
+            "new items behind many known ones under a lower limit",
+            client("FREQ.ADD", "lower", *names, "new") == TOO_MUCH and client.done("DEBUG", "DIGEST") == before,
+        )
+        tests.check("known items under a lower limit", client("FREQ.ADD", "lower", *names) == "OK")
+        tests.check("their number", client.done("FREQ.INFO", "lower")[5:8:2] == [500, 1000])
     with tests.main.client() as client:
         client.done("FLUSHALL")
         client.done("FREQ.RESERVE", "large", 64)
