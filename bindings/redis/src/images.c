@@ -74,6 +74,13 @@ int sketch_image(Call *call)
 
 /* --- Sketches from images. --- */
 
+size_t limit_of_image(Kind kind, const uint8_t *image, size_t length, size_t limit)
+{
+    size_t counters = kind == DS_FREQUENT_ITEMS_STRING && length > WEIGHTS_AT ? (size_t)read_number(image + COUNTERS_AT, 4) : 0;
+    if (counters > length / 12) counters = 0; /* each takes 12 bytes and more: the image is damaged */
+    return limit <= SIZE_MAX - 4 * counters ? limit + 4 * counters : limit;
+}
+
 uint32_t hashes_in_image(Kind kind, const uint8_t *image, size_t length)
 {
     return kind == DS_BLOOM && length >= 6 ? image[4] | (uint32_t)image[5] << 8 : 0;
@@ -153,7 +160,7 @@ int sketch_load(Call *call)
         size_t limit = (size_t)options.limit < max_bytes ? (size_t)options.limit : max_bytes;
         sketch->seed = options.seed;
         sketch->table_key = (ds_key){random_word(), random_word()};
-        ds_image_options given = {limit, sketch->seed, &sketch->table_key};
+        ds_image_options given = {limit_of_image(sketch->kind, image, length, limit), sketch->seed, &sketch->table_key};
         result = ds_deserialize(&sketch->handle, sketch->kind, image, length, &given);
     }
     if (result == DS_OK && sketch->kind != DS_BLOOM && status_of(sketch).total_weight > INT64_MAX) result = DS_VALUE_OUT_OF_RANGE;
@@ -236,12 +243,15 @@ int sketch_info(Call *call)
     size_t bytes = 0, kind = 0;
     while (kinds[kind].kind != sketch->kind) kind++;
     ds_memory_bytes(&sketch->handle, &bytes);
-    RedisModule_ReplyWithMap(call->ctx, sketch->kind == DS_FREQUENT_ITEMS_STRING ? 4 : 6);
+    RedisModule_ReplyWithMap(call->ctx, sketch->kind == DS_FREQUENT_ITEMS_STRING ? 4 : sketch->kind == DS_COUNT_MIN_U64 ? 6 : 7);
     RedisModule_ReplyWithCString(call->ctx, "kind");
     RedisModule_ReplyWithCString(call->ctx, kinds[kind].name);
     reply_number(call, "bytes", bytes);
     reply_number(call, "max-bytes", max_bytes);
-    if (sketch->kind == DS_BLOOM) reply_number(call, "bits", status.num_bits);
+    if (sketch->kind == DS_BLOOM) {
+        reply_number(call, "bits", status.num_bits);
+        reply_number(call, "max-bits", 8 * (uint64_t)max_bytes);
+    }
     if (sketch->kind == DS_COUNT_MIN_U64) reply_number(call, "cells", (uint64_t)status.num_hashes * status.num_buckets);
     if (sketch->kind == DS_FREQUENT_ITEMS_STRING) {
         reply_number(call, "slots", status.current_map_capacity / 3 * 4);

@@ -358,6 +358,9 @@ void replicate_state(Call *call, Sketch *sketch);
  * sketches have equal images. Returns null if there is no memory. */
 uint8_t *write_image(Sketch *sketch, size_t *length);
 
+/* Returns the limit of an image for a limit of a sketch. In the image of frequent items a string counts 4 bytes more than it takes. */
+size_t limit_of_image(Kind kind, const uint8_t *image, size_t length, size_t limit);
+
 /* Returns the hashes of an item in the image of a filter, and 0 for other kinds, whose images have few. */
 uint32_t hashes_in_image(Kind kind, const uint8_t *image, size_t length);
 

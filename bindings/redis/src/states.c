@@ -116,7 +116,7 @@ Sketch *read_state(const uint8_t *bytes, size_t length, size_t limit, int32_t *r
     memcpy(&sketch->rate, &numbers[RATE], sizeof sketch->rate);
     sketch->width = numbers[WIDTH];
     sketch->depth = numbers[DEPTH];
-    ds_image_options options = {limit, sketch->seed, &sketch->table_key};
+    ds_image_options options = {limit_of_image(sketch->kind, bytes + HEADER_BYTES, image, limit), sketch->seed, &sketch->table_key};
     *result = ds_deserialize_prefix(&sketch->handle, sketch->kind, bytes + HEADER_BYTES, image, &options, &used);
     if (*result == DS_OK && (used != image || numbers[LENGTH] != length || !is_sound(sketch))) *result = DS_VALUE_OUT_OF_RANGE;
     if (*result == DS_OK && limit != SIZE_MAX && status_of(sketch).num_hashes > max_hashes) *result = TOO_MANY_HASHES;

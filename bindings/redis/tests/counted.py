@@ -38,6 +38,18 @@ def counted_items(tests):
         exact[0] += 1
         got = client.done("FREQ.BOUNDS", "q", *kept)
         tests.check("their weights", got == [[weight, weight] for weight in exact], got)
+        client.done("RESTORE", "restored", 0, client.done("DUMP", "q"))
+        client.done("SKETCH.LOAD", "loaded", "frequent_strings", client.done("SKETCH.IMAGE", "q"))
+        tests.check("copies of it fit, too", all(client.done("FREQ.BOUNDS", key, *kept) == got for key in ["restored", "loaded"]))
+        client.done("FREQ.RESERVE", "short", 64)
+        short = 0
+        while client("FREQ.ADD", "short", f"{short:04d}" * 10) == "OK":
+            short += 1
+        client.done("RESTORE", "short restored", 0, client.done("DUMP", "short"))
+        tests.check(
+            "copies of short items fit",
+            client.done("FREQ.INFO", "short restored") == client.done("FREQ.INFO", "short") and short > 20,
+        )
         before = client.done("DEBUG", "DIGEST")
         for command in [
             ("FREQ.ADD", "q", kept[0], "new" + "x" * 1500),

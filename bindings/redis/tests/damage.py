@@ -169,6 +169,8 @@ def unsound_states(tests):
                 state = sealed(tests, states[key][:at] + value.to_bytes(8, "little") + states[key][at + 8 :])
                 got = client("SKETCH.STATE", "unsound", 0, state)
                 tests.check(f"a state of {key} with {name} {value}", str(got) == "ERR received bad data", got)
+        flagged = states["filter"][:5] + b"\x02" + states["filter"][6:]
+        tests.check("a flag of an earlier version", client("SKETCH.STATE", "flagged", 0, sealed(tests, flagged)) == "OK")
         for key, state in states.items():
             tests.check(f"the state of {key}", client("SKETCH.STATE", "sound", 0, sealed(tests, state)) == "OK")
 

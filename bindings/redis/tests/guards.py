@@ -135,7 +135,18 @@ def information(tests):
         limits = {"max-bytes": 64 << 20}
         # 8 bytes for each word of a filter, 8 for each cell and row of Count-Min, and 44 for each slot and the bytes of the strings
         for key, wanted in [
-            ("f", {"kind": b"bloom_filter", "bytes": 800, **limits, "bits": 6400, "hashes": 7, "max-hashes": 255}),
+            (
+                "f",
+                {
+                    "kind": b"bloom_filter",
+                    "bytes": 800,
+                    **limits,
+                    "bits": 6400,
+                    "max-bits": 512 << 20,
+                    "hashes": 7,
+                    "max-hashes": 255,
+                },
+            ),
             ("c", {"kind": b"count_min", "bytes": 8 * 303, **limits, "cells": 300, "hashes": 3, "max-hashes": 255}),
             ("r", {"kind": b"frequent_strings", "bytes": 8 * 44 + 3, **limits, "slots": 8}),
         ]:
