@@ -173,8 +173,8 @@ bool string_lines(Call *call, int at, Items *items)
     return true;
 }
 
-/* Returns the next line of a string from a position on, which moves behind it: without the line feed, and without a carriage
- * return before it. */
+/* Returns the next line of a string from a position on, without its line feed and a carriage return before that. The position is
+ * then after the line. */
 static ds_string next_line(const uint8_t *text, size_t length, size_t *at)
 {
     const uint8_t *line = text + *at, *feed = memchr(line, '\n', length - *at), *end = feed != NULL ? feed : text + length;

@@ -152,7 +152,7 @@ typedef struct Call {
     RedisModuleKey *key;
     Sketch *sketch;   /* the key's value, or null if there is no key */
     const char *name; /* of the command, as the table of commands has it */
-    bool is_noted;    /* whether clients were told of a change of the key */
+    bool is_noted;    /* whether `note_change` was called */
 } Call;
 
 /* What a command does with its key. */
@@ -178,8 +178,8 @@ void put_value(Call *call, Sketch *sketch);
 /* Puts a new value into the key, and replicates it. */
 void create_value(Call *call, Sketch *sketch);
 
-/* Tells clients that the key changed: those that watch it, and those that take events of the key space. The event is the name of the
- * command. A call tells them once, however often it is made. */
+/* Notes that the key changed: for clients that watch it, and as an event of the key space with the name of the command. A command has
+ * one event, however often this is called. */
 void note_change(Call *call);
 
 /* Notes a change, and replicates the call as it came. */
@@ -264,7 +264,7 @@ void free_items(Items *items);
 /* The most strings that `next_strings` takes. */
 #define MOST_STRINGS 256
 
-/* Writes the next strings of items of frequent items, from a position on, which moves behind them. It begins at 0. Returns their
+/* Writes the next strings of items of frequent items, from a position on, which begins at 0 and is then after them. Returns their
  * number: 0 at the end. */
 size_t next_strings(const Items *items, size_t *at, ds_string *strings);
 
@@ -304,7 +304,7 @@ int32_t kth_estimate(Sketch *sketch, uint64_t k, uint64_t *estimate);
 /* Writes an estimate that these items reach if they are among the first k, and only then. Returns the errors of `kth_estimate`. */
 int32_t least_of_top(Sketch *sketch, const ds_frequent_items_bounds *bounds, size_t count, uint64_t *least);
 
-/* Keeps the k largest estimates of a sketch right after updates with items, with weights or 1 each if they are null. */
+/* Updates the k largest estimates of a sketch after updates with items, with weights or 1 each if they are null. */
 void follow_top(Sketch *sketch, const Items *items, const uint64_t *weights);
 
 /* Forgets the largest estimates of a sketch, before it changes in another way. */

@@ -1,17 +1,17 @@
-/* The k-th largest estimate of frequent items: what an item needs to be one of the first k.
+/* The k largest estimates of frequent items, for TOPK.QUERY.
  *
- * The first TOPK.QUERY of a sketch finds the k largest estimates, in one pass over the counters. From then on each update looks its
- * items up afterwards, and keeps these numbers right. So later queries do not look at the counters.
+ * The first TOPK.QUERY of a sketch finds them in one pass over the counters, without a sort. Each later update looks its items up once
+ * more and keeps them up to date. So later queries read no counters.
  *
- * If k is too large for that, the k-th estimate is kept with the total at that time. Estimates only grow, by no more than what was
- * added since. So most queries are answered from that: an item whose estimate is below the k-th of then is not one of the first k, and
- * one that is above it by what was added since is. */
+ * If k is above MOST_TOP, only the k-th estimate is kept, with the total at that time. Estimates grow by at most what is added to the
+ * total. So an item whose estimate is below the kept one is not one of the first k. An item whose estimate exceeds it by all that was
+ * added since is one of them. Between these a query needs another pass. */
 #include "module.h"
 
 #include <stdlib.h>
 #include <string.h>
 
-/* The most estimates that are kept right. An update moves up to so many numbers for an item. */
+/* The most estimates that are kept up to date. An update moves at most this many numbers for an item. */
 #define MOST_TOP 4096
 
 /* Returns the next of a sequence of random numbers. */
@@ -130,7 +130,7 @@ static size_t rank_of(const uint64_t *top, size_t k, uint64_t estimate)
     return begin;
 }
 
-/* Keeps the k largest estimates right when one grows. If it was one of them, it leaves its place, and else the k-th does. */
+/* Updates the k largest estimates when one grows. If it was one of them, it leaves its place, and else the k-th does. */
 static void raise_estimate(uint64_t *top, size_t k, uint64_t before, uint64_t after)
 {
     size_t from = before >= top[k - 1] ? rank_of(top, k, before + 1) : k - 1, to = rank_of(top, k, after);

@@ -195,7 +195,7 @@ static bool begin_parts(Call *call, size_t total, const uint8_t *bytes, size_t l
     return true;
 }
 
-/* Takes a part of a state behind those that came. Returns false after an error. */
+/* Takes the next part of a state. Returns false after an error. */
 static bool continue_parts(Call *call, Kind kind, const uint8_t *bytes, size_t length)
 {
     Sketch *parts = call->sketch;

@@ -16,7 +16,7 @@ def slots_for(active):
 
 
 def counted_items(tests):
-    """Items with counters are never refused, in no command and no batch. What is refused changes nothing."""
+    """Items with counters are no error, in no command and no batch. An error changes nothing."""
     on = tests.server("counted items")
     on.words = ["max-bytes", 4096]
     with on, on.client() as client:
@@ -80,7 +80,7 @@ def counted_items(tests):
         client.done("CONFIG", "SET", "rattle_sketches.max-bytes", "1kb")
         before = client.done("DEBUG", "DIGEST")
         tests.check(
-            "new items behind many known ones under a lower limit",
+            "new items after many known ones under a lower limit",
             client("FREQ.ADD", "lower", *names, "new") == TOO_MUCH and client.done("DEBUG", "DIGEST") == before,
         )
         tests.check("known items under a lower limit", client("FREQ.ADD", "lower", *names) == "OK")
@@ -113,7 +113,7 @@ def random_limits(tests):
     limit = 8192
     on.words = ["max-bytes", limit]
     with on, on.client() as client:
-        wrong, taken, refused = [], 0, 0
+        wrong, taken, errors = [], 0, 0
         for turn in range(8):
             client.done("FLUSHALL")
             client.done("FREQ.RESERVE", "r", 128)
@@ -142,10 +142,10 @@ def random_limits(tests):
                 else:
                     if got != TOO_MUCH or client.done("DEBUG", "DIGEST") != before:
                         wrong.append(("a batch that does not fit", turn, needed, got))
-                    refused += 1
+                    errors += 1
             names = sorted(true)
             if client.done("FREQ.BOUNDS", "r", *names) != [[true[name]] * 2 for name in names]:
                 wrong.append(("weights", turn))
             if client.done("MEMORY", "USAGE", "r") > limit + 400:
                 wrong.append(("memory", turn))
-        tests.check("random batches near the limit", not wrong and taken > 300 and refused > 300, (wrong[:3], taken, refused))
+        tests.check("random batches near the limit", not wrong and taken > 300 and errors > 300, (wrong[:3], taken, errors))

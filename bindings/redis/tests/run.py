@@ -18,7 +18,6 @@ MODULE = os.path.dirname(HERE)
 BINDINGS = os.path.dirname(MODULE)
 sys.path.insert(0, HERE)
 
-import answers  # noqa: E402
 import changes  # noqa: E402
 import checked  # noqa: E402
 import clients  # noqa: E402
@@ -34,6 +33,7 @@ import oracle  # noqa: E402
 import planted  # noqa: E402
 import redis_page  # noqa: E402
 import replicas  # noqa: E402
+import results  # noqa: E402
 import server  # noqa: E402
 import stored  # noqa: E402
 
@@ -91,16 +91,16 @@ GROUPS = [
     exact.frequent,
     exact.images,
     exact.interleaved,
-    answers.sizes,
-    answers.rates,
-    answers.top_counts,
-    answers.top_queries,
-    answers.large_tables,
-    answers.first_rows,
-    answers.halves,
-    answers.merged_filters,
-    answers.scripts,
-    answers.replaced,
+    results.sizes,
+    results.rates,
+    results.top_counts,
+    results.top_queries,
+    results.large_tables,
+    results.first_rows,
+    results.halves,
+    results.merged_filters,
+    results.scripts,
+    results.replaced,
     changes.events_and_watch,
     changes.quiet_replicas,
     changes.live_filters,
