@@ -78,7 +78,12 @@ int32_t kth_estimate(Sketch *sketch, uint64_t k, uint64_t *estimate)
 {
     int32_t result;
     uint64_t *estimates;
-    void *block = largest_estimates(sketch, (size_t)k, &estimates, &result);
+    void *block;
+    if (sketch->top != NULL && k <= sketch->capacity) {
+        *estimate = sketch->top[k - 1];
+        return DS_OK;
+    }
+    block = largest_estimates(sketch, (size_t)k, &estimates, &result);
     if (block != NULL) *estimate = estimates[k - 1];
     free_block(block);
     return result;

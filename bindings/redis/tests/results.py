@@ -139,6 +139,9 @@ def top_queries(tests):
                 listed = client.done("TOPK.LIST", key, "WITHCOUNT")
                 if listed[1::2] != ordered[:k]:
                     wrong.append((turn, step, "list", listed[1::2], ordered[:k]))
+                count = numbers.choice([1, 2, k, k + 1])
+                if [high for _, _, high in client.done("FREQ.ROWS", key, "COUNT", count)] != ordered[:count]:
+                    wrong.append((turn, step, "rows", count))
         tests.check("TOPK.QUERY and TOPK.LIST", not wrong and asked > 5000, (asked, wrong[:2]))
 
 
