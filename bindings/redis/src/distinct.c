@@ -26,17 +26,23 @@ static Place *place_of(Place *places, size_t room, ds_string string, uint64_t ha
     return &places[at];
 }
 
-/* Doubles the table. Returns false if there is no memory. */
+/* Grows the table. Returns false if there is no memory. */
 static bool grow(Distinct *set)
 {
-    size_t room = set->room != 0 ? 2 * set->room : 256;
-    Place *places = try_block(room * sizeof *places);
+    size_t room = set->room < 128 ? 256 : 2 * set->room;
+    Place *places;
+    if (set->room == 0) {
+        set->places = set->few;
+        set->room = sizeof set->few / sizeof *set->few;
+        return true;
+    }
+    places = try_block(room * sizeof *places);
     if (places == NULL) return false;
     memset(places, 0, room * sizeof *places);
     for (size_t i = 0; i < set->room; i++)
         if (set->places[i].string.bytes != NULL)
             *place_of(places, room, set->places[i].string, set->places[i].hash) = set->places[i];
-    free_block(set->places);
+    free_distinct(set);
     set->places = places;
     set->room = room;
     return true;
@@ -60,5 +66,5 @@ int32_t add_distinct(Distinct *set, ds_string string, uint64_t weight)
 
 void free_distinct(Distinct *set)
 {
-    free_block(set->places);
+    if (set->places != set->few) free_block(set->places);
 }

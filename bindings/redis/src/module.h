@@ -279,10 +279,11 @@ typedef struct Place {
     uint64_t hash, weight;
 } Place;
 
-/* A set of strings, which begins as {0}. It keeps pointers to the caller's bytes. */
+/* A set of strings, which begins as {0} and is not copied. It keeps pointers to the caller's bytes. Few strings need no other memory. */
 typedef struct Distinct {
     Place *places;
     size_t room, count; /* places, and those with a string */
+    Place few[16];
 } Distinct;
 
 /* Adds to the weight of a string. Returns DS_YES if it is new, DS_NO if the set has it, and DS_NO_MEMORY. */
@@ -304,7 +305,7 @@ int32_t kth_estimate(Sketch *sketch, uint64_t k, uint64_t *estimate);
 /* Writes an estimate that these items reach if they are among the first k, and only then. Returns the errors of `kth_estimate`. */
 int32_t least_of_top(Sketch *sketch, const ds_frequent_items_bounds *bounds, size_t count, uint64_t *least);
 
-/* Updates the k largest estimates of a sketch after updates with items, with weights or 1 each if they are null. */
+/* Updates the k largest estimates of a sketch that keeps them, after updates with items, with weights or 1 each if they are null. */
 void follow_top(Sketch *sketch, const Items *items, const uint64_t *weights);
 
 /* Forgets the largest estimates of a sketch, before it changes in another way. */

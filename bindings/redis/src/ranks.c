@@ -165,7 +165,6 @@ void follow_top(Sketch *sketch, const Items *items, const uint64_t *weights)
 {
     size_t k = (size_t)sketch->capacity;
     Distinct risen = {0};
-    if (sketch->top == NULL) return;
 
     /* An item with one of the k largest estimates was not purged if they are above the error. Any other one had less than the k-th
      * before, or none. */

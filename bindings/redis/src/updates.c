@@ -137,7 +137,7 @@ bool update(Call *call, const Items *items, const uint64_t *weights)
     if (after.total_weight == before.total_weight) return true; /* all weights were 0 */
     sketch->string_bytes += stored.bytes;
     if (!stored.is_weighed) sketch->spare_bytes += stored.bytes;
-    follow_top(sketch, items, weights);
+    if (sketch->top != NULL) follow_top(sketch, items, weights);
 
     /* What a purge removes depends on where items are in the table, so it is replicated as the sketch after it. All else is the same
      * in any table with the same counters, and is replicated as it came. */

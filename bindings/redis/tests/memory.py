@@ -42,6 +42,8 @@ COMMANDS = [
     ("TOPK.QUERY", "asked", "item 1", "item 2"),
     ("TOPK.COUNT", "items", "item 1"),
     ("TOPK.LIST", "items", "WITHCOUNT"),
+    ("TOPK.LIST", "top", "WITHCOUNT"),
+    ("FREQ.ROWS", "asked", "COUNT", 1),
     ("TOPK.INFO", "items"),
     ("FREQ.RESERVE", "new", 64),
     ("FREQ.ADD", "items", "item 1", "one more"),
