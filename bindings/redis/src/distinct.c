@@ -29,9 +29,10 @@ static Place *place_of(Place *places, size_t room, ds_string string, uint64_t ha
 /* Grows the table. Returns false if there is no memory. */
 static bool grow(Distinct *set)
 {
-    size_t room = set->room < 128 ? 256 : 2 * set->room;
+    size_t room = 2 * set->room;
     Place *places;
     if (set->room == 0) {
+        memset(set->few, 0, sizeof set->few);
         set->places = set->few;
         set->room = sizeof set->few / sizeof *set->few;
         return true;

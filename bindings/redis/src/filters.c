@@ -214,13 +214,14 @@ static int32_t takes_lines(Call *call, Sketch *sketch, Lines *lines)
     uint64_t num_lines;
     ds_items rows;
     bool results[MOST_LINES];
-    Distinct set = {0};
+    Distinct set;
     int32_t result = DS_YES;
     RedisModule_StringPtrLen(call->argv[2], &length); /* no fewer than its lines */
     if (room_for(call, sketch, length) == length) return DS_YES;
     num_lines = count_lines(call, 2);
     room = (size_t)room_for(call, sketch, num_lines);
     if (room == num_lines) return DS_YES;
+    begin_distinct(&set);
     while (result >= 0 && set.count <= room && (count = next_lines(lines, &rows)) > 0) {
         ds_bloom_contains_all(&sketch->handle, &rows, results, count);
         for (size_t i = 0; i < count && result >= 0; i++)

@@ -83,6 +83,7 @@ int topk_reserve(Call *call)
     sketch->width = (uint64_t)width;
     sketch->depth = (uint64_t)depth;
     sketch->rate = decay;
+    begin_top(sketch);
     create_value(call, sketch);
     return RedisModule_ReplyWithSimpleString(call->ctx, "OK");
 }

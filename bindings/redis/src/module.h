@@ -77,6 +77,7 @@ typedef struct Sketch {
     size_t string_bytes; /* of frequent items: no less than the bytes of the strings in the table */
     size_t spare_bytes;  /* of frequent items: the most by which `string_bytes` is above them */
     uint64_t *top;       /* of frequent items: the k largest estimates, in descending order, or null: see ranks.c */
+    size_t top_count;    /* how many there are: k, or fewer if there are fewer counters */
     uint64_t kth;        /* of frequent items: the k-th largest estimate at the time of a total, or 0 if that is not known */
     uint64_t kth_total;
     uint8_t *bytes; /* of a state that comes in parts: those that came, and how many come in all. A sketch has them until the last
@@ -279,12 +280,19 @@ typedef struct Place {
     uint64_t hash, weight;
 } Place;
 
-/* A set of strings, which begins as {0} and is not copied. It keeps pointers to the caller's bytes. Few strings need no other memory. */
+/* A set of strings, which is not copied. It keeps pointers to the caller's bytes. Few strings need no other memory. */
 typedef struct Distinct {
     Place *places;
     size_t room, count; /* places, and those with a string */
-    Place few[16];
+    Place few[128];
 } Distinct;
+
+/* Makes a set empty, before the first use of it. */
+static inline void begin_distinct(Distinct *set)
+{
+    set->places = NULL;
+    set->room = set->count = 0;
+}
 
 /* Adds to the weight of a string. Returns DS_YES if it is new, DS_NO if the set has it, and DS_NO_MEMORY. */
 int32_t add_distinct(Distinct *set, ds_string string, uint64_t weight);
@@ -307,6 +315,9 @@ int32_t least_of_top(Sketch *sketch, const ds_frequent_items_bounds *bounds, siz
 
 /* Updates the k largest estimates of a sketch that keeps them, after updates with items, with weights or 1 each if they are null. */
 void follow_top(Sketch *sketch, const Items *items, const uint64_t *weights);
+
+/* Keeps the k largest estimates of a new sketch from its first update on, if k is not too large for that. */
+void begin_top(Sketch *sketch);
 
 /* Forgets the largest estimates of a sketch, before it changes in another way. */
 void forget_top(Sketch *sketch);

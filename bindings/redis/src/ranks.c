@@ -1,7 +1,8 @@
 /* The k largest estimates of frequent items, for TOPK.QUERY.
  *
- * The first TOPK.QUERY of a sketch finds them in one pass over the counters, without a sort. Each later update looks its items up once
- * more and keeps them up to date. So later queries read no counters.
+ * A sketch of TOPK.RESERVE keeps them from the beginning, and another one from its first TOPK.QUERY on, which finds them in one pass
+ * over the counters, without a sort. Each update looks its items up once more and keeps them up to date. So queries read no counters.
+ * A purge that may drop one of them ends that, up to the next TOPK.QUERY.
  *
  * If k is above MOST_TOP, only the k-th estimate is kept, with the total at that time. Estimates grow by at most what is added to the
  * total. So an item whose estimate is below the kept one is not one of the first k. An item whose estimate exceeds it by all that was
@@ -79,7 +80,7 @@ int32_t kth_estimate(Sketch *sketch, uint64_t k, uint64_t *estimate)
     int32_t result;
     uint64_t *estimates;
     void *block;
-    if (sketch->top != NULL && k <= sketch->capacity) {
+    if (sketch->top != NULL && k <= sketch->top_count) {
         *estimate = sketch->top[k - 1];
         return DS_OK;
     }
@@ -111,22 +112,30 @@ static int32_t find_top(Sketch *sketch, uint64_t *kth)
     if (sketch->top != NULL) {
         memcpy(sketch->top, estimates, k * sizeof *sketch->top);
         qsort(sketch->top, k, sizeof *sketch->top, compare_descending);
+        sketch->top_count = k;
     }
     free_block(block);
     return DS_OK;
+}
+
+void begin_top(Sketch *sketch)
+{
+    sketch->top_count = 0;
+    if (sketch->capacity <= MOST_TOP) sketch->top = try_block((size_t)sketch->capacity * sizeof *sketch->top);
 }
 
 void forget_top(Sketch *sketch)
 {
     free_block(sketch->top);
     sketch->top = NULL;
+    sketch->top_count = 0;
     sketch->kth = 0;
 }
 
-/* Returns the number of the k largest estimates that are at least `estimate`. */
-static size_t rank_of(const uint64_t *top, size_t k, uint64_t estimate)
+/* Returns the number of estimates that are at least `estimate`, of some in descending order. */
+static size_t rank_of(const uint64_t *top, size_t count, uint64_t estimate)
 {
-    size_t begin = 0, end = k;
+    size_t begin = 0, end = count;
     while (begin < end) {
         size_t middle = begin + (end - begin) / 2;
         if (top[middle] >= estimate) begin = middle + 1;
@@ -135,17 +144,22 @@ static size_t rank_of(const uint64_t *top, size_t k, uint64_t estimate)
     return begin;
 }
 
-/* Updates the k largest estimates when one grows. If it was one of them, it leaves its place, and else the k-th does. */
-static void raise_estimate(uint64_t *top, size_t k, uint64_t before, uint64_t after)
+/* Updates the k largest estimates when one grows. If it was one of them, it leaves its place. Otherwise it takes a free place, or that
+ * of the k-th. */
+static void raise_estimate(Sketch *sketch, uint64_t before, uint64_t after)
 {
-    size_t from = before >= top[k - 1] ? rank_of(top, k, before + 1) : k - 1, to = rank_of(top, k, after);
-    if (after <= top[k - 1]) return;
+    uint64_t *top = sketch->top;
+    size_t count = sketch->top_count, from, to = rank_of(top, count, after);
+    if (to == sketch->capacity) return;
+    if (count > 0 && before >= top[count - 1]) from = rank_of(top, count, before + 1);
+    else if (count < sketch->capacity) from = sketch->top_count++;
+    else from = count - 1;
     memmove(top + to + 1, top + to, (from - to) * sizeof *top);
     top[to] = after;
 }
 
-/* Adds the weights of the items of updates whose estimates are above the k-th. Returns the result of the last one. */
-static int32_t gather_risen(Sketch *sketch, const Items *items, const uint64_t *weights, uint64_t kth, Distinct *risen)
+/* Adds up the weights of the items of updates whose estimates are above one. Returns the result of the last addition. */
+static int32_t gather_risen(Sketch *sketch, const Items *items, const uint64_t *weights, uint64_t least, Distinct *risen)
 {
     ds_string strings[MOST_STRINGS];
     ds_frequent_items_bounds bounds[MOST_STRINGS];
@@ -154,8 +168,10 @@ static int32_t gather_risen(Sketch *sketch, const Items *items, const uint64_t *
     while (result >= 0 && (count = next_strings(items, &at, strings)) > 0) {
         ds_items rows = ds_items_strings(strings, count);
         result = ds_frequent_items_bounds_all(&sketch->handle, &rows, bounds, count);
-        for (size_t i = 0; i < count && result >= 0; i++)
-            if (bounds[i].estimate > kth) result = add_distinct(risen, strings[i], weights != NULL ? weights[first + i] : 1);
+        for (size_t i = 0; i < count && result >= 0; i++) {
+            uint64_t weight = weights != NULL ? weights[first + i] : 1;
+            if (bounds[i].estimate > least && weight > 0) result = add_distinct(risen, strings[i], weight);
+        }
         first += count;
     }
     return result;
@@ -163,21 +179,22 @@ static int32_t gather_risen(Sketch *sketch, const Items *items, const uint64_t *
 
 void follow_top(Sketch *sketch, const Items *items, const uint64_t *weights)
 {
-    size_t k = (size_t)sketch->capacity;
-    Distinct risen = {0};
+    size_t count = sketch->top_count;
+    uint64_t last = count > 0 ? sketch->top[count - 1] : 0, error = status_of(sketch).maximum_error;
+    Distinct risen;
+    begin_distinct(&risen);
 
-    /* An item with one of the k largest estimates was not purged if they are above the error. Any other one had less than the k-th
-     * before, or none. */
-    if (sketch->top[k - 1] <= status_of(sketch).maximum_error ||
-        gather_risen(sketch, items, weights, sketch->top[k - 1], &risen) < 0) {
+    /* Items with the largest estimates were not purged if these are above the error. An item that was purged or new had no estimate
+     * before, and its weights leave at most the error of its estimate. */
+    if ((count > 0 && last <= error) || gather_risen(sketch, items, weights, count < sketch->capacity ? 0 : last, &risen) < 0) {
         forget_top(sketch);
     } else {
         for (size_t i = 0; i < risen.room; i++) {
             const Place *place = &risen.places[i];
             ds_frequent_items_bounds bounds;
-            if (place->string.bytes == NULL || place->weight == 0) continue;
+            if (place->string.bytes == NULL) continue;
             ds_frequent_items_string_bounds(&sketch->handle, place->string.bytes, place->string.length, &bounds);
-            raise_estimate(sketch->top, k, bounds.estimate > place->weight ? bounds.estimate - place->weight : 0, bounds.estimate);
+            raise_estimate(sketch, bounds.estimate > place->weight ? bounds.estimate - place->weight : 0, bounds.estimate);
         }
     }
     free_distinct(&risen);

@@ -28,6 +28,7 @@ Sketch *clone_value(Sketch *sketch)
     copied->bytes = NULL;
     copied->length = copied->room = copied->total = 0;
     copied->top = NULL;
+    copied->top_count = 0;
     if (ds_clone(&copied->handle, &sketch->handle) == DS_OK) return copied;
     free_value(copied);
     return NULL;

@@ -45,9 +45,10 @@ static int32_t weigh(Sketch *sketch, const ds_status *status, const Items *items
     ds_string strings[MOST_STRINGS];
     ds_frequent_items_bounds bounds[MOST_STRINGS];
     size_t at = 0, count, first = 0, longest = 0, all = 0, most = (size_t)status->maximum_map_capacity;
-    Distinct set = {0};
+    Distinct set;
     int32_t result = DS_OK;
     bool is_purged = false, is_too_much = false;
+    begin_distinct(&set);
     *stored = (Stored){.is_weighed = true};
     while (result >= 0 && !is_too_much && (count = next_strings(items, &at, strings)) > 0) {
         ds_items rows = ds_items_strings(strings, count);

@@ -123,7 +123,7 @@ def top_queries(tests):
                     client.done("FREQ.ADD", key, *skewed(numbers, 20))
                 if step % 20 == 19:
                     client.done("TOPK.ADD", key, *names[: numbers.randrange(1, 300)])
-                if step % 30 == 29:
+                if step % 20 == 9 and turn % 2:
                     client.done("COPY", key, f"{key} copied")
                     client.done("RENAME", f"{key} copied", key)
                 rows = client.done("FREQ.ROWS", key)
@@ -152,7 +152,6 @@ def large_tables(tests):
         client.done("TOPK.RESERVE", "t", 10, 700000, 7, "0.9")
         for start in range(0, 700000, 100000):
             client.done("FREQ.ADDLINES", "t", "\n".join(f"item {i}" for i in range(start, start + 100000)))
-        client.done("FREQ.INCRBY", "t", *[word for i in range(20) for word in (f"item {i}", 100 - i)])
         tests.check("700,000 counters", client.done("FREQ.INFO", "t")[5] == 700000)
 
         def fastest(*commands, turns=5):
@@ -164,14 +163,25 @@ def large_tables(tests):
                 found.append(time.perf_counter() - began)
             return min(found)
 
+        equal = fastest(["TOPK.QUERY", "t", "item 3"], turns=1)
+        client.done("FREQ.INCRBY", "t", *[word for i in range(20) for word in (f"item {i}", 100 - i)])
         everything = fastest(["FREQ.ROWS", "t", "ABOVE", 0], turns=1)
-        first = fastest(["TOPK.QUERY", "t", "item 3"], turns=1)
+        client.done("COPY", "t", "copy")
+        first = fastest(["TOPK.QUERY", "copy", "item 3"], turns=1)
+        client.done("DEL", "copy")
         again = fastest(["TOPK.QUERY", "t", "item 3", "item 15", "none"])
         mixed = fastest(["TOPK.ADD", "t", "item 77"], ["TOPK.QUERY", "t", "item 3", "item 500000"])
         rows = fastest(["FREQ.ROWS", "t", "COUNT", 10], turns=3)
-        times = {"all rows": everything, "first query": first, "again": again, "after an addition": mixed, "ten rows": rows}
+        times = {
+            "all": everything,
+            "equal": equal,
+            "of a copy": first,
+            "again": again,
+            "after an addition": mixed,
+            "ten rows": rows,
+        }
         tests.check("a query does not sort the table", first < everything / 5, times)
-        tests.check("what is known is kept", again < 0.002 and mixed < 0.004, times)
+        tests.check("what is known is kept", equal < 0.02 and again < 0.002 and mixed < 0.004, times)
         tests.check("ten rows do not sort the table", rows < everything / 4, times)
         tests.check(
             "the first ten",
