@@ -13,7 +13,9 @@
 #include <string.h>
 
 /* The most estimates that are kept up to date. An update moves at most this many numbers for an item. */
+#ifndef MOST_TOP
 #define MOST_TOP 4096
+#endif
 
 /* Returns the next of a sequence of random numbers. */
 static uint64_t next_random(void)

@@ -93,56 +93,83 @@ def top_counts(tests):
         )
 
 
-def top_queries(tests):
-    """TOPK.QUERY beside its definition: an item is one of the first k if its estimate is at least the k-th largest one."""
+def updated(client, numbers, key, names, plain):
+    """Updates a sketch at random. A plain one only by additions."""
+    how = numbers.randrange(10 if plain else 13)
+    if how < 2:
+        client.done("TOPK.ADD", key, numbers.choice(names))
+    elif how < 4:
+        client.done("FREQ.ADD", key, *skewed(numbers, 20))
+    elif how < 6:
+        client.done("TOPK.ADD", key, *numbers.sample(names, numbers.randrange(1, 60)))
+    elif how < 7:
+        client.done("TOPK.INCRBY", key, numbers.choice(names), numbers.randrange(50))
+    elif how < 9:
+        pairs = [(name, numbers.choice([0, 1, 1, 2, 30])) for name in skewed(numbers, 40, 30)]
+        client.done("FREQ.INCRBY", key, *[word for pair in pairs for word in pair])
+    elif how < 10:
+        client.done("FREQ.ADDLINES", key, "\n".join(numbers.choices(names, k=300)))
+    elif how < 11:
+        client.done("FREQ.HALVE", key)
+    elif how < 12:
+        client.done("FREQ.MERGE", key, key)
+    else:
+        client.done("COPY", key, f"{key} copied")
+        client.done("RENAME", f"{key} copied", key)
+
+
+def beside_definition(client, sizes):
+    """Returns how TOPK.QUERY, TOPK.LIST and FREQ.ROWS differ from their definitions by all rows of a sketch, for each k of `sizes`."""
     numbers = random.Random(52)
+    wrong = []
+    client.done("FLUSHALL")
+    for turn, k in enumerate(sizes):
+        key = f"t {turn}"
+        client.done("TOPK.RESERVE", key, k)
+        names = [f"item {i}" for i in range(numbers.choice([60, 400, 3000]))]
+        for step in range(50):
+            updated(client, numbers, key, names, turn % 2)
+            if turn % 4 > 1 and numbers.random() < 0.7:  # many updates between queries
+                continue
+            rows = client.done("FREQ.ROWS", key)
+            estimates = {name.decode(): high for name, _, high in rows}
+            ordered = sorted(estimates.values(), reverse=True)
+            least = ordered[k - 1] if len(ordered) >= k else 1
+            some = numbers.sample(names, 6) + [name.decode() for name, _, _ in rows[max(0, k - 3) : k + 3]]
+            for part in [some, [numbers.choice(some)]]:
+                if client.done("TOPK.QUERY", key, *part) != [int(estimates.get(name, 0) >= least) for name in part]:
+                    wrong.append((turn, k, step, "query", part, least))
+            if client.done("TOPK.LIST", key, "WITHCOUNT")[1::2] != ordered[:k]:
+                wrong.append((turn, k, step, "list"))
+            count = numbers.choice([1, 2, k, k + 1])
+            if [high for _, _, high in client.done("FREQ.ROWS", key, "COUNT", count)] != ordered[:count]:
+                wrong.append((turn, k, step, "rows", count))
+    return wrong
+
+
+def top_queries(tests):
+    """TOPK.QUERY beside its definition: an item is one of the first k if its estimate is at least the k-th largest one. Also in a build
+    that keeps no more than 4 estimates, so that larger k are as those above 4,096."""
+    sizes = [1, 2, 3, 10, 30, 100, 4, 50] * 6
     with tests.main.client() as client:
-        client.done("FLUSHALL")
-        wrong, asked = [], 0
-        for turn in range(25):
-            k = [1, 2, 3, 10, 30, 5000][turn % 6] if turn < 18 or turn == 23 else [1, 4, 20][turn % 3]
-            key = f"t {turn}"
-            client.done("TOPK.RESERVE", key, k)
-            names = [f"item {i}" for i in range(400 if k < 5000 else 9000)]
-            if k == 5000:
-                client.done("TOPK.ADD", key, *names[:6000])
-            for step in range(60 if k < 5000 else 10):
-                how = numbers.randrange(13)
-                if how == 0:
-                    client.done("FREQ.HALVE", key)
-                elif how == 1:
-                    client.done("FREQ.MERGE", key, key)
-                elif how == 2:
-                    client.done("TOPK.INCRBY", key, numbers.choice(names), numbers.randrange(50))
-                elif how == 12:
-                    pairs = [(name, numbers.choice([0, 1, 1, 2, 30])) for name in skewed(numbers, 40, 30)]
-                    client.done("FREQ.INCRBY", key, *[word for pair in pairs for word in pair])
-                elif how < 5:
-                    client.done("TOPK.ADD", key, numbers.choice(names))
-                elif how < 8:
-                    client.done("FREQ.ADD", key, *skewed(numbers, 20))
-                if step % 20 == 19:
-                    client.done("TOPK.ADD", key, *names[: numbers.randrange(1, 300)])
-                if step % 20 == 9 and turn % 2:
-                    client.done("COPY", key, f"{key} copied")
-                    client.done("RENAME", f"{key} copied", key)
-                rows = client.done("FREQ.ROWS", key)
-                estimates = {name.decode(): high for name, _, high in rows}
-                ordered = sorted(estimates.values(), reverse=True)
-                least = ordered[k - 1] if len(ordered) >= k else 1
-                some = numbers.sample(names, 6) + [name.decode() for name, _, _ in rows[max(0, k - 3) : k + 3]]
-                for part in [some, [numbers.choice(some)]]:
-                    got = client.done("TOPK.QUERY", key, *part)
-                    asked += len(part)
-                    if got != [int(estimates.get(name, 0) >= least) for name in part]:
-                        wrong.append((turn, step, how, part, got, least))
-                listed = client.done("TOPK.LIST", key, "WITHCOUNT")
-                if listed[1::2] != ordered[:k]:
-                    wrong.append((turn, step, "list", listed[1::2], ordered[:k]))
-                count = numbers.choice([1, 2, k, k + 1])
-                if [high for _, _, high in client.done("FREQ.ROWS", key, "COUNT", count)] != ordered[:count]:
-                    wrong.append((turn, step, "rows", count))
-        tests.check("TOPK.QUERY and TOPK.LIST", not wrong and asked > 5000, (asked, wrong[:2]))
+        wrong = beside_definition(client, sizes)
+        tests.check("TOPK.QUERY and TOPK.LIST", not wrong, (len(wrong), wrong[:2]))
+        client.done("TOPK.RESERVE", "five", 5)
+        for item in "abcabcabcabcdededefgfg":  # fewer items than five at first, of equal weights
+            client.done("TOPK.ADD", "five", item)
+        got = client.done("TOPK.QUERY", "five", *"abcdefgh")
+        tests.check("five first items, one by one", got == [1, 1, 1, 1, 1, 0, 0, 0], got)
+        client.done("TOPK.RESERVE", "large", 5000)
+        client.done("FREQ.ADDLINES", "large", "\n".join(f"item {i}" for i in range(9000)))
+        client.done("FREQ.ADDLINES", "large", "\n".join(f"item {i}" for i in range(4999)))
+        got = [client.done("TOPK.QUERY", "large", "item 0", "item 4999")]
+        for _ in range(2):
+            client.done("TOPK.ADD", "large", "item 4999")
+            got.append(client.done("TOPK.QUERY", "large", "item 0", "item 4999", "item 5000"))
+        tests.check("5,000 first items", got == [[1, 1], [1, 1, 0], [1, 1, 0]], got)
+    with tests.server("few estimates", tests.build("few", "-O2 -DMOST_TOP=4")) as on, on.client() as client:
+        wrong = beside_definition(client, sizes)
+        tests.check("TOPK.QUERY of many first items", not wrong, (len(wrong), wrong[:2]))
 
 
 def large_tables(tests):
