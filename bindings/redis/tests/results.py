@@ -155,10 +155,11 @@ def top_queries(tests):
         wrong = beside_definition(client, sizes)
         tests.check("TOPK.QUERY and TOPK.LIST", not wrong, (len(wrong), wrong[:2]))
         client.done("TOPK.RESERVE", "five", 5)
-        for item in "abcabcabcabcdededefgfg":  # fewer items than five at first, of equal weights
+        client.done("TOPK.INCRBY", "five", "a", 5)
+        for item in "abcdefbcdbcd":  # a 6, b, c and d 3, e and f 1
             client.done("TOPK.ADD", "five", item)
-        got = client.done("TOPK.QUERY", "five", *"abcdefgh")
-        tests.check("five first items, one by one", got == [1, 1, 1, 1, 1, 0, 0, 0], got)
+        got = client.done("TOPK.QUERY", "five", *"abcdefg")
+        tests.check("five first items, one by one", got == [1, 1, 1, 1, 1, 1, 0], got)
         client.done("TOPK.RESERVE", "large", 5000)
         client.done("FREQ.ADDLINES", "large", "\n".join(f"item {i}" for i in range(9000)))
         client.done("FREQ.ADDLINES", "large", "\n".join(f"item {i}" for i in range(4999)))
