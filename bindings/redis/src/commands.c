@@ -127,9 +127,9 @@ static Argument of_state[] = {KEY("key", 0), NUMBER("position"), STRING("bytes")
     X(topk_add, "TOPK.ADD", DS_FREQUENT_ITEMS_STRING, WRITES, "write deny-oom fast", WRITE_KEY, -3, many_items, \
       "O(items) amortized", "Adds 1 to the weight of each item") \
     X(topk_incrby, "TOPK.INCRBY", DS_FREQUENT_ITEMS_STRING, WRITES, "write deny-oom fast", WRITE_KEY, -4, pairs, \
-      "O(items) amortized", "Adds to the weight of each item") \
+      "O(items) amortized, at most O(items * k)", "Adds to the weight of each item") \
     X(topk_query, "TOPK.QUERY", DS_FREQUENT_ITEMS_STRING, READS, "readonly", READ_KEY, -3, many_items, \
-      "O(items), and O(n) for n counters at first", "Returns whether each item is one of the first k") \
+      "O(items), and at times O(n) for n counters", "Returns whether each item is one of the first k") \
     X(topk_count, "TOPK.COUNT", DS_FREQUENT_ITEMS_STRING, READS, "readonly fast", READ_KEY, -3, many_items, "O(items)", \
       "Returns estimates of the weights of items") \
     X(topk_list, "TOPK.LIST", DS_FREQUENT_ITEMS_STRING, READS, "readonly", READ_KEY, -2, of_topk_list, \
@@ -143,7 +143,7 @@ static Argument of_state[] = {KEY("key", 0), NUMBER("position"), STRING("bytes")
     X(freq_addlines, "FREQ.ADDLINES", DS_FREQUENT_ITEMS_STRING, WRITES, "write deny-oom fast", WRITE_KEY, 3, of_lines, \
       "O(bytes of the lines) amortized", "Adds 1 to the weight of each line of a string") \
     X(freq_incrby, "FREQ.INCRBY", DS_FREQUENT_ITEMS_STRING, WRITES, "write deny-oom fast", WRITE_KEY, -4, pairs, \
-      "O(items) amortized", "Adds to the weight of each item") \
+      "O(items) amortized, at most O(items * k)", "Adds to the weight of each item") \
     X(freq_bounds, "FREQ.BOUNDS", DS_FREQUENT_ITEMS_STRING, READS, "readonly fast", READ_KEY, -3, many_items, "O(items)", \
       "Returns a lower and an upper bound of the weight of each item") \
     X(freq_rows, "FREQ.ROWS", DS_FREQUENT_ITEMS_STRING, READS, "readonly", READ_KEY, -2, of_rows, \

@@ -182,9 +182,12 @@ static int insert(Call *call, int first, bool as_array, const Sizes *sizes)
         uint64_t before = call->sketch->inserted;
         size_t done = insert_up_to_full(call, call->sketch, &items, results);
         bool is_whole = done == items.count;
-        if (call->sketch->inserted > before && is_whole) replicate_call(call);
-        if (call->sketch->inserted > before && !is_whole)
+        if (call->sketch->inserted > before && is_whole) {
+            replicate_call(call);
+        } else if (call->sketch->inserted > before) {
+            note_change(call);
             RedisModule_Replicate(call->ctx, "BF.MADD", "sv", call->argv[1], call->argv + first, done);
+        }
         if (as_array) RedisModule_ReplyWithArray(call->ctx, (long)(done + !is_whole));
         reply_booleans(call, results, done, false, false);
         if (!is_whole) reply_error(call, is_full);
