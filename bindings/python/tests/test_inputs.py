@@ -802,6 +802,9 @@ class Raises:
         raises()
 
 
+KEPT = 1000 if sys.version_info >= (3, 11) else 2000  # bytes that Python itself keeps
+
+
 class Leaks(unittest.TestCase):
     def calls(self, seen, load, heavy, words):
         """Yields calls that succeed, and calls that are rejected at each step."""
@@ -887,10 +890,10 @@ class Leaks(unittest.TestCase):
         return after - before
 
     def test_nothing_is_kept(self):
-        self.assertLess(self.growth(self.calls, 500), 1000)
+        self.assertLess(self.growth(self.calls, 500), KEPT)
 
     def test_nothing_is_kept_of_columns(self):
-        self.assertLess(min(self.growth(self.column_calls, 50) for _ in range(3)), 1000)
+        self.assertLess(min(self.growth(self.column_calls, 50) for _ in range(3)), KEPT)
         self.assertEqual((arrow.live, arrow.released_twice), ({}, []))
 
     @unittest.skipIf(numpy is None, "no numpy here")
