@@ -249,8 +249,8 @@ static inline uint64 number_at(const uint8 *image, int bytes)
 /* Returns the bytes that a sketch takes by the sizes in its image, without strings, or 0 if the image is too short for sizes. */
 uint64 stated_bytes(Kind kind, const uint8 *image, size_t length);
 
-/* Reads an image in place if it is one of an empty filter or of counts with the total weight 0. Leaves the bytes that the library writes, and
- * returns their number, or 0 if it is another image. Raises the error of a failed check. */
+/* Reads an image in place if it is one of an empty filter or of counts with the total weight 0. Leaves the bytes that the library writes,
+ * and returns their number, or 0 if it is another image. Raises the error of a failed check. */
 size_t read_empty(Kind kind, uint8 *image, size_t length, uint64 seed);
 
 /* Gives an image of frequent items the smallest table that has room for its items. Returns the size of the table that it had, as in the

@@ -55,7 +55,8 @@ def dumps(tests):
                 cursor.execute(statement)
             except Exception as error:
                 hint = str(error.diag.message_hint)
-                tests.check("the hint names SET and ALTER DATABASE", "by SET" in hint and "ALTER DATABASE .. SET sketches_rattle." in hint, hint)
+                named = "by SET" in hint and "ALTER DATABASE .. SET sketches_rattle." in hint
+                tests.check("the hint names SET and ALTER DATABASE", named, hint)
     with on.session("restored") as session, session.cursor() as cursor:
         tests.check("a dump is restored with the settings of another session", digests(cursor) == before)
         # A session can lower its limits, and still reads what was stored.
