@@ -202,7 +202,7 @@ class Tests:
             ran = self.run(words, data)
             self.check("no note after an error", ran[0] == status and b"UTF-8" not in ran[2], ran)
         ran = self.run(["top", self.file("note0", b"\xff\n"), "none"])
-        self.check("a note after an absent file", ran[0] == 1 and ran[2].endswith((bad % 1).encode()), ran)
+        self.check("a note after an absent file", ran[0] == 1 and ran[2].endswith(not_utf8(1).encode()), ran)
 
     def random_bytes(self):
         """Checks each choice of items over random bytes, from files and from standard input."""

@@ -1,5 +1,5 @@
 -- The laws of bytes that are appended to what a writer holds.
-use Rattle.std.proofs.Common.{◌≡◌, ℕ, List, [], ◌++◌, append_assoc, append-nil, Option, None, Some, sym, ◌∙◌, ap}
+use Rattle.std.proofs.Common.{ℕ, List, [], ◌++◌, append_assoc, append-nil, Option, None, Some, sym, ◌∙◌, ap}
 use Rattle.std.specs.Io.KnownBytes.{Appends}
 
 pub appends_none : (held : Option (List ℕ)) → Appends held held []

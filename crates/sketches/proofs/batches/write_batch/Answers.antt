@@ -1,4 +1,4 @@
-use Rattle.std.proofs.Common.{◌≡◌, ◌<◌, ◌∷◌, [], ℕ, List, length, get_or, false, ◌∙◌, sym, ap, subst, Some, arith}
+use Rattle.std.proofs.Common.{◌<◌, length, get_or, false, sym, subst, Some, arith}
 use Rattle.sketches.specs.EndedText.{Prints}
 use Rattle.sketches.proofs.Batching.{write_step, write_skip, not_true, not_false}
 use Rattle.sketches.proofs.Choosing.{skips_it, writes_it}
