@@ -102,7 +102,7 @@ class Places:
         """A later size of a state that differs is an error. Days that are larger than the first end with a warning."""
         self.check("a state of a size", self.ran("uniq", *LARGE, "--state", "X")[:2] == (0, b"a\nb\n"))
         before = self.bytes_of("X")
-        for words in [["--items", 100], ["--bits", 640, "--hashes", 5], ["--items", 200001], ["--items", 200000, "--false-positives", 100]]:
+        for words in [["--items", 100], ["--bits", 640, "--hashes", 5], ["--items", 200100], ["--items", 200000, "--false-positives", 100]]:
             ran = self.ran("uniq", *words, "--no-note", "--state", "X")
             self.check(f"a state with {words}", ran == (2, b"", HAS_OTHER_SIZE) and self.bytes_of("X") == before, ran)
         self.check("a state of the same size", self.ran("uniq", *LARGE, "--state", "X", data=b"b\nc\n") == (0, b"c\n", b""))
