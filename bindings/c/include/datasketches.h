@@ -593,11 +593,14 @@ int32_t ds_update_all_weighted(ds_sketch *handle, const ds_items *items, const u
 /* Adds the weight of each record to that of the record's item, in order, in a Count-Min sketch or in frequent strings. A weight is a
  * number in decimal digits, below 2^64. For weights in int64_t it is from -2^63 to 2^63 - 1, and may begin with a minus sign.
  *
- * Bytes need not be UTF-8, but items do. Returns the first of these errors, and then changes no sketch: DS_BAD_ARGUMENT for the fields,
- * DS_NO_SKETCH, DS_WRONG_KIND, the error of the first record with one or DS_NO_MEMORY if the items and weights before it cannot be
- * allocated, and DS_WEIGHT_OVERFLOW if the total has no room for all weights. The error of a record is DS_INVALID_UTF8 if its item is
- * not UTF-8, and DS_BAD_WEIGHT if it has an item and no weight. Frequent items return DS_NO_MEMORY for the first item without memory:
- * then the items before it are added, and no others. */
+ * Bytes need not be UTF-8, but items do. Returns the first of these errors, and then changes no sketch:
+ *
+ *  - DS_BAD_ARGUMENT for the fields, DS_NO_SKETCH, DS_WRONG_KIND
+ *  - the error of the first record with one: DS_INVALID_UTF8 if its item is not UTF-8, and DS_BAD_WEIGHT if it has an item and no
+ *    weight. DS_NO_MEMORY comes in place of it if the items and weights before it cannot be allocated
+ *  - DS_WEIGHT_OVERFLOW if the total has no room for all weights
+ *
+ * Frequent items return DS_NO_MEMORY for the first item without memory: then the items before it are added, and no others. */
 int32_t ds_update_fields(ds_sketch *handle, const uint8_t *bytes, size_t length, const ds_fields *fields, ds_fields_read *read);
 
 /* --- Count-Min sketches with weights in uint64_t. An estimate is at most the total, and at least the item's own weight: what
