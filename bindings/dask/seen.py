@@ -46,10 +46,11 @@ def words_of(arguments: Sequence[str] | None) -> argparse.Namespace:
 
 
 def shape_for(count: int, one_in: int) -> Seen:
-    """Returns the shape of a filter of `count` keys, by the published formulas."""
-    count = max(count, 1)
-    bits = ds.BloomFilter.suggest_num_bits(count, max(one_in, 2))
-    return Seen(bits, ds.BloomFilter.suggest_num_hashes(bits, count))
+    """Returns the shape of a filter of `count` keys, by the published formulas, with at least the minimum of bits."""
+    count, questions = max(count, 1), max(one_in, 2)
+    bits = ds.BloomFilter.suggest_num_bits(count, questions)
+    hashes = ds.BloomFilter.suggest_num_hashes(bits, count)
+    return Seen(max(bits, ds.BloomFilter.min_num_bits(count, questions)), hashes)
 
 
 def name_of(path: str) -> str:

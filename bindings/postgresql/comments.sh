@@ -22,9 +22,8 @@ said() {
     *_upper_bound) echo 'a weight that the item has at most; for count_min with the confidence of its sizes' ;;
     *_bounds) echo 'bounds that enclose the weight of an item, and the estimate' ;;
     frequent_rows) echo 'the items above a threshold with their bounds' ;;
-    sketch_contains_support) echo 'estimates for the planner how many rows a filter keeps' ;;
-    bloom_filter_constant) echo 'a long filter that is a constant of a plan' ;;
-    sketch_contains_constant) echo 'sketch_contains of a long filter that is a constant of a plan' ;;
+    sketch_support) echo 'estimates for the planner how many rows a filter keeps, and short forms of constants' ;;
+    sketch_constant) echo 'a long sketch that is a constant of a plan' ;;
     *_contains) echo 'whether an item may have been added; false only if it was not' ;;
     *_status) echo 'total weight, error and sizes of a sketch' ;;
     *_row) echo 'an item with its bounds' ;;

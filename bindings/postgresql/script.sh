@@ -157,9 +157,9 @@ SQL
     change "sketch_add(sketch $type, item $any_item, weight bigint DEFAULT 1)" "${type}_with_item" STABLE
     comparisons
     for query in lower_bound estimate upper_bound; do
-        function_of "sketch_$query(sketch $type, item $any_item) RETURNS bigint" "${type}_$query" '' ' COST 5'
+        function_of "sketch_$query(sketch $type, item $any_item) RETURNS bigint" "${type}_$query" '' ' COST 5 SUPPORT sketch_support'
     done
-    function_of "sketch_bounds(sketch $type, item $any_item) RETURNS frequent_bounds" "${type}_bounds" '' ' COST 5'
+    function_of "sketch_bounds(sketch $type, item $any_item) RETURNS frequent_bounds" "${type}_bounds" '' ' COST 5 SUPPORT sketch_support'
     row_type "${type}_row" "item $2, lower_bound bigint, estimate bigint, upper_bound bigint"
     function_of "frequent_rows(sketch $type, mode $text DEFAULT 'no_false_negatives', threshold bigint DEFAULT 0)
     RETURNS SETOF ${type}_row" "${type}_rows" 'STABLE STRICT' ' COST 1000 ROWS 100'
@@ -208,7 +208,7 @@ SQL
     fi
     comparisons
     for query in estimate upper_bound; do
-        function_of "sketch_$query(sketch $type, item $any_item) RETURNS bigint" "${type}_$query" '' ' COST 5'
+        function_of "sketch_$query(sketch $type, item $any_item) RETURNS bigint" "${type}_$query" '' ' COST 5 SUPPORT sketch_support'
     done
     function_of "sketch_status(sketch $type) RETURNS count_min_status" "${type}_status" '' ' COST 100'
 }
@@ -234,22 +234,7 @@ SQL
     change "sketch_difference($type, $type)" "${type}_difference"
     operator - 'FUNCTION = sketch_difference' 'a filter without the positions of another one'
     comparisons
-    function_of "sketch_contains_support($internal) RETURNS $internal" "${type}_contains_support"
-    function_of "sketch_contains(filter $type, item $any_item) RETURNS boolean" "${type}_contains" '' \
-        ' COST 5 SUPPORT sketch_contains_support'
-    cat <<SQL
-
--- A long filter that is a constant of a plan has this type there, whose output EXPLAIN prints: it is short.
-CREATE TYPE ${type}_constant;
-SQL
-    function_of "${type}_constant_in($cstring) RETURNS ${type}_constant" "${type}_constant_in"
-    function_of "${type}_constant_out(${type}_constant) RETURNS $cstring" "${type}_constant_out"
-    cat <<SQL
-CREATE TYPE ${type}_constant (INPUT = ${type}_constant_in, OUTPUT = ${type}_constant_out, INTERNALLENGTH = VARIABLE, ALIGNMENT = int4);
-COMMENT ON TYPE ${type}_constant IS '$(said "${type}_constant")';
-SQL
-    function_of "sketch_contains_constant(filter ${type}_constant, item $any_item) RETURNS boolean" "${type}_contains" '' \
-        ' COST 5 SUPPORT sketch_contains_support'
+    function_of "sketch_contains(filter $type, item $any_item) RETURNS boolean" "${type}_contains" '' ' COST 5 SUPPORT sketch_support'
     function_of "sketch_status(filter $type) RETURNS bloom_filter_status" "${type}_status" '' ' COST 100'
 }
 
@@ -264,6 +249,18 @@ SQL
 function_of "sketch_combine($internal, $internal) RETURNS $internal" state_combine IMMUTABLE
 function_of "sketch_serial($internal) RETURNS $bytea" state_serial
 function_of "sketch_deserial($bytea, $internal) RETURNS $internal" state_deserial
+cat <<SQL
+
+-- The planner's support for queries. A long sketch that is a constant of a plan has this type there, whose output EXPLAIN prints: it is short.
+CREATE TYPE sketch_constant;
+SQL
+function_of "sketch_support($internal) RETURNS $internal" sketch_support
+function_of "sketch_constant_in($cstring) RETURNS sketch_constant" sketch_constant_in
+function_of "sketch_constant_out(sketch_constant) RETURNS $cstring" sketch_constant_out
+cat <<SQL
+CREATE TYPE sketch_constant (INPUT = sketch_constant_in, OUTPUT = sketch_constant_out, INTERNALLENGTH = VARIABLE, ALIGNMENT = int4);
+COMMENT ON TYPE sketch_constant IS '$(said sketch_constant)';
+SQL
 echo
 echo '-- Rows that functions return.'
 row_type frequent_bounds 'lower_bound bigint, estimate bigint, upper_bound bigint'

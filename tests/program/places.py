@@ -1,10 +1,19 @@
 """Checks the files that `sketches` writes, for `sketches.py`: names, modes and links, and a state that several runs use at once."""
+import fcntl
 import os
+import re
+import signal
 import subprocess
 import time
 
 LARGE = ["--items", "200000", "--no-note"]
 HAS_OTHER_SIZE = (b"sketches: --state has a filter of another size than --items or --bits: leave them out, or name another file\n")
+
+
+def signals_end():
+    """Has signals end this process, also if the shell that started the tests in the background has it ignore them."""
+    for number in [signal.SIGINT, signal.SIGTERM, signal.SIGHUP]:
+        signal.signal(number, signal.SIG_DFL)
 
 
 class Places:
@@ -20,6 +29,8 @@ class Places:
         self.sizes()
         self.at_once()
         self.waiting()
+        self.stale()
+        self.killed()
 
     def check(self, name, holds, said=""):
         self.tests.check(name, holds, said)
@@ -155,3 +166,40 @@ class Places:
         self.check("a run that fails leaves no state", ran[0] == 2 and self.left() == [], ran)
         ran = self.ran("uniq", *LARGE, "--state", "none/X")
         self.check("a state in no folder", ran == (2, b"", b"sketches: none/X: No such file or directory (os error 2)\n"), ran)
+
+    def stale(self):
+        """A run removes the files beside its image that no run has locked, and no others."""
+        new, held, pipe = "X.0123456789abcdef.tmp", "X.00000000000000ff.tmp", "X.1111111111111111.tmp"
+        others = ["X.0123456789abcdeg.tmp", "X.0123456789abcde.tmp", "X.0123456789ABCDEF.tmp", "X.tmp", "X.0123456789abcdef", "XX.0123456789abcdef.tmp",
+                  "Y.0123456789abcdef.tmp"]
+        for command in [["top", "--save", "X"], ["uniq", *LARGE, "--state", "X"], ["uniq", *LARGE, "--state", self.path("X")]]:
+            for name in [new, held, *others]:
+                self.write(name, b"")
+            os.mkfifo(self.path(pipe))
+            with open(self.path(held), "rb") as file:
+                fcntl.flock(file, fcntl.LOCK_EX)
+                ran = self.ran(*command)
+            self.check(f"{command}: a run beside files that runs have left", ran[0] == 0, ran)
+            left = self.left()
+            self.check(f"{command}: what a run removes", left == sorted(["X", held, pipe, *others]), left)
+
+    def killed(self):
+        """A run that a signal ends while it saves leaves the image as it was, and the next run removes what it has left."""
+        large = ["uniq", "--bits", 1 << 31, "--hashes", 1, "--no-note", "--state", "X"]
+        for number in [signal.SIGINT, signal.SIGTERM, signal.SIGHUP, signal.SIGKILL]:
+            for _ in range(20):
+                run = subprocess.Popen([self.tests.program, *map(str, large)], stdin=subprocess.PIPE, stdout=subprocess.DEVNULL, cwd=self.folder,
+                                       env={"PATH": "/usr/bin:/bin"}, preexec_fn=signals_end)
+                while not os.listdir(self.folder):
+                    time.sleep(0.001)
+                run.send_signal(number)
+                run.stdin.close()
+                status = run.wait(timeout=60)
+                left = sorted(os.listdir(self.folder))
+                if status == -number and left and left != ["X"]:
+                    break
+                self.left()
+            self.check(f"a run that signal {number} ends while it saves", status == -number and len(left) == 1 and re.fullmatch(r"X\.[0-9a-f]{16}\.tmp", left[0]), (status, left))
+            ran = self.ran("uniq", *LARGE, "--state", "X")
+            left = self.left()
+            self.check(f"after a run that signal {number} ended", ran == (0, b"a\nb\n", b"") and left == ["X"], (ran, left))

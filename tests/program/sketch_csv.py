@@ -177,6 +177,11 @@ class Tests:
             (["-f", 'x"y'], b'"x""y",c\n1,2\n', b"# error 0 of 1\n1\t1\t1\n"),
             (["-f", "a"], b"\xef\xbb\xbfa,b\n1,2\n", b"# error 0 of 1\n1\t1\t1\n"),
             (["-f", "a"], b'\xef\xbb\xbf"a",b\n1,2\n', b"# error 0 of 1\n1\t1\t1\n"),
+            (["-f", "1"], b'\xef\xbb\xbf"a\nb",c\n1,2\n', b"# error 0 of 1\n1\t1\t1\n"),
+            (["-f", "1"], b'"a\nb",c\n1,2\n', b"# error 0 of 1\n1\t1\t1\n"),
+            (["-f", "1", "--no-csv-header"], b'\xef\xbb\xbf"a,b",c\n1,2\n', b"# error 0 of 2\n1\t1\ta,b\n1\t1\t1\n"),
+            (["-f", "1", "--no-csv-header"], b"\xef\xbb\xbf", b"# error 0 of 0\n"),
+            (["-f", "1", "--no-csv-header"], b"a\n\xef\xbb\xbfb\n", b"# error 0 of 2\n1\t1\ta\n1\t1\t\xef\xbb\xbfb\n"),
             (["-f", "b"], b"a,b\n", b"# error 0 of 0\n"),
             (["-f", "1"], b"", b"# error 0 of 0\n"),
             (["-f", "1", "--no-csv-header"], b'"never closed,\nx\n', b"# error 0 of 1\n1\t1\tnever closed,\\nx\\n\n"),
@@ -239,6 +244,41 @@ class Tests:
                     self.check(f"a quote that is not closed, {length} of {size}", ran == (2, b"", said), ran)
                 else:
                     self.is_exact(f"a quote that is not closed, {length} of {size}", ran, counts_of([data], 1), 10)
+
+    def marks(self):
+        """Checks byte order marks: they are no part of a record, and `uniq` and `join` print the first one, as they print a header."""
+        mark = b"\xef\xbb\xbf"
+        one, two = self.file("mark.csv", mark + b'"a,x",b\n1,2\n'), self.file("mark2.csv", mark + b'"a,x",c\n3,4')
+        self.file("keys.csv", mark + b'"a,x"\n3\n')
+        for words, wanted in [
+            (["uniq", "-f", 1, "--no-csv-header", one, two], mark + b'"a,x",b\n1,2\n3,4'),
+            (["uniq", "-f", "a,x", one, two], mark + b'"a,x",b\n1,2\n3,4'),
+            (["join", "-f", 1, "--no-csv-header", "--keys-field", 1, "--keys", "keys.csv", one, two], mark + b'"a,x",b\n"a,x",c\n3,4'),
+            (["join", "-f", 1, "--keys-field", "a,x", "--keys", "keys.csv", one, two], mark + b'"a,x",b\n3,4'),
+        ]:
+            ran = self.run(words[0], "--csv", "--no-note", *words[1:])
+            self.check(f"marks: {words}", ran == (0, wanted, b""), ran)
+        ran = self.run("weigh", "--csv", "-f", 1, "--no-csv-header", "--keys-field", 1, "--keys", "keys.csv", one, two)
+        self.check("marks: weigh", ran == (0, b"# total 4\n2\ta,x\n1\t3\n", b""), ran)
+
+    def line_numbers(self):
+        """Checks that a message has the number of the line in its file, after headers and records of several lines."""
+        for data, words, line in [
+            (b"a,n\nx,z\n", [], 2),
+            (b'"a\nb\n",n\n"x\n\ny",1\nx,z\n', [], 7),
+            (b'\xef\xbb\xbf"a\nb",n\nx,z\n', [], 3),
+            (b'"x\ny",1\nx,z\n', ["--no-csv-header"], 3),
+            (b"a,n\n" + b'"x\ny",1\n' * 60000 + b"x,z", [], 120002),
+        ]:
+            name = self.file("lines.csv", data)
+            self.file("keys.csv", b"k\nx\n")
+            said = b"sketches: lines.csv: line %d: bad weight 'z'\n" % line
+            for command in [["top"], ["weigh", "--keys", "keys.csv", "--keys-field", 1]]:
+                ran = self.run(*command, "--csv", "-f", 1, "-w", 2, *words, name)
+                self.check(f"{command[0]}: the line of a bad weight", ran == (2, b"", said), ran)
+            first = self.file("first.csv", b"a,n\n" + b"x,1\n" * 5)
+            ran = self.run("top", "--csv", "-f", 1, "-w", 2, *words, *([] if words else [first]), name)
+            self.check("the line of a bad weight in a later file", ran == (2, b"", said), ran)
 
     def long_headers(self):
         """Checks headers of more than `--max-line` bytes: they end the run as other lines do."""
@@ -321,7 +361,7 @@ class Tests:
             note = [] if words[0] == "weigh" else ["--no-note"]
             ran = self.run(words[0], "--csv", *note, *words[1:])
             if isinstance(wanted, int):
-                wanted, said, status = b"", b"sketches: bad.csv: line 2: bad weight 'z'\n", 2
+                wanted, said, status = b"", b"sketches: bad.csv: line 3: bad weight 'z'\n", 2
             else:
                 said, status = b"", 0
             self.check(f"{words}", ran == (status, wanted, said), ran)
@@ -450,6 +490,8 @@ def main():
         tests.random_weights()
         tests.blocks()
         tests.limits()
+        tests.marks()
+        tests.line_numbers()
         tests.long_headers()
         tests.headers()
         tests.wrong_use()

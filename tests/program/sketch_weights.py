@@ -169,6 +169,38 @@ class Tests:
         ran = self.run("merge", "weighed", "repeated", "--above", "5%")
         self.is_sound("a merge of both", ran, +sums, LAST, lambda number: 20 * number > sums.total())
 
+    def left_out(self):
+        """Checks `--bad-weight` against sums without the lines whose weights are bad, and its note."""
+        lines = [b"a -", b"b 3", b"a 2", b"c", b"", b"d 1e3", b"e 18446744073709551616", b"a +1", b"b 0", b"  ", b"f 4 x", b"\xff -"]
+        rng = random.Random(9)
+        for number in range(40):
+            some = rng.choices(lines, k=rng.choice([0, 1, 2, 30]))
+            table = [b",".join(line.split(b" ")[:2]) for line in some if line.strip()]
+            for words, data, good in [([], b"".join(line + b"\n" for line in some), some), (["--csv", "--no-csv-header"], b"".join(line + b"\n" for line in table), some)]:
+                fields = [line.split() for line in good if line.split()]
+                bad = sum(len(each) < 2 or weight_of(each[1]) is None for each in fields)
+                sums = collections.Counter()
+                for each in fields:
+                    sums[text_of(each[0])] += (weight_of(each[1]) or 0) if len(each) > 1 else 0
+                rows = sorted(((weight, item) for item, weight in sums.items() if weight), key=lambda row: (-row[0], row[1]))
+                not_utf8 = sum(b"\xff" in line for line in good)
+                note = [b"", b"sketches: 1 line has no whole number as its weight: it is left out\n"][bad] if bad < 2 else (
+                    b"sketches: %d lines have no whole number as their weights: they are left out\n" % bad)
+                for value in ["0", "skip"]:
+                    ran = self.run("top", *words, "-f", 1, "-w", 2, "--bad-weight", value, data=data)
+                    header = b"# error 0 of %d" % sums.total()
+                    found = sorted(ran[1].split(b"\n")[1:-1])
+                    wanted = sorted(b"%d\t%d\t%s" % (weight, weight, item) for weight, item in rows)
+                    said = b"".join(line for line in ran[2].splitlines(keepends=True) if b"UTF-8" not in line)
+                    self.check(f"bad weights {number} {words} {value}", ran[0] == 0 and ran[1].split(b"\n")[0] == header and found == wanted, (ran, wanted))
+                    self.check(f"bad weights {number} {words} {value}: notes", said == note and (b"UTF-8" in ran[2]) == (not_utf8 > 0), (ran[2], note))
+                    quiet = self.run("top", *words, "-f", 1, "-w", 2, "--bad-weight", value, "--no-note", data=data)
+                    self.check(f"bad weights {number} {words} {value}: no note", quiet == (0, ran[1], b""), quiet)
+        ran = self.run("top", "-f", 1, "-w", 2, "--bad-weight", "none", data=b"a 1\n")
+        self.check("another word for bad weights", ran == (2, b"", b"sketches: --bad-weight must be skip or 0\n"), ran)
+        ran = self.run("top", "-f", 1, "--bad-weight", "0", data=b"a 1\n")
+        self.check("bad weights without weights", ran[:2] == (2, b"") and b"--weight" in ran[2], ran)
+
     def bad_weights(self):
         """Checks the message of each bad weight: its file, its line in the file and its text."""
         blank = "\ufffd".encode()
@@ -228,6 +260,7 @@ def main():
         tests.random_weights()
         tests.same_as_repeated()
         tests.bad_weights()
+        tests.left_out()
         tests.errors()
         tests.wrong_use()
     print(f"{tests.passed} passed, {tests.failed} failed")

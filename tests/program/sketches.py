@@ -16,6 +16,7 @@ import tempfile
 
 from joins import Joins
 from layouts import Layouts
+from messages import Messages
 from places import Places
 from states import States
 from texts import text_of
@@ -176,6 +177,27 @@ class Tests:
         ]:
             status, out, said, _ = self.run(words, data)
             self.check(f"{words} of {data}", (status, said) == (0, note_of([data])) and out.startswith(wanted), out)
+
+    def ties(self):
+        """Checks that rows with equal upper bounds are in the order of their items' bytes, under each key, and before they are cut."""
+        items = [b"", b"B", b"a", b"a\0", b"aa", b"b", "é".encode(), b"\xf0\x9f\x98\x80", b"z", b"\x7f"]
+        rng = random.Random(11)
+        for number in range(12):
+            counts = {item: rng.choice([1, 1, 1, 2, 3]) for item in items}
+            lines = [item for item, count in counts.items() for _ in range(count)]
+            rng.shuffle(lines)
+            rows = sorted(counts.items(), key=lambda row: (-row[1], row[0]))
+            for count in [1, 2, 5, 100]:
+                wanted = b"# error 0 of %d\n" % len(lines) + b"".join(b"%d\t%d\t%s\n" % (n, n, item) for item, n in rows[:count])
+                ran = self.run(["top", "-n", count], b"\n".join(lines) + b"\n", key=None)
+                self.check(f"ties {number}, {count} rows", ran[:3] == (0, wanted, b""), (ran, wanted))
+            for name, part in [("left", lines[:7]), ("right", lines[7:])]:
+                self.run(["top", "-n", 0, "--no-header", "--save", name], b"".join(line + b"\n" for line in part), key=None)
+            for names in [["left", "right"], ["right", "left"]]:
+                ran = self.run(["merge", "-n", 5, *names], key=None)
+                wanted = b"# error 0 of %d\n" % len(lines) + b"".join(b"%d\t%d\t%s\n" % (n, n, item) for item, n in rows[:5])
+                self.check(f"ties {number}, {names}", ran[:3] == (0, wanted, b""), (ran, wanted))
+        self.check("ties of the page", {self.run(["top", "-n", 2, "--no-header"], b"b\na\nc\nd\n", key=None)[1] for _ in range(8)} == {b"1\t1\ta\n1\t1\tb\n"})
 
     def notes(self):
         """Checks the note on lines that are not UTF-8, and that --no-note omits it alone."""
@@ -586,6 +608,7 @@ def main():
     with tempfile.TemporaryDirectory() as work:
         tests = Tests(words[0], work)
         tests.worked()
+        tests.ties()
         tests.notes()
         tests.random_bytes()
         tests.cuts()
@@ -603,6 +626,7 @@ def main():
         Weights(tests, SELECTIONS, PIECES, raw_lines_of).run()
         States(tests, PIECES, raw_lines_of).run()
         Layouts(tests).run()
+        Messages(tests).run()
         Places(tests).run()
     print(f"{tests.passed} passed, {tests.failed} failed")
     sys.exit(1 if tests.failed else 0)

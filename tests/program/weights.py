@@ -201,14 +201,15 @@ class Weights:
         ran = self.tests.run(["weigh", "--keys", "none", "one"])
         self.check("weigh without the file of keys", ran[:3] == (2, b"", absent), ran)
         ran = self.tests.run(["weigh", "--keys", ".", "one"])
-        self.check("weigh by a folder", ran[:3] == (2, b"# total 2\n", b"sketches: .: Is a directory (os error 21)\n"), ran)
-        said = b"sketches: --outliers must be at least 2, and the sketch less than 2^30 cells\n"
+        self.check("weigh by a folder", ran[:3] == (2, b"", b"sketches: .: Is a directory (os error 21)\n"), ran)
+        few = b"sketches: --outliers must be at least 2\n"
+        large = b"sketches: the sketch for --error and --outliers has 2^30 cells or more: use a larger --error or a smaller --outliers\n"
         for words in [["--outliers", "0"], ["--outliers", "1"], ["--error", "0.000001%"], ["--error", "0.0000005%"]]:
             ran = self.tests.run(["weigh", *words, "--keys", "keys"], b"a\n")
             if words[1] == "0.0000005%":
                 self.check(f"weigh {words}", ran[0] == 2 and ran[1] == b"" and ran[2].startswith(b"sketches: --error must be"), ran)
             else:
-                self.check(f"weigh {words}", ran[:3] == (2, b"", said), ran)
+                self.check(f"weigh {words}", ran[:3] == (2, b"", few if words[0] == "--outliers" else large), ran)
         for words in [["--error", value] for value in ["", "%", "0%", "0.0%", "100.1%", "101%", "1", "x%", "-1%", "+1%", "1.%", ".5%", "1.2.3%", "1e1%", "1000%"]] + [
             ["-d", ","], ["-f", "1", "-d", ",,"], ["-f", "0"], ["-w", "0"], ["-w", "x"], ["--keys-field", "0"], ["--words"], ["--outliers", "-1"], ["--key", "00"], ["-"],
         ]:

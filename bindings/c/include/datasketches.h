@@ -16,11 +16,11 @@
  *     eight kinds of items, its bitmap has too few bits, or words or lines have a bitmap.
  *  2. Errors of arguments: DS_BAD_OFFSETS, DS_INVALID_UTF8, DS_NO_ROOM if items and their weights or results differ in number,
  *     DS_BAD_FRACTION. Records of `ds_update_fields` and `ds_bloom_insert_fields` are read after the errors of handles.
- *  3. Errors of handles: DS_NO_SKETCH if the handle has no sketch, DS_WRONG_KIND if its sketch is of a kind without this call,
- *     or is shared and the call changes it; of several handles, the first one's that has such an error, in the order of arguments
- *     and of an array. All calls return these but `ds_free`, those whose names end in `_new`, `ds_deserialize` and
- *     `ds_deserialize_prefix`, those on images in place, `ds_num_items`, and the calls for sizes at the end. Calls with a `kind`
- *     return DS_WRONG_KIND for one that they do not take.
+ *  3. Errors of handles: DS_NO_SKETCH if the handle has no sketch. DS_SHARED if the call changes the handle's sketch, and this is
+ *     shared, of whatever kind. DS_WRONG_KIND if its kind does not have this call. Of several handles, the first one's that has
+ *     such an error, in the order of arguments and of an array. All calls return these but `ds_free`, those whose names end in
+ *     `_new`, `ds_deserialize` and `ds_deserialize_prefix`, those on images in place, `ds_num_items`, and the calls for sizes at
+ *     the end. Calls with a `kind` return DS_WRONG_KIND for one that they do not take.
  *  4. The errors in the call's comment, in their order there. DS_NO_MEMORY comes when an allocation fails, which may be earlier.
  *     DS_NO_ROOM of `serialize` and `rows` comes last.
  *
@@ -93,12 +93,14 @@ enum {
     DS_NO = 0,             /* no, as the result of a test */
     DS_YES = 1,            /* yes */
     DS_NO_SKETCH = -1,     /* the handle has no sketch */
-    DS_WRONG_KIND = -2,    /* no call for this kind, or no such kind; or the sketch is shared and the call changes it */
+    DS_WRONG_KIND = -2,    /* no call for this kind, or no such kind */
     DS_NO_ROOM = -3,       /* a buffer of the caller has not the length that the call needs */
     DS_BAD_FRACTION = -4,  /* a fraction is not above 0 and at most 1 */
     DS_BAD_ARGUMENT = -5,  /* items of no kind or with a wrong bitmap; from checks: the same handle twice, or null where there are
                             * values or options */
-    DS_NO_RANDOM = -7      /* a key was to be drawn, and the system has no random bytes */
+    DS_NO_RANDOM = -7,     /* a key was to be drawn, and the system has no random bytes */
+    DS_SHARED = -8,        /* the sketch is shared, and the call changes it */
+    DS_NOT_SHARED = -9     /* the sketch is not shared, and the call takes shared ones alone */
 };
 
 /* The errors of sketches: number, constant, name and message of each. */
@@ -262,14 +264,14 @@ int32_t ds_deserialize_prefix(ds_sketch *handle, int32_t kind, const uint8_t *im
 
 /* --- Sharing: several handles of one sketch, as for threads that read it at once. Calls that read a sketch take a shared one:
  * queries, statuses, images, rows, clones and comparisons, and merges as one of the others. They need no lock. Calls that change
- * a shared sketch return DS_WRONG_KIND. `ds_free` drops the handle's share, and frees the sketch with the last one. --- */
+ * a shared sketch return DS_SHARED. `ds_free` drops the handle's share, and frees the sketch with the last one. --- */
 
 /* Makes the handle's sketch shared, so that `ds_share` takes it and no call changes it until `ds_thaw`. Does nothing to a shared
  * sketch. Returns DS_NO_SKETCH, or DS_NO_MEMORY for a sketch that is not shared. */
 int32_t ds_freeze(ds_sketch *handle);
 
 /* Puts one more share of the sketch of `shared` into the handle, without a copy. The handle may then go to another thread.
- * Returns DS_NO_SKETCH if `shared` has no sketch, DS_WRONG_KIND if its sketch is not shared, and DS_NO_MEMORY. */
+ * Returns DS_NO_SKETCH if `shared` has no sketch, DS_NOT_SHARED if its sketch is not shared, and DS_NO_MEMORY. */
 int32_t ds_share(ds_sketch *handle, ds_sketch *shared);
 
 /* Returns DS_YES if no other handle shares the handle's sketch: calls may then change it again. Returns DS_NO if another one
@@ -526,8 +528,8 @@ int32_t ds_bloom_insert_fed(ds_sketch *handle, const uint8_t *item, size_t lengt
 /* Inserts many items, as one after another. */
 int32_t ds_bloom_insert_all(ds_sketch *handle, const ds_items *items);
 
-/* Inserts the item of each record into a filter. Returns DS_BAD_ARGUMENT, DS_NO_SKETCH, DS_WRONG_KIND, and the error of a record or
- * DS_NO_MEMORY as `ds_update_fields` does, and then changes no filter. A field with a weight is only checked. */
+/* Inserts the item of each record into a filter. Returns the errors of `ds_update_fields` but DS_WEIGHT_OVERFLOW, and then changes no
+ * filter. A field with a weight is only checked. */
 int32_t ds_bloom_insert_fields(ds_sketch *handle, const uint8_t *bytes, size_t length, const ds_fields *fields, ds_fields_read *read);
 
 /* Returns DS_YES if the filter contains the item, and DS_NO otherwise. */
@@ -595,10 +597,10 @@ int32_t ds_update_all_weighted(ds_sketch *handle, const ds_items *items, const u
  *
  * Bytes need not be UTF-8, but items do. Returns the first of these errors, and then changes no sketch:
  *
- *  - DS_BAD_ARGUMENT for the fields, DS_NO_SKETCH, DS_WRONG_KIND
- *  - the error of the first record with one: DS_INVALID_UTF8 if its item is not UTF-8, and DS_BAD_WEIGHT if it has an item and no
- *    weight. DS_NO_MEMORY comes in place of it if the items and weights before it cannot be allocated
- *  - DS_WEIGHT_OVERFLOW if the total has no room for all weights
+ *  - DS_BAD_ARGUMENT for the fields, DS_NO_SKETCH, DS_SHARED, DS_WRONG_KIND.
+ *  - The error of the first record with one: DS_INVALID_UTF8 if its item is not UTF-8, and DS_BAD_WEIGHT if it has an item and no
+ *    weight. DS_NO_MEMORY comes in place of it if the items and weights before it cannot be allocated.
+ *  - DS_WEIGHT_OVERFLOW if the total has no room for all weights.
  *
  * Frequent items return DS_NO_MEMORY for the first item without memory: then the items before it are added, and no others. */
 int32_t ds_update_fields(ds_sketch *handle, const uint8_t *bytes, size_t length, const ds_fields *fields, ds_fields_read *read);
@@ -796,18 +798,21 @@ int32_t ds_frequent_items_set_sample_size(ds_sketch *handle, size_t sample_size)
 /* Writes the items whose bound exceeds both the threshold and the sketch's error, in rows of descending estimates: an item and
  * its bounds each, at the front of both buffers, and the number of rows to `count`. The rest of the buffers stays as it was.
  * With `no_false_negatives` the upper bound is compared: each item is there whose true weight exceeds both. Otherwise the
- * lower bound is compared: no other item is there. Returns DS_NO_MEMORY, or DS_NO_ROOM if a buffer is too short: then `count`
- * is the number of rows. */
-int32_t ds_frequent_items_u64_rows(ds_sketch *handle, bool no_false_negatives, uint64_t threshold, uint64_t *items,
+ * lower bound is compared: no other item is there.
+ *
+ * Writes the first `limit` rows, or all if there are fewer: `SIZE_MAX` is no limit. Rows of equal estimates are in any order, so it
+ * is open which of these a limit leaves out. Returns DS_NO_MEMORY, or DS_NO_ROOM if a buffer has fewer places than rows: then
+ * `count` is the number of rows. Buffers with `limit` places have room. */
+int32_t ds_frequent_items_u64_rows(ds_sketch *handle, bool no_false_negatives, uint64_t threshold, size_t limit, uint64_t *items,
                                    size_t num_items, ds_frequent_items_bounds *bounds, size_t num_bounds, size_t *count);
-int32_t ds_frequent_items_i64_rows(ds_sketch *handle, bool no_false_negatives, uint64_t threshold, int64_t *items,
+int32_t ds_frequent_items_i64_rows(ds_sketch *handle, bool no_false_negatives, uint64_t threshold, size_t limit, int64_t *items,
                                    size_t num_items, ds_frequent_items_bounds *bounds, size_t num_bounds, size_t *count);
 
 /* The same for strings. They stand one after another at the front of `bytes`: string i from offset i up to offset i + 1, the
- * first offset is 0, and there is one more offset than rows. `num_bytes` is the number of bytes of all strings. It is written
- * with `count`. */
-int32_t ds_frequent_items_string_rows(ds_sketch *handle, bool no_false_negatives, uint64_t threshold, uint8_t *bytes,
-                                      size_t room_for_bytes, uint64_t *offsets, size_t num_offsets,
+ * first offset is 0, and there is one more offset than rows. `num_bytes` is the number of bytes of the rows' strings. It is
+ * written with `count`. */
+int32_t ds_frequent_items_string_rows(ds_sketch *handle, bool no_false_negatives, uint64_t threshold, size_t limit,
+                                      uint8_t *bytes, size_t room_for_bytes, uint64_t *offsets, size_t num_offsets,
                                       ds_frequent_items_bounds *bounds, size_t num_bounds, size_t *count, size_t *num_bytes);
 
 /* --- Chunks of a stream. These calls take no handle, and return a number of bytes, never an error. With the checks they return 0
@@ -847,9 +852,16 @@ int32_t ds_count_min_suggest_num_hashes(uint64_t questions, uint8_t *num_hashes)
 
 /* Writes the bits of a filter by the published formula: items times ln `questions` over the square of ln 2. The binary
  * logarithm of `questions` is rounded up to 64ths, so there are never fewer bits than the formula asks for. Under ideal hashes
- * the false-positive rate is about 1 in `questions`. Returns DS_BAD_NUM_BITS for 0 items, for 0 and 1 question, and above
- * 137438953152 bits. */
+ * the false-positive rate is about 1 in `questions`. With few items or a low rate it is higher: see `ds_bloom_min_num_bits`.
+ * Returns DS_BAD_NUM_BITS for 0 items, for 0 and 1 question, and above 137438953152 bits. */
 int32_t ds_bloom_suggest_num_bits(uint64_t num_items, uint64_t questions, uint64_t *num_bits);
+
+/* Writes the least bits of a filter for the rate of 1 in `questions`: 4 times the square root of items times questions, rounded up.
+ * The positions of an item are two hashes modulo the bits. In fewer bits they repeat those of another item more often than the
+ * rate allows. Make a filter of the larger one of this number and the one above, with the hashes of the one above. Its rate is not
+ * proved. Measured for up to 3000 items and rates from 1/10 to 1/1000000, it is at most 1.3 in `questions`. Returns DS_BAD_NUM_BITS
+ * above 137438953152 bits. */
+int32_t ds_bloom_min_num_bits(uint64_t num_items, uint64_t questions, uint64_t *num_bits);
 
 /* Writes the hashes of a filter by the published formula: bits over items times ln 2, rounded up. Returns DS_BAD_NUM_BITS unless
  * there are 1 to 137438953152 bits, and DS_BAD_NUM_HASHES for 0 items and above 32767 hashes. */

@@ -218,27 +218,27 @@ DS_CHECK_ITEMS_WITH(weights_i64, const int64_t)
 /* Buffers for rows. */
 #define DS_CHECK_ROWS(form, type) \
     static inline int32_t ds_check_##form( \
-        int32_t (*call)(ds_sketch *, bool, uint64_t, type *, size_t, ds_frequent_items_bounds *, size_t, size_t *), \
-        ds_sketch *handle, bool no_false_negatives, uint64_t threshold, type *items, size_t num_items, \
+        int32_t (*call)(ds_sketch *, bool, uint64_t, size_t, type *, size_t, ds_frequent_items_bounds *, size_t, size_t *), \
+        ds_sketch *handle, bool no_false_negatives, uint64_t threshold, size_t limit, type *items, size_t num_items, \
         ds_frequent_items_bounds *bounds, size_t num_bounds, size_t *count) \
     { \
         if ((!items && num_items) || (!bounds && num_bounds)) return DS_BAD_ARGUMENT; \
-        return call(handle, no_false_negatives, threshold, items ? items : (type *)ds_no_values(), num_items, \
+        return call(handle, no_false_negatives, threshold, limit, items ? items : (type *)ds_no_values(), num_items, \
                     bounds ? bounds : (ds_frequent_items_bounds *)ds_no_values(), num_bounds, count); \
     }
 DS_CHECK_ROWS(u64_rows, uint64_t)
 DS_CHECK_ROWS(i64_rows, int64_t)
 #undef DS_CHECK_ROWS
 
-static inline int32_t ds_check_string_rows(int32_t (*call)(ds_sketch *, bool, uint64_t, uint8_t *, size_t, uint64_t *, size_t,
+static inline int32_t ds_check_string_rows(int32_t (*call)(ds_sketch *, bool, uint64_t, size_t, uint8_t *, size_t, uint64_t *, size_t,
                                                            ds_frequent_items_bounds *, size_t, size_t *, size_t *),
-                                           ds_sketch *handle, bool no_false_negatives, uint64_t threshold, uint8_t *bytes,
+                                           ds_sketch *handle, bool no_false_negatives, uint64_t threshold, size_t limit, uint8_t *bytes,
                                            size_t room_for_bytes, uint64_t *offsets, size_t num_offsets,
                                            ds_frequent_items_bounds *bounds, size_t num_bounds, size_t *count,
                                            size_t *num_bytes)
 {
     if ((!bytes && room_for_bytes) || (!offsets && num_offsets) || (!bounds && num_bounds)) return DS_BAD_ARGUMENT;
-    return call(handle, no_false_negatives, threshold, bytes ? bytes : (uint8_t *)ds_no_values(), room_for_bytes,
+    return call(handle, no_false_negatives, threshold, limit, bytes ? bytes : (uint8_t *)ds_no_values(), room_for_bytes,
                 offsets ? offsets : (uint64_t *)ds_no_values(), num_offsets,
                 bounds ? bounds : (ds_frequent_items_bounds *)ds_no_values(), num_bounds, count, num_bytes);
 }

@@ -9,7 +9,9 @@
     X(DS_BAD_FRACTION, "BadFraction", "the fraction is not above 0 and at most 1") \
     X(DS_BAD_ARGUMENT, "BadArgument", \
       "items of no kind or with a wrong bitmap, the same handle twice, or null where there are values or options") \
-    X(DS_NO_RANDOM, "NoRandom", "the system has no random bytes for a key")
+    X(DS_NO_RANDOM, "NoRandom", "the system has no random bytes for a key") \
+    X(DS_SHARED, "Shared", "the sketch is shared, and the call changes it") \
+    X(DS_NOT_SHARED, "NotShared", "the sketch is not shared")
 
 /* Returns the result's name or its message, or NULL if it has none. */
 static const char *text_of(int32_t result, bool is_name)

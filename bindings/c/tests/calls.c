@@ -298,14 +298,18 @@ static const struct alteration FREQUENT_ALTERED[] = {
         CHECK(numbers.current_map_capacity == 6 && numbers.total_weight == 0 && numbers.maximum_error == 0); \
         CHECK(ds_update_all(a, &many) == DS_OK && prefix##_bounds(a, 7, &bounds) == DS_OK && bounds.estimate == 2); \
         CHECK(ds_get_status(a, &numbers) == DS_OK && numbers.num_active_items == 2 && numbers.total_weight == 3); \
-        CHECK(prefix##_update(a, 8, 6) == DS_OK && prefix##_rows(a, true, 0, NULL, 0, NULL, 0, &length) == DS_NO_ROOM); \
-        CHECK(length == 2 && prefix##_rows(a, true, 0, found, 2, rows, 3, &length) == DS_OK && length == 2); \
+        CHECK(prefix##_update(a, 8, 6) == DS_OK && prefix##_rows(a, true, 0, SIZE_MAX, NULL, 0, NULL, 0, &length) == DS_NO_ROOM); \
+        CHECK(length == 2 && prefix##_rows(a, true, 0, SIZE_MAX, found, 2, rows, 3, &length) == DS_OK && length == 2); \
         CHECK(found[0] == 8 && rows[0].estimate == 7 && found[1] == 7 && rows[1].lower_bound == 2); \
         CHECK(ds_frequent_items_bounds_all(a, &many, rows, 3) == DS_OK && rows[0].upper_bound == 2 && rows[2].lower_bound == 7); \
         CHECK(ds_frequent_items_bounds_all(a, &many, &bounds, 1) == DS_NO_ROOM && bounds.estimate == 2); \
         CHECK(ds_frequent_items_bounds_all(a, &many, NULL, 3) == DS_BAD_ARGUMENT); \
         CHECK(ds_frequent_items_bounds_all(a, &nothing, NULL, 0) == DS_OK); \
-        CHECK(prefix##_rows(a, false, 2, found, 2, rows, 3, &length) == DS_OK && length == 1 && found[0] == 8); \
+        CHECK(prefix##_rows(a, false, 2, SIZE_MAX, found, 2, rows, 3, &length) == DS_OK && length == 1 && found[0] == 8); \
+        found[0] = 1, found[1] = 2; \
+        CHECK(prefix##_rows(a, true, 0, 1, found, 1, rows, 1, &length) == DS_OK && length == 1 && found[0] == 8 && found[1] == 2); \
+        CHECK(prefix##_rows(a, true, 0, 0, NULL, 0, NULL, 0, &length) == DS_OK && length == 0); \
+        CHECK(prefix##_rows(a, true, 0, 2, found, 1, rows, 2, &length) == DS_NO_ROOM && length == 2); \
         CHECK(ds_reset(a) == DS_OK && prefix##_update(a, 7, 5) == DS_OK); \
         CHECK(ds_serialize(a, NULL, 0, &length) == DS_NO_ROOM && length == 48); \
         length = 0; \

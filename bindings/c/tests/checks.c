@@ -42,8 +42,8 @@ _Static_assert(DS_BLOOM == 1 && DS_COUNT_MIN_U64 == 2 && DS_COUNT_MIN_I64 == 3 &
                "kinds");
 _Static_assert(DS_NO == 0 && DS_YES == 1 && DS_NO_SKETCH == -1 && DS_WRONG_KIND == -2 && DS_NO_ROOM == -3 &&
                    DS_BAD_FRACTION == -4 && DS_BAD_ARGUMENT == -5 && DS_BAD_OFFSETS == -6 && DS_NO_RANDOM == -7 &&
-                   DS_BAD_NUM_BITS == -11 && DS_MISMATCH == -16 && DS_INVALID_UTF8 == -40 && DS_NO_MEMORY == -42 &&
-                   DS_BAD_WINDOWS == -44 && DS_BAD_WEIGHT == -45,
+                   DS_SHARED == -8 && DS_NOT_SHARED == -9 && DS_BAD_NUM_BITS == -11 && DS_MISMATCH == -16 &&
+                   DS_INVALID_UTF8 == -40 && DS_NO_MEMORY == -42 && DS_BAD_WINDOWS == -44 && DS_BAD_WEIGHT == -45,
                "results");
 
 static const uint64_t K0 = 0x0706050403020100, K1 = 0x0f0e0d0c0b0a0908;
@@ -109,12 +109,12 @@ static void commas(void)
     CHECK(ds_frequent_items_string_update(&heavy, (const uint8_t[]){'x', 'y'}, 2, (uint64_t[2]){9, 0}[0]) == DS_OK);
     CHECK(ds_update_all(&heavy, AS_ITEMS(words, (const uint8_t[]){'x', ' ', 'y'}, 3)) == DS_OK);
     CHECK(ds_frequent_items_string_bounds(&heavy, (const uint8_t[]){'x', 'y'}, 2, &bounds[0]) == DS_OK && bounds[0].estimate == 9);
-    CHECK(ds_frequent_items_string_rows(&heavy, true, 1, bytes, sizeof bytes, (uint64_t *[2]){offsets, NULL}[0], 3, bounds, 2,
-                                        &rows, &length) == DS_OK);
+    CHECK(ds_frequent_items_string_rows(&heavy, true, 1, SIZE_MAX, bytes, sizeof bytes, (uint64_t *[2]){offsets, NULL}[0], 3,
+                                        bounds, 2, &rows, &length) == DS_OK);
     CHECK(rows == 1 && length == 2 && bytes[1] == 'y');
     CHECK(ds_frequent_items_new(&numbers, DS_FREQUENT_ITEMS_U64, 64, 48, NULL) == DS_OK);
     CHECK(ds_update_all(&numbers, AS_ITEMS(u64, (const uint64_t[]){7, 8, 7}, 3)) == DS_OK);
-    CHECK(ds_frequent_items_u64_rows(&numbers, true, 1, (uint64_t *[2]){items, NULL}[0], 2, bounds, 2, &rows) == DS_OK);
+    CHECK(ds_frequent_items_u64_rows(&numbers, true, 1, SIZE_MAX, (uint64_t *[2]){items, NULL}[0], 2, bounds, 2, &rows) == DS_OK);
     CHECK(rows == 1 && items[0] == 7 && bounds[0].estimate == 2);
     CHECK(ds_serialize(&numbers, image, sizeof image, &length) == DS_OK);
     CHECK(ds_deserialize(&numbers, DS_FREQUENT_ITEMS_U64, (const uint8_t *[2]){image, NULL}[0], length,
@@ -210,6 +210,8 @@ static void names(void)
 
     CHECK(strcmp(name(DS_NO_SKETCH), "NoSketch") == 0 && strcmp(name(DS_WRONG_KIND), "WrongKind") == 0);
     CHECK(strcmp(name(DS_NO_ROOM), "NoRoom") == 0 && strcmp(name(DS_BAD_FRACTION), "BadFraction") == 0);
+    CHECK(strcmp(name(DS_SHARED), "Shared") == 0 && strcmp(name(DS_NOT_SHARED), "NotShared") == 0);
+    CHECK(strcmp(ds_result_message(DS_SHARED), "the sketch is shared, and the call changes it") == 0);
     CHECK(strcmp(name(DS_BAD_ARGUMENT), "BadArgument") == 0 && strcmp(name(DS_BAD_OFFSETS), "BadOffsets") == 0);
     CHECK(strcmp(name(DS_OK), "Ok") == 0 && strcmp(name(DS_YES), "Ok") == 0 && strcmp(name(INT32_MIN), "Unknown") == 0);
     CHECK(strcmp(ds_result_message(DS_OK), "ok") == 0 && strcmp(ds_result_message(DS_MIN_RESULT - 1), "unknown") == 0);
@@ -401,9 +403,9 @@ COUNTS(u64, uint64_t) COUNTS(i64, int64_t)
     static void frequent_##kind(void) \
     { \
         size_t length = 0; \
-        REJECTS(ds_frequent_items_##kind##_rows(&none, true, 0, NULL, 1, &(ds_frequent_items_bounds){0}, 1, &length)); \
-        REJECTS(ds_frequent_items_##kind##_rows(&none, true, 0, &(item){0}, 1, NULL, 1, &length)); \
-        MAKES(ds_frequent_items_##kind##_rows(&none, true, 0, NULL, 0, NULL, 0, &length)); \
+        REJECTS(ds_frequent_items_##kind##_rows(&none, true, 0, SIZE_MAX, NULL, 1, &(ds_frequent_items_bounds){0}, 1, &length)); \
+        REJECTS(ds_frequent_items_##kind##_rows(&none, true, 0, SIZE_MAX, &(item){0}, 1, NULL, 1, &length)); \
+        MAKES(ds_frequent_items_##kind##_rows(&none, true, 0, SIZE_MAX, NULL, 0, NULL, 0, &length)); \
     }
     FREQUENT_NUMBERS(u64, uint64_t) FREQUENT_NUMBERS(i64, int64_t)
 
@@ -415,10 +417,10 @@ COUNTS(u64, uint64_t) COUNTS(i64, int64_t)
     uint8_t bytes[1];
     BYTES_AND(ds_frequent_items_string_update, 1)
     BYTES_AND(ds_frequent_items_string_bounds, bounds)
-    REJECTS(ds_frequent_items_string_rows(&none, true, 0, NULL, 1, offsets, 1, bounds, 1, &count, &length));
-    REJECTS(ds_frequent_items_string_rows(&none, true, 0, bytes, 1, NULL, 1, bounds, 1, &count, &length));
-    REJECTS(ds_frequent_items_string_rows(&none, true, 0, bytes, 1, offsets, 1, NULL, 1, &count, &length));
-    MAKES(ds_frequent_items_string_rows(&none, true, 0, NULL, 0, NULL, 0, NULL, 0, &count, &length));
+    REJECTS(ds_frequent_items_string_rows(&none, true, 0, SIZE_MAX, NULL, 1, offsets, 1, bounds, 1, &count, &length));
+    REJECTS(ds_frequent_items_string_rows(&none, true, 0, SIZE_MAX, bytes, 1, NULL, 1, bounds, 1, &count, &length));
+    REJECTS(ds_frequent_items_string_rows(&none, true, 0, SIZE_MAX, bytes, 1, offsets, 1, NULL, 1, &count, &length));
+    MAKES(ds_frequent_items_string_rows(&none, true, 0, SIZE_MAX, NULL, 0, NULL, 0, NULL, 0, &count, &length));
 }
 
 /* Calls that take no handle. */

@@ -36,13 +36,13 @@ template <class Sketch, class Create> void shares(Create create)
     Sketch a = create(), none, other = create();
     DONE(a.update_all({1u, 1u, 2u}));
     image before = take(a.serialize());
-    FAILS(DS_WRONG_KIND, a.share());
+    FAILS(DS_NOT_SHARED, a.share());
     CHECK(take(a.thaw()));
     DONE(a.freeze());
     Sketch b = take(a.share()), c = take(b.share());
     CHECK(take(b.serialize()) == before && take(c.serialize()) == before);
-    FAILS(DS_WRONG_KIND, a.update(1u));
-    FAILS(DS_WRONG_KIND, b.merge(other));
+    FAILS(DS_SHARED, a.update(1u));
+    FAILS(DS_SHARED, b.merge(other));
     DONE(other.merge(b));
     CHECK(!take(a.thaw()) && take(take(b.clone()).serialize()) == before);
     Sketch copy = take(c.clone());
@@ -92,7 +92,7 @@ static void threads_of_shares()
     std::vector<bool> wanted, got[4];
     for (int i = 0; i < 800; i++) wanted.push_back(take(made.contains(i)));
     DONE(made.freeze());
-    FAILS(DS_WRONG_KIND, made.insert(1));
+    FAILS(DS_SHARED, made.insert(1));
     std::vector<std::thread> threads;
     for (auto &found : got)
         threads.emplace_back(
@@ -344,6 +344,7 @@ template <class T> void frequent()
     DONE(a.update(item_of<T>(6), std::uint8_t{1}));
     /* the upper bound of 2 exceeds the error, and the lower one of 1 does not */
     CHECK(take(a.rows(ds::error_type::no_false_negatives)).size() == 2);
+    CHECK(take(a.rows(ds::error_type::no_false_negatives, 0, 1)).size() == 1);
     auto certain = take(a.rows(ds::error_type::no_false_positives));
     CHECK(certain.size() == 1 && T(certain[0].item) == item_of<T>(5) && certain[0].estimate == 6 && certain[0].lower_bound == 5 &&
           certain[0].upper_bound == 6);

@@ -379,6 +379,7 @@ static void filters()
 {
     filter a = new_filter(), b = new_filter();
     CHECK(take(filter::suggest_num_bits(1000, 100)) == 9603 && take(filter::suggest_num_hashes(9603, 1000)) == 7);
+    CHECK(take(filter::min_num_bits(100, 10000)) == 4000);
     FAILS(DS_BAD_NUM_BITS, filter::suggest_num_bits(0, 100));
     FAILS(DS_BAD_NUM_HASHES, filter::suggest_num_hashes(9603, 0));
     FAILS(DS_BAD_NUM_BITS, filter::create(0, 7));

@@ -163,8 +163,8 @@ static void handles(void)
     for (const char **text = (const char *[]){"a -5\n", "a 5\n", "a x\n", NULL}; *text != NULL; text++) {
         const uint8_t *bytes = (const uint8_t *)*text;
         for (size_t i = 0; i < 4; i++) {
-            CHECK(ds_update_fields(&sketches[i], bytes, strlen(*text), &weighed, &read) == DS_WRONG_KIND);
-            CHECK(ds_bloom_insert_fields(&sketches[i], bytes, strlen(*text), &weighed, &read) == DS_WRONG_KIND);
+            CHECK(ds_update_fields(&sketches[i], bytes, strlen(*text), &weighed, &read) == DS_SHARED);
+            CHECK(ds_bloom_insert_fields(&sketches[i], bytes, strlen(*text), &weighed, &read) == DS_SHARED);
         }
     }
     CHECK(read.num_records == 9 && read.num_items == 9 && read.offset == 9);
@@ -190,7 +190,7 @@ static void filters(void)
     CHECK(ds_bloom_insert_fields(&numbers, TEXT("1 2\n"), &WORD_1, &read) == DS_WRONG_KIND);
     CHECK(ds_update_fields(&none, TEXT("1 2\n"), &WORD_1, &read) == DS_NO_SKETCH);
     CHECK(ds_bloom_insert_fields(&none, TEXT("1 2\n"), &WORD_1, &read) == DS_NO_SKETCH);
-    CHECK(ds_freeze(&filter) == DS_OK && ds_bloom_insert_fields(&filter, TEXT("1 c\n"), &WORD_1, &read) == DS_WRONG_KIND);
+    CHECK(ds_freeze(&filter) == DS_OK && ds_bloom_insert_fields(&filter, TEXT("1 c\n"), &WORD_1, &read) == DS_SHARED);
     CHECK(ds_update_fields(&none, NULL, 3, &WORD_1, &read) == DS_BAD_ARGUMENT);
     CHECK(ds_update_fields(&none, TEXT("a"), NULL, &read) == DS_BAD_ARGUMENT);
     CHECK(ds_update_fields(&none, TEXT("a"), &WORD_1, NULL) == DS_BAD_ARGUMENT);

@@ -174,7 +174,7 @@ static int share_one(ds_sketch *one)
     DONE(&other, ds_bloom_new(&other, 64, 1, 9001));
     int32_t answer = ds_freeze(one);
     if (!is_due(answer, one, weight)) return 1;
-    if (answer < 0 && (ds_share(&share, one) != DS_WRONG_KIND || ds_freeze(one) != DS_OK)) return 1;
+    if (answer < 0 && (ds_share(&share, one) != DS_NOT_SHARED || ds_freeze(one) != DS_OK)) return 1;
     answer = ds_share(&share, one);
     if (!is_due(answer, one, weight)) return 1;
     if (answer < 0) {
@@ -261,8 +261,8 @@ int main(void)
     keep(&filter);
     if (share_one(&filter) || share_one(&count) || share_one(&frequent) || share_one(&many)) return 1;
     size_t rows = 0, num_bytes = 0;
-    DONE(&frequent,
-         ds_frequent_items_string_rows(&frequent, true, 0, shown, sizeof shown, starts, 65, bounds, 64, &rows, &num_bytes));
+    DONE(&frequent, ds_frequent_items_string_rows(&frequent, true, 0, SIZE_MAX, shown, sizeof shown, starts, 65, bounds, 64, &rows,
+                                                  &num_bytes));
     if (num_bytes != 2 * rows || starts[rows] != num_bytes) return 1;
     for (int32_t kind = DS_ITEMS_OFFSETS; kind <= DS_ITEMS_LINES; kind++) {
         const ds_items strings = strings_of(&forms, kind, 0, 64);

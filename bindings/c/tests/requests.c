@@ -311,14 +311,14 @@ static void shares(void)
     uint8_t image[64];
     size_t written;
     DO(ds_bloom_new(&filter, 256, 3, 9001));
-    FREE(DS_WRONG_KIND, ds_share(&share, &filter));
+    FREE(DS_NOT_SHARED, ds_share(&share, &filter));
     FREE(DS_YES, ds_thaw(&filter));
     ROW(1, 0, DS_OK, ds_freeze(&filter));
     FREE(DS_OK, ds_freeze(&filter));
     ROW(1, 0, DS_OK, ds_share(&share, &filter));
     FREE(DS_NO, ds_bloom_contains_u64(&share, 3));
     FREE(DS_OK, ds_serialize(&share, image, sizeof image, &written));
-    FREE(DS_WRONG_KIND, ds_bloom_insert_u64(&share, 3));
+    FREE(DS_SHARED, ds_bloom_insert_u64(&share, 3));
     FREE(DS_NO, ds_thaw(&filter));
     /* the handle's block and the words */
     ROW(2, 0, DS_OK, ds_clone(&copy, &share));

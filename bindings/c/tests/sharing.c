@@ -82,7 +82,7 @@ static bool read_all(reader *it)
     done &= ds_get_status(&it->count, &got->count) == DS_OK;
     done &= ds_serialize(&it->count, got->images[1], sizeof got->images[1], &got->lengths[1]) == DS_OK;
     done &= ds_frequent_items_bounds_all(&it->words, &strings, got->bounds[1], ITEMS) == DS_OK;
-    done &= ds_frequent_items_u64_rows(&it->heavy, false, 0, got->rows, 64, got->of_rows, 64, &got->num_rows) == DS_OK;
+    done &= ds_frequent_items_u64_rows(&it->heavy, false, 0, SIZE_MAX, got->rows, 64, got->of_rows, 64, &got->num_rows) == DS_OK;
     done &= ds_get_status(&it->heavy, &got->heavy) == DS_OK;
     done &= ds_serialize(&it->heavy, got->images[2], sizeof got->images[2], &got->lengths[2]) == DS_OK;
     done &= ds_serialize(&it->words, got->images[3], sizeof got->images[3], &got->lengths[3]) == DS_OK;
@@ -105,7 +105,7 @@ static void *run(void *argument)
     bool done = read_all(it);
     done &= ds_share(&more, &it->filter) == DS_OK && ds_equal(&more, &it->filter) == DS_YES;
     done &= ds_clone(&copy, &more) == DS_OK && ds_bloom_insert_u64(&copy, UINT64_MAX) == DS_OK;
-    done &= ds_share(&copy, &it->heavy) == DS_OK && ds_frequent_items_u64_update(&copy, 1, 1) == DS_WRONG_KIND;
+    done &= ds_share(&copy, &it->heavy) == DS_OK && ds_frequent_items_u64_update(&copy, 1, 1) == DS_SHARED;
     it->done = done && read_all(it);
     ds_free(&more);
     ds_free(&copy);
@@ -308,7 +308,7 @@ static const struct {
                {5, 4, change_frequent},
                {5, 11, change_frequent_string}};
 
-/* Each call that changes a sketch returns DS_WRONG_KIND for a shared one, changes nothing, and is done after the thaw. The other
+/* Each call that changes a sketch returns DS_SHARED for a shared one, changes nothing, and is done after the thaw. The other
  * sketch of a merge may be shared. */
 static void changes(void)
 {
@@ -318,10 +318,10 @@ static void changes(void)
             ds_sketch handle = DS_NONE, other = DS_NONE, share = DS_NONE;
             CHECK(make(&handle, kind) && make(&other, kind) && ds_freeze(&handle) == DS_OK && ds_freeze(&other) == DS_OK);
             image before = image_of(&handle), of_other = image_of(&other);
-            CHECK(CHANGES[i].change(&handle, &other, call) == DS_WRONG_KIND && is_image_of(&before, &handle));
-            CHECK(ds_share(&share, &handle) == DS_OK && CHANGES[i].change(&share, &other, call) == DS_WRONG_KIND);
+            CHECK(CHANGES[i].change(&handle, &other, call) == DS_SHARED && is_image_of(&before, &handle));
+            CHECK(ds_share(&share, &handle) == DS_OK && CHANGES[i].change(&share, &other, call) == DS_SHARED);
             CHECK(is_image_of(&before, &handle) && is_image_of(&before, &share));
-            CHECK(ds_thaw(&handle) == DS_NO && CHANGES[i].change(&handle, &other, call) == DS_WRONG_KIND);
+            CHECK(ds_thaw(&handle) == DS_NO && CHANGES[i].change(&handle, &other, call) == DS_SHARED);
             ds_free(&share);
             CHECK(ds_thaw(&handle) == DS_YES && is_image_of(&before, &handle));
             CHECK(CHANGES[i].change(&handle, &other, call) >= 0 && is_image_of(&of_other, &other));
@@ -339,7 +339,7 @@ static void each_kind(void)
         ds_sketch own = DS_NONE, share = DS_NONE, third = DS_NONE, copy = DS_NONE, none = DS_NONE;
         size_t bytes, shared_bytes;
         CHECK(ds_freeze(&none) == DS_NO_SKETCH && ds_thaw(&none) == DS_NO_SKETCH && ds_share(&share, &none) == DS_NO_SKETCH);
-        CHECK(make(&own, kind) && ds_share(&share, &own) == DS_WRONG_KIND && !share.sketch && ds_thaw(&own) == DS_YES);
+        CHECK(make(&own, kind) && ds_share(&share, &own) == DS_NOT_SHARED && !share.sketch && ds_thaw(&own) == DS_YES);
         image before = image_of(&own);
         CHECK(ds_memory_bytes(&own, &bytes) == DS_OK && ds_freeze(&own) == DS_OK && ds_freeze(&own) == DS_OK);
         CHECK(ds_memory_bytes(&own, &shared_bytes) == DS_OK && shared_bytes == bytes && is_image_of(&before, &own));
@@ -349,7 +349,7 @@ static void each_kind(void)
         CHECK(ds_share(&third, &none) == DS_NO_SKETCH && is_image_of(&before, &third));
         /* a clone is not shared */
         CHECK(ds_clone(&copy, &share) == DS_OK && is_image_of(&before, &copy));
-        CHECK(ds_share(&third, &copy) == DS_WRONG_KIND && is_image_of(&before, &third) && ds_thaw(&copy) == DS_YES);
+        CHECK(ds_share(&third, &copy) == DS_NOT_SHARED && is_image_of(&before, &third) && ds_thaw(&copy) == DS_YES);
         CHECK(ds_equal(&copy, &own) == (kind < 3 ? DS_YES : DS_WRONG_KIND));
         CHECK(ds_equal(&own, &share) == (kind < 3 ? DS_YES : DS_WRONG_KIND));
         /* each handle can be the last one, and another sketch replaces a share alone */
@@ -386,21 +386,24 @@ static void merges_of_shares(void)
     ds_free(&all);
 }
 
-/* Errors of arguments come before DS_WRONG_KIND, and that of a shared handle comes before those of the other. */
+/* Errors of arguments come before DS_SHARED, which comes before DS_WRONG_KIND and the errors of the other handle. */
 static void first_errors(void)
 {
     ds_sketch shared = DS_NONE, none = DS_NONE;
+    uint64_t estimate;
     bool result;
     CHECK(make(&shared, 0) && ds_freeze(&shared) == DS_OK);
-    CHECK(ds_merge(&shared, &none) == DS_WRONG_KIND && ds_merge(&none, &shared) == DS_NO_SKETCH);
-    CHECK(ds_merge_all(&shared, &none, 1) == DS_WRONG_KIND && ds_equal(&shared, &none) == DS_NO_SKETCH);
+    CHECK(ds_merge(&shared, &none) == DS_SHARED && ds_merge(&none, &shared) == DS_NO_SKETCH);
+    CHECK(ds_merge_all(&shared, &none, 1) == DS_SHARED && ds_equal(&shared, &none) == DS_NO_SKETCH);
     CHECK(ds_bloom_contains_and_insert_all(&shared, AS_ITEMS(u64, numbers, 1), &result, 0) == DS_NO_ROOM);
     CHECK(ds_bloom_insert_string(&shared, (const uint8_t *)"\xff", 1) == DS_INVALID_UTF8);
-    CHECK(ds_count_min_u64_update_u64(&shared, 1, 1) == DS_WRONG_KIND);
+    CHECK(ds_count_min_u64_update_u64(&shared, 1, 1) == DS_SHARED && ds_frequent_items_set_sample_size(&shared, 2) == DS_SHARED);
+    CHECK(ds_update_all(&shared, AS_ITEMS(u64, numbers, 1)) == DS_SHARED);
+    CHECK(ds_count_min_u64_estimate_u64(&shared, 1, &estimate) == DS_WRONG_KIND);
     CHECK(make(&shared, 1) && ds_freeze(&shared) == DS_OK && ds_count_min_u64_decay(&shared, 3, 2) == DS_BAD_FRACTION);
-    CHECK(ds_merge(&shared, &none) == DS_WRONG_KIND && ds_reset(&shared) == DS_WRONG_KIND);
+    CHECK(ds_merge(&shared, &none) == DS_SHARED && ds_reset(&shared) == DS_SHARED);
     CHECK(make(&shared, 3) && ds_freeze(&shared) == DS_OK);
-    CHECK(ds_frequent_items_set_sample_size(&shared, 7) == DS_WRONG_KIND && ds_equal(&shared, &none) == DS_WRONG_KIND);
+    CHECK(ds_frequent_items_set_sample_size(&shared, 7) == DS_SHARED && ds_equal(&shared, &none) == DS_WRONG_KIND);
     ds_free(&shared);
 }
 

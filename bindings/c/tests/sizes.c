@@ -43,6 +43,13 @@ static void filter(void)
     CHECK(ds_bloom_suggest_num_bits(1000, 100, &bits) == DS_OK && bits == 9603);
     CHECK(ds_bloom_suggest_num_bits(95265423098, 2, &bits) == DS_BAD_NUM_BITS && bits == 9603);
     CHECK(ds_bloom_suggest_num_bits(UINT64_MAX, UINT64_MAX, &bits) == DS_BAD_NUM_BITS && bits == 9603);
+    /* 4 * sqrt(1000) is 126.5, and 4 * sqrt(100 * 10000) is 4000 */
+    CHECK(ds_bloom_min_num_bits(1, 1000, &bits) == DS_OK && bits == 127);
+    CHECK(ds_bloom_min_num_bits(100, 10000, &bits) == DS_OK && bits == 4000);
+    CHECK(ds_bloom_min_num_bits(0, 100, &bits) == DS_OK && bits == 0);
+    CHECK(ds_bloom_min_num_bits(34359738288, 34359738288, &bits) == DS_OK && bits == 137438953152);
+    CHECK(ds_bloom_min_num_bits(34359738289, 34359738288, &bits) == DS_BAD_NUM_BITS && bits == 137438953152);
+    CHECK(ds_bloom_min_num_bits(UINT64_MAX, UINT64_MAX, &bits) == DS_BAD_NUM_BITS && bits == 137438953152);
     CHECK(ds_bloom_suggest_num_hashes(0, 1, &hashes) == DS_BAD_NUM_BITS && hashes == 7);
     CHECK(ds_bloom_suggest_num_hashes(137438953153, 1, &hashes) == DS_BAD_NUM_BITS && hashes == 7);
     CHECK(ds_bloom_suggest_num_hashes(9603, 0, &hashes) == DS_BAD_NUM_HASHES && hashes == 7);

@@ -127,22 +127,28 @@ static void rows_of_strings(void)
 
     memset(bytes, '.', sizeof bytes);
     memset(before, '.', sizeof before);
-    CHECK(ds_frequent_items_string_rows(&strings, true, 0, bytes, 16, offsets, 6, bounds, 4, &count, &length) == DS_NO_SKETCH);
+    CHECK(ds_frequent_items_string_rows(&strings, true, 0, SIZE_MAX, bytes, 16, offsets, 6, bounds, 4, &count, &length) ==
+          DS_NO_SKETCH);
     CHECK(ds_bloom_new(&other, 64, 1, 9001) == DS_OK);
-    CHECK(ds_frequent_items_string_rows(&other, true, 0, bytes, 16, offsets, 6, bounds, 4, &count, &length) == DS_WRONG_KIND);
+    CHECK(ds_frequent_items_string_rows(&other, true, 0, SIZE_MAX, bytes, 16, offsets, 6, bounds, 4, &count, &length) ==
+          DS_WRONG_KIND);
     CHECK(count == 77 && length == 78);
     CHECK(ds_frequent_items_new(&strings, DS_FREQUENT_ITEMS_STRING, 64, 48, NULL) == DS_OK);
-    CHECK(ds_frequent_items_string_rows(&strings, true, 0, bytes, 16, offsets, 1, bounds, 0, &count, &length) == DS_OK);
+    CHECK(ds_frequent_items_string_rows(&strings, true, 0, SIZE_MAX, bytes, 16, offsets, 1, bounds, 0, &count, &length) == DS_OK);
     CHECK(count == 0 && length == 0 && offsets[0] == 0 && offsets[1] == 8);
     CHECK(ds_update_all_weighted(&strings, &items, of_four, 4) == DS_OK);
-    CHECK(ds_frequent_items_string_rows(&strings, true, 1, NULL, 0, NULL, 0, NULL, 0, &count, &length) == DS_NO_ROOM);
+    CHECK(ds_frequent_items_string_rows(&strings, true, 1, SIZE_MAX, NULL, 0, NULL, 0, NULL, 0, &count, &length) == DS_NO_ROOM);
     CHECK(count == 3 && length == 12);
-    CHECK(ds_frequent_items_string_rows(&strings, true, 1, bytes, 11, offsets, 6, bounds, 4, &count, &length) == DS_NO_ROOM);
-    CHECK(ds_frequent_items_string_rows(&strings, true, 1, bytes, 12, offsets, 3, bounds, 4, &count, &length) == DS_NO_ROOM);
-    CHECK(ds_frequent_items_string_rows(&strings, true, 1, bytes, 12, offsets, 4, bounds, 2, &count, &length) == DS_NO_ROOM);
-    CHECK(ds_frequent_items_string_rows(&strings, true, 1, NULL, 1, offsets, 4, bounds, 3, &count, &length) == DS_BAD_ARGUMENT);
+    CHECK(ds_frequent_items_string_rows(&strings, true, 1, SIZE_MAX, bytes, 11, offsets, 6, bounds, 4, &count, &length) ==
+          DS_NO_ROOM);
+    CHECK(ds_frequent_items_string_rows(&strings, true, 1, SIZE_MAX, bytes, 12, offsets, 3, bounds, 4, &count, &length) ==
+          DS_NO_ROOM);
+    CHECK(ds_frequent_items_string_rows(&strings, true, 1, SIZE_MAX, bytes, 12, offsets, 4, bounds, 2, &count, &length) ==
+          DS_NO_ROOM);
+    CHECK(ds_frequent_items_string_rows(&strings, true, 1, SIZE_MAX, NULL, 1, offsets, 4, bounds, 3, &count, &length) ==
+          DS_BAD_ARGUMENT);
     CHECK(memcmp(bytes, before, 16) == 0 && offsets[1] == 8 && bounds[0].estimate == 0);
-    CHECK(ds_frequent_items_string_rows(&strings, true, 1, bytes, 16, offsets, 6, bounds, 4, &count, &length) == DS_OK);
+    CHECK(ds_frequent_items_string_rows(&strings, true, 1, SIZE_MAX, bytes, 16, offsets, 6, bounds, 4, &count, &length) == DS_OK);
     CHECK(count == 3 && length == 12 &&
           memcmp(bytes,
                  "\xe2\x82\xac!a\xcc\x88"
@@ -150,7 +156,16 @@ static void rows_of_strings(void)
                  16) == 0);
     CHECK(offsets[0] == 0 && offsets[1] == 4 && offsets[2] == 7 && offsets[3] == 12 && offsets[4] == 8);
     CHECK(bounds[0].estimate == 9 && bounds[1].lower_bound == 7 && bounds[2].upper_bound == 5 && bounds[3].estimate == 3);
-    CHECK(ds_frequent_items_string_rows(&strings, false, 6, bytes, 7, offsets, 3, bounds, 2, &count, &length) == DS_OK);
+    /* the first row, in buffers for one */
+    memset(bytes, '.', sizeof bytes);
+    offsets[1] = offsets[2] = 8;
+    CHECK(ds_frequent_items_string_rows(&strings, true, 1, 1, bytes, 4, offsets, 2, bounds, 1, &count, &length) == DS_OK);
+    CHECK(count == 1 && length == 4 && offsets[0] == 0 && offsets[1] == 4 && offsets[2] == 8 && bounds[0].estimate == 9);
+    CHECK(memcmp(bytes, "\xe2\x82\xac!.", 5) == 0);
+    CHECK(ds_frequent_items_string_rows(&strings, true, 1, 1, bytes, 3, offsets, 2, bounds, 1, &count, &length) == DS_NO_ROOM);
+    CHECK(ds_frequent_items_string_rows(&strings, true, 1, 0, bytes, 0, offsets, 1, bounds, 0, &count, &length) == DS_OK);
+    CHECK(count == 0 && length == 0);
+    CHECK(ds_frequent_items_string_rows(&strings, false, 6, SIZE_MAX, bytes, 7, offsets, 3, bounds, 2, &count, &length) == DS_OK);
     CHECK(count == 2);
     ds_free(&strings);
     ds_free(&other);

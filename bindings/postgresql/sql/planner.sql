@@ -50,6 +50,16 @@ SELECT count(*) FROM rates WHERE rate = -1 AND sketch_contains(:'ids'::bloom_fil
 SELECT ids AS long FROM (SELECT bloom_filter_agg(i, 100000, 0.01) AS ids FROM generate_series(1::bigint, 30) AS i) AS f \gset
 CREATE FUNCTION explained(query text) RETURNS SETOF text LANGUAGE plpgsql AS $$BEGIN RETURN QUERY EXECUTE 'EXPLAIN (VERBOSE, COSTS off) ' || query; END$$;
 SELECT explained(format('SELECT id FROM orders WHERE sketch_contains(%L::bloom_filter, customer)', :'long'));
+SELECT count_min_agg_sized(i, 1, 4, 1024) AS counts, frequent_bigints_agg(i, 1, 1024) AS heavy FROM generate_series(1::bigint, 700) AS i \gset
+SELECT length(plan) < 2000 AS is_short, (SELECT count(*) FROM regexp_matches(plan, 'bytes''::sketch_constant', 'g')) AS constants
+FROM (SELECT string_agg(line, ' ') AS plan
+    FROM explained(format('SELECT sketch_estimate(%1$L::count_min, customer), sketch_upper_bound(%1$L::count_min, customer),
+        sketch_lower_bound(%2$L::frequent_bigints, customer), sketch_estimate(%2$L::frequent_bigints, customer),
+        sketch_upper_bound(%2$L::frequent_bigints, customer), sketch_bounds(%2$L::frequent_bigints, customer) FROM orders',
+        :'counts', :'heavy')) AS line) AS explained;
+SELECT sum(sketch_upper_bound(:'heavy'::frequent_bigints, customer)) = sum(sketch_upper_bound(heavy, customer)) AS same_bounds,
+    sum(sketch_estimate(:'counts'::count_min, customer)) = sum(sketch_estimate(counts, customer)) AS same_estimates
+FROM orders, (SELECT :'heavy'::frequent_bigints AS heavy, :'counts'::count_min AS counts OFFSET 0) AS given;
 SELECT length(:'long') > 120000 AS is_long, count(*) AS by_text FROM orders WHERE sketch_contains(:'long', customer);
 SELECT actual, expected BETWEEN actual / 2 AND 2 * actual AS is_near
 FROM planned(format('SELECT FROM orders WHERE sketch_contains(%L::bloom_filter, customer)', :'long'));
@@ -73,7 +83,7 @@ RESET min_parallel_table_scan_size;
 RESET enable_indexscan;
 RESET enable_bitmapscan;
 \set VERBOSITY sqlstate
-SELECT '7 bytes'::bloom_filter_constant;
+SELECT '7 bytes'::sketch_constant;
 \set VERBOSITY default
 
 -- Costs are those of the work: a look-up costs little, and a call that reads and writes a whole sketch much.

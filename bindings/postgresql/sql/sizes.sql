@@ -18,6 +18,11 @@ SELECT count(*) < 0.02 * 10000 AS few_false_positives
 FROM generate_series(100001::bigint, 110000) AS i
 WHERE sketch_contains((SELECT bloom_filter_agg(j, 10000, 0.01) FROM generate_series(1::bigint, 10000) AS j), i);
 
+-- Filters for few items keep their rate, too: about 100 of 100,000 items, and not several hundred.
+SELECT n, (SELECT count(*) FROM generate_series(1000001::bigint, 1100000) AS i WHERE sketch_contains(filter, i)) <= 150 AS few_false_positives
+FROM (SELECT n, bloom_filter_agg(j, n, 0.001) AS filter FROM (VALUES (1), (2), (3), (10)) AS v (n), generate_series(1::bigint, n) AS j
+    GROUP BY n) AS small ORDER BY n;
+
 -- By default frequent items have 1024 slots.
 SELECT (sketch_status(frequent_strings_agg('a'))).max_map_size, (sketch_status(frequent_bigints_agg(1))).maximum_map_capacity;
 SELECT (sketch_status(frequent_strings_agg('a', 1, 8))).max_map_size, (sketch_status(frequent_bigints_agg(1, 1, 65536))).maximum_map_capacity;

@@ -94,7 +94,8 @@ static Rows bigint_rows(ds_sketch *handle, bool negatives, uint64 threshold)
     Rows rows = {0};
     rows.bounds = room_for(count, sizeof *rows.bounds);
     rows.bigints = room_for(count, sizeof *rows.bigints);
-    check_result(ds_frequent_items_i64_rows(handle, negatives, threshold, rows.bigints, count, rows.bounds, count, &rows.count));
+    check_result(
+        ds_frequent_items_i64_rows(handle, negatives, threshold, SIZE_MAX, rows.bigints, count, rows.bounds, count, &rows.count));
     return rows;
 }
 
@@ -106,8 +107,8 @@ static Rows string_rows(ds_sketch *handle, bool negatives, uint64 threshold, siz
     rows.bounds = room_for(count, sizeof *rows.bounds);
     rows.offsets = room_for(count + 1, sizeof *rows.offsets);
     rows.bytes = room_for(num_bytes, 1);
-    check_result(ds_frequent_items_string_rows(handle, negatives, threshold, rows.bytes, num_bytes, rows.offsets, count + 1,
-                                               rows.bounds, count, &rows.count, &num_bytes));
+    check_result(ds_frequent_items_string_rows(handle, negatives, threshold, SIZE_MAX, rows.bytes, num_bytes, rows.offsets,
+                                               count + 1, rows.bounds, count, &rows.count, &num_bytes));
     return rows;
 }
 

@@ -1,10 +1,11 @@
-/* The planner's support for `sketch_contains(filter, item)`: the estimate of the rows that pass, and a short form of a long constant.
+/* The planner's support for queries of an item in a sketch: a short form of a long constant, and for `sketch_contains(filter, item)` the
+ * estimate of the rows that pass.
  *
  * If the filter is known when the query is planned, the most common values of the item's column and those of its histogram are looked
  * up in it. If there are too few, the filter's number of items is compared with the column's distinct values, and the false-positive
  * rate is added. If the filter is not known, the default below is the estimate.
  *
- * A plan prints its constants, and a filter has some 100 kB. So a long one gets another type in the plan, whose output is short. */
+ * A plan prints its constants, and a sketch may have some 100 kB. So a long one gets another type in the plan, whose output is short. */
 #include "extension.h"
 
 #include <math.h>
@@ -14,17 +15,14 @@
 #include "catalog/dependency.h"
 #include "catalog/pg_class.h"
 #include "catalog/pg_inherits.h"
-#include "catalog/pg_language.h"
 #include "catalog/pg_proc.h"
 #include "catalog/pg_statistic.h"
 #include "catalog/pg_type.h"
-#include "miscadmin.h"
+#include "nodes/makefuncs.h"
 #include "nodes/nodeFuncs.h"
 #include "nodes/pathnodes.h"
 #include "nodes/supportnodes.h"
 #include "optimizer/optimizer.h"
-#include "utils/acl.h"
-#include "utils/catcache.h"
 #include "utils/lsyscache.h"
 #include "utils/selfuncs.h"
 #include "utils/syscache.h"
@@ -136,16 +134,6 @@ static double known_share(SupportRequestSelectivity *request, Const *filter)
 /* A shorter constant stays as it is. */
 #define LONG_CONSTANT 1024
 
-/* Returns whether the user may call a function. */
-static bool may_call(Oid function)
-{
-#if PG_VERSION_NUM >= 160000
-    return object_aclcheck(ProcedureRelationId, function, GetUserId(), ACL_EXECUTE) == ACLCHECK_OK;
-#else
-    return pg_proc_aclcheck(function, GetUserId(), ACL_EXECUTE) == ACLCHECK_OK;
-#endif
-}
-
 /* Returns whether a table is foreign, or one that inherits from it is, as a partition may be. */
 static bool is_foreign(const RangeTblEntry *table)
 {
@@ -169,55 +157,55 @@ static bool reads_foreign(const Query *query)
     return false;
 }
 
-/* Returns the extension's function `sketch_contains_constant`, or InvalidOid, and the type of its filter. The user may have no rights to
- * the schema, so names are not resolved. The owner of an extension can add functions to it, but only a superuser has any in C. */
-static Oid constant_function(Oid contains, Oid *type)
+/* Returns the extension's type `sketch_constant`, or InvalidOid. The user may have no rights to the schema, so names are not resolved. The
+ * owner of an extension can add types to it, but only a superuser can create base types. */
+static Oid constant_type(Oid function)
 {
-    Oid schema = get_func_namespace(contains), extension = getExtensionOfObject(ProcedureRelationId, contains), found = InvalidOid;
-    CatCList *list = SearchSysCacheList1(PROCNAMEARGSNSP, CStringGetDatum("sketch_contains_constant"));
-    for (int i = 0; i < list->n_members && OidIsValid(extension); i++) {
-        Form_pg_proc function = (Form_pg_proc)GETSTRUCT(&list->members[i]->tuple);
-        if (function->pronamespace != schema || function->prolang != ClanguageId) continue;
-        if (getExtensionOfObject(ProcedureRelationId, function->oid) != extension) continue;
-        found = function->oid;
-        *type = function->proargtypes.values[0];
+    Oid extension = getExtensionOfObject(ProcedureRelationId, function), found = InvalidOid;
+    HeapTuple tuple =
+        SearchSysCache2(TYPENAMENSP, CStringGetDatum("sketch_constant"), ObjectIdGetDatum(get_func_namespace(function)));
+    if (HeapTupleIsValid(tuple)) {
+        Form_pg_type type = (Form_pg_type)GETSTRUCT(tuple);
+        bool is_base = type->typtype == TYPTYPE_BASE && type->typlen == -1;
+        if (is_base && OidIsValid(extension) && getExtensionOfObject(TypeRelationId, type->oid) == extension) found = type->oid;
+        ReleaseSysCache(tuple);
     }
-    ReleaseSysCacheList(list);
     return found;
 }
 
-/* Returns the call of `contains` with the constant filter in its short form, or null if the call stays as it is. */
+/* Returns the call of a query with its constant sketch in the short form, or null if the call stays as it is. The constant has another
+ * type, under a cast that changes no byte. */
 static Node *with_short_constant(SupportRequestSimplify *request)
 {
     FuncExpr *call = request->fcall, *changed;
-    Const *filter = linitial(call->args), *constant;
-    Oid function, type = InvalidOid;
-    if (!IsA(filter, Const) || filter->constisnull || toast_raw_datum_size(filter->constvalue) < LONG_CONSTANT) return NULL;
+    Const *sketch = linitial(call->args), *constant;
+    Oid type;
+    if (!IsA(sketch, Const) || sketch->constisnull || toast_raw_datum_size(sketch->constvalue) < LONG_CONSTANT) return NULL;
     if (request->root != NULL && reads_foreign(request->root->parse)) return NULL;
-    function = constant_function(call->funcid, &type);
-    if (!OidIsValid(function) || function == call->funcid || !may_call(function) || !may_call(call->funcid)) return NULL;
-    constant = copyObject(filter);
+    type = constant_type(call->funcid);
+    if (!OidIsValid(type)) return NULL;
+    constant = copyObject(sketch);
     constant->consttype = type;
     changed = copyObject(call);
-    changed->funcid = function;
-    linitial(changed->args) = constant;
+    linitial(changed->args) =
+        makeRelabelType((Expr *)constant, sketch->consttype, sketch->consttypmod, sketch->constcollid, COERCE_IMPLICIT_CAST);
     return (Node *)changed;
 }
 
-PG_FUNCTION_INFO_V1(bloom_filter_constant_in);
+PG_FUNCTION_INFO_V1(sketch_constant_in);
 
-/* Raises an error: there is no text of a filter in a plan. */
-Datum bloom_filter_constant_in(PG_FUNCTION_ARGS)
+/* Raises an error: there is no text of a sketch in a plan. */
+Datum sketch_constant_in(PG_FUNCTION_ARGS)
 {
     (void)fcinfo;
-    ereport(ERROR, (errcode(ERRCODE_FEATURE_NOT_SUPPORTED), errmsg("a filter in a plan is not read")));
+    ereport(ERROR, (errcode(ERRCODE_FEATURE_NOT_SUPPORTED), errmsg("a sketch in a plan is not read")));
     pg_unreachable();
 }
 
-PG_FUNCTION_INFO_V1(bloom_filter_constant_out);
+PG_FUNCTION_INFO_V1(sketch_constant_out);
 
-/* Returns what a plan shows of a filter: its size. */
-Datum bloom_filter_constant_out(PG_FUNCTION_ARGS)
+/* Returns what a plan shows of a sketch: its size. */
+Datum sketch_constant_out(PG_FUNCTION_ARGS)
 {
     PG_RETURN_CSTRING(psprintf("%zu bytes", toast_raw_datum_size(PG_GETARG_DATUM(0)) - VARHDRSZ));
 }
@@ -232,10 +220,10 @@ static void estimate(SupportRequestSelectivity *request)
     request->selectivity = Min(1, Max(0, request->selectivity));
 }
 
-PG_FUNCTION_INFO_V1(bloom_filter_contains_support);
+PG_FUNCTION_INFO_V1(sketch_support);
 
-/* Serves the planner's requests for `contains`. */
-Datum bloom_filter_contains_support(PG_FUNCTION_ARGS)
+/* Serves the planner's requests for queries of an item: the short form of a constant for each, and the estimate for `contains`. */
+Datum sketch_support(PG_FUNCTION_ARGS)
 {
     Node *node = (Node *)PG_GETARG_POINTER(0), *answer = NULL;
     if (IsA(node, SupportRequestSelectivity) && list_length(((SupportRequestSelectivity *)node)->args) == 2) {

@@ -92,10 +92,11 @@ void filter_by_error(FunctionCallInfo fcinfo, Kind kind, ds_sketch *handle, int 
 {
     int64 items = PG_GETARG_INT64(number);
     uint64 questions = inverse(PG_GETARG_FLOAT8(number + 1), "false_positive_rate must be above 0 and below 1");
-    uint64_t num_bits = 0;
+    uint64_t num_bits = 0, least = 0;
     uint16_t num_hashes = 0;
     if (items < 1) raise_argument("expected_items must be above 0");
     check_result(ds_bloom_suggest_num_bits(items, questions, &num_bits));
     check_result(ds_bloom_suggest_num_hashes(num_bits, items, &num_hashes));
-    make_filter(kind, handle, num_bits, num_hashes);
+    check_result(ds_bloom_min_num_bits(items, questions, &least));
+    make_filter(kind, handle, Max(num_bits, least), num_hashes);
 }

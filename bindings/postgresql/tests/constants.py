@@ -1,4 +1,4 @@
-"""Filters that are constants of plans: they go to foreign servers whole, are printed short elsewhere, and need no rights of users."""
+"""Sketches that are constants of plans: they go to foreign servers whole, are printed short elsewhere, and need no rights of users."""
 from ends import code_of
 from stored import database
 
@@ -29,7 +29,7 @@ def pushed(tests):
                 cursor.execute(f"EXPLAIN (VERBOSE) {statement}")
                 plan = "\n".join(row[0] for row in cursor.fetchall())
                 if table == "own_parts":
-                    short = len(plan) < 2000 < len(filter) and "bytes'::bloom_filter_constant" in plan
+                    short = len(plan) < 2000 < len(filter) and "bytes'::sketch_constant" in plan
                     tests.check(f"a short plan of {table}, {form}", short, plan)
                 elif "OFFSET" not in form:
                     whole = f"sketch_contains('{filter}'" in plan.split("Remote SQL")[1]
@@ -37,7 +37,7 @@ def pushed(tests):
 
 
 def without_rights(tests):
-    """A user with no rights to the extension's schema, and a function of an owner that has the name of the extension's."""
+    """A user with no rights to the extension's schema, and an owner who would put another type in the place of the extension's."""
     on = tests.main
     with on.session() as session, session.cursor() as cursor:
         cursor.execute("CREATE ROLE owner_of_all LOGIN; CREATE ROLE reader_of_view LOGIN")
@@ -47,16 +47,10 @@ def without_rights(tests):
                        "CREATE TABLE numbers AS SELECT i FROM generate_series(1::bigint, 1000) AS i")
         cursor.execute("SELECT bloom_filter_agg(i, 20000, 0.01)::text FROM generate_series(1, 30) AS i")
         asked = f"SELECT count(*) FROM kept.numbers WHERE kept.sketch_contains('{cursor.fetchone()[0]}', i)"
-        cursor.execute(f"CREATE VIEW public.found AS {asked}; GRANT SELECT ON public.found TO reader_of_view;"
-                       "CREATE FUNCTION sketch_contains_constant(bloom_filter, bigint) RETURNS boolean LANGUAGE plpgsql "
-                       "AS $$BEGIN ALTER ROLE owner_of_all SUPERUSER; RETURN true; END$$")
-        tests.check("an owner adds a function to the extension", code_of(
-            cursor, "ALTER EXTENSION sketches_rattle ADD FUNCTION sketch_contains_constant(bloom_filter, bigint)") is None)
-    with on.session("guarded") as session, session.cursor() as cursor:
-        cursor.execute(asked)
-        tests.check("an owner's function is not called", cursor.fetchone() == (30,))
-        cursor.execute("SELECT rolsuper FROM pg_roles WHERE rolname = 'owner_of_all'")
-        tests.check("an owner is no superuser", cursor.fetchone() == (False,))
+        cursor.execute(f"CREATE VIEW public.found AS {asked}; GRANT SELECT ON public.found TO reader_of_view")
+        for statement in ["ALTER EXTENSION sketches_rattle DROP TYPE sketch_constant", "DROP TYPE sketch_constant CASCADE",
+                          "ALTER TYPE sketch_constant RENAME TO other"]:
+            tests.check(f"an owner does not {statement}", code_of(cursor, statement) in ("42501", "2BP01"))
     with on.session("guarded", user="reader_of_view") as session, session.cursor() as cursor:
         code = code_of(cursor, "SELECT * FROM found")
         tests.check("a view for a user without rights to the schema", code is None and cursor.fetchone() == (30,), code)

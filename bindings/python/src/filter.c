@@ -239,6 +239,7 @@ static PyMethodDef filter_methods[] = {
     {"union_all", sketch_merge_all, METH_O, union_all_doc},
     {"reset", sketch_reset, METH_NOARGS, reset_doc},
     CLASS_METHOD("suggest_num_bits", filter_suggest_bits),
+    CLASS_METHOD("min_num_bits", filter_min_bits),
     CLASS_METHOD("suggest_num_hashes", filter_suggest_hashes),
     METHODS_OF_ALL,
     {NULL, NULL, 0, NULL},

@@ -139,14 +139,15 @@ static int32_t read_rows(Use *use, const Wanted *wanted, Rows *rows)
     size_t room = rows->rows;
     switch (use->sketch->kind) {
     case DS_FREQUENT_ITEMS_U64:
-        return ds_frequent_items_u64_rows(&use->share, no_false_negatives, wanted->threshold, rows->numbers, room, rows->bounds,
-                                          room, &rows->rows);
-    case DS_FREQUENT_ITEMS_I64:
-        return ds_frequent_items_i64_rows(&use->share, no_false_negatives, wanted->threshold, (int64_t *)rows->numbers, room,
+        return ds_frequent_items_u64_rows(&use->share, no_false_negatives, wanted->threshold, SIZE_MAX, rows->numbers, room,
                                           rows->bounds, room, &rows->rows);
+    case DS_FREQUENT_ITEMS_I64:
+        return ds_frequent_items_i64_rows(&use->share, no_false_negatives, wanted->threshold, SIZE_MAX, (int64_t *)rows->numbers,
+                                          room, rows->bounds, room, &rows->rows);
     default:
-        return ds_frequent_items_string_rows(&use->share, no_false_negatives, wanted->threshold, rows->bytes, rows->num_bytes,
-                                             rows->numbers, room + 1, rows->bounds, room, &rows->rows, &rows->num_bytes);
+        return ds_frequent_items_string_rows(&use->share, no_false_negatives, wanted->threshold, SIZE_MAX, rows->bytes,
+                                             rows->num_bytes, rows->numbers, room + 1, rows->bounds, room, &rows->rows,
+                                             &rows->num_bytes);
     }
 }
 

@@ -22,11 +22,11 @@ static PyObject *suggested(int32_t answer, uint64_t size)
     return answer < 0 ? refuse(answer) : PyLong_FromUnsignedLongLong(size);
 }
 
-const char filter_suggest_bits_doc[] =
-    PyDoc_STR(
+const char filter_suggest_bits_doc[] = PyDoc_STR(
 "suggest_num_bits($type, num_items, questions)\n--\n\n"
 "Return the number of bits of a filter for `num_items` items and a false-positive rate of 1 / `questions`.\n\n"
-"It is that of the published formula, and never less. The rate holds under ideal hashes.\n\n"
+"It is that of the published formula, and never less. The rate holds under ideal hashes. With few items or a low rate it\n"
+"is higher: take at least `min_num_bits`.\n\n"
 ">>> import datasketches_rattle as ds\n"
 ">>> ds.BloomFilter.suggest_num_bits(num_items=1000, questions=100)\n"
 "9603\n");
@@ -36,6 +36,23 @@ PyObject *filter_suggest_bits(PyObject *Py_UNUSED(type), PyObject *args, PyObjec
     uint64_t items, questions, bits = 0;
     if (!two_naturals(args, keywords, "OO:suggest_num_bits", "num_items", "questions", &items, &questions)) return NULL;
     int32_t answer = ds_bloom_suggest_num_bits(items, questions, &bits);
+    return suggested(answer, bits);
+}
+
+const char filter_min_bits_doc[] = PyDoc_STR(
+"min_num_bits($type, num_items, questions)\n--\n\n"
+"Return the least number of bits of a filter with which two hashes repeat less often than the rate of 1 / `questions`.\n\n"
+"It is 4 times the square root of `num_items` times `questions`, rounded up. Make a filter of the larger one of\n"
+"this number and `suggest_num_bits`. Its rate is not proved. As measured, it is at most 1.3 / `questions`.\n\n"
+">>> import datasketches_rattle as ds\n"
+">>> ds.BloomFilter.min_num_bits(num_items=100, questions=10000)\n"
+"4000\n");
+
+PyObject *filter_min_bits(PyObject *Py_UNUSED(type), PyObject *args, PyObject *keywords)
+{
+    uint64_t items, questions, bits = 0;
+    if (!two_naturals(args, keywords, "OO:min_num_bits", "num_items", "questions", &items, &questions)) return NULL;
+    int32_t answer = ds_bloom_min_num_bits(items, questions, &bits);
     return suggested(answer, bits);
 }
 

@@ -244,11 +244,13 @@ PyObject *frequent_top(PyObject *object, PyObject *args, PyObject *keywords);
 /* --- sizes.c --- */
 
 extern const char filter_suggest_bits_doc[];
+extern const char filter_min_bits_doc[];
 extern const char filter_suggest_hashes_doc[];
 extern const char count_suggest_buckets_doc[];
 extern const char count_suggest_hashes_doc[];
 extern const char frequent_suggest_max_map_size_doc[];
 PyObject *filter_suggest_bits(PyObject *type, PyObject *args, PyObject *keywords);
+PyObject *filter_min_bits(PyObject *type, PyObject *args, PyObject *keywords);
 PyObject *filter_suggest_hashes(PyObject *type, PyObject *args, PyObject *keywords);
 PyObject *count_suggest_buckets(PyObject *type, PyObject *args, PyObject *keywords);
 PyObject *count_suggest_hashes(PyObject *type, PyObject *args, PyObject *keywords);

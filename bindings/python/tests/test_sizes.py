@@ -55,6 +55,16 @@ class Sizes(unittest.TestCase):
         for items, questions in [(0, 2), (1, 0), (1, 1), (2**64 - 1, 2), (10**11, 2)]:
             self.refused("BadNumBits", ds.BloomFilter.suggest_num_bits, items, questions)
 
+    def test_least_bits(self):
+        drawn = random.Random(4)
+        rows = [(drawn.randrange(1, 10**9), drawn.randrange(2, 10**9)) for _ in range(300)]
+        for items, questions in [(0, 2), (1, 1), (1, 1000), (100, 10**4), (2**35, 2**33), *rows]:
+            square = 16 * items * questions
+            bits = math.isqrt(square)
+            self.assertEqual(ds.BloomFilter.min_num_bits(items, questions), bits + (bits * bits < square))
+        for items, questions in [(2**36, 2**36), (2**64 - 1, 2**64 - 1), (2**62, 2**62)]:
+            self.refused("BadNumBits", ds.BloomFilter.min_num_bits, items, questions)
+
     def test_hashes_of_filters(self):
         drawn = random.Random(3)
         for _ in range(300):

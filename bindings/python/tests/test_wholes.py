@@ -509,7 +509,7 @@ class Named(ds.BloomFilter):
 FIELDS = {ds.BloomFilter: ["capacity", "num_hashes", "seed", "bits_used"],
           ds.CountMinSketch: ["num_hashes", "num_buckets", "seed", "signed", "total_weight"],
           ds.FrequentItemsSketch: ["total_weight", "maximum_error", "num_active_items", "max_map_size", "sample_size"]}
-OF_A_CLASS = {"deserialize", "deserialize_prefix", "suggest_num_bits", "suggest_num_hashes", "suggest_num_buckets",
+OF_A_CLASS = {"deserialize", "deserialize_prefix", "suggest_num_bits", "min_num_bits", "suggest_num_hashes", "suggest_num_buckets",
               "suggest_max_map_size", "unpickle_max_bytes", "from_file"}
 
 

@@ -63,20 +63,24 @@ static double rate_of(double bits, double hashes)
 
 /* Writes the bits and hashes of a filter: those of the library, as in other languages, if the rate is within 1 % of the given one. The
  * library rounds the hashes up, which is worse for rates such as 0.5. Then the hashes are the better ones of two whole numbers, and
- * there are as many bits as they need. */
+ * there are as many bits as they need. Small filters have the library's least number of bits. */
 static int32_t suggest(const Sizes *sizes, uint64_t *num_bits, uint16_t *num_hashes)
 {
     double items = (double)sizes->capacity, bits, hashes;
+    uint64_t least;
     int32_t result = ds_bloom_suggest_num_bits((uint64_t)sizes->capacity, inverse(sizes->rate), num_bits);
     if (result == DS_OK) result = ds_bloom_suggest_num_hashes(*num_bits, (uint64_t)sizes->capacity, num_hashes);
     if (result != DS_OK) return result;
     bits = (double)*num_bits / items;
     hashes = *num_hashes;
-    if (rate_of(bits, hashes) <= 1.01 * sizes->rate) return DS_OK;
-    if (hashes > 1 && rate_of(bits, hashes - 1) < rate_of(bits, hashes)) hashes--;
-    if (rate_of(bits, hashes) > sizes->rate) *num_bits = (uint64_t)ceil(items * -hashes / log1p(-pow(sizes->rate, 1 / hashes)));
-    *num_hashes = (uint16_t)hashes;
-    return DS_OK;
+    if (rate_of(bits, hashes) > 1.01 * sizes->rate) {
+        if (hashes > 1 && rate_of(bits, hashes - 1) < rate_of(bits, hashes)) hashes--;
+        if (rate_of(bits, hashes) > sizes->rate) *num_bits = (uint64_t)ceil(items * -hashes / log1p(-pow(sizes->rate, 1 / hashes)));
+        *num_hashes = (uint16_t)hashes;
+    }
+    result = ds_bloom_min_num_bits((uint64_t)sizes->capacity, inverse(sizes->rate), &least);
+    if (result == DS_OK && *num_bits < least) *num_bits = least;
+    return result;
 }
 
 /* Returns a new filter, or null after an error. */

@@ -241,8 +241,8 @@ static bool take_rows(Call *call, uint64_t threshold, uint64_t most, Rows *rows)
         rows->bounds = rows->block;
         rows->offsets = (uint64_t *)(rows->bounds + active);
         rows->bytes = (uint8_t *)(rows->offsets + active + 1);
-        result = ds_frequent_items_string_rows(&sketch->handle, true, threshold, rows->bytes, sketch->string_bytes, rows->offsets,
-                                               active + 1, rows->bounds, active, &rows->count, &num_bytes);
+        result = ds_frequent_items_string_rows(&sketch->handle, true, threshold, SIZE_MAX, rows->bytes, sketch->string_bytes,
+                                               rows->offsets, active + 1, rows->bounds, active, &rows->count, &num_bytes);
     }
     if (result >= 0) return true;
     free_block(rows->block);

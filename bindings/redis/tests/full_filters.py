@@ -25,10 +25,10 @@ def default_sizes(tests):
     on.words = ["capacity", 50, "error", "0.0001"]
     with on, on.client() as client:
         client.done("BF.ADD", "f", "a")
-        # n ln(1 / rate) / (ln 2)^2 bits: 959 for 50 items and 0.0001, in words of 64
+        # at least 4 sqrt(n / rate) bits: 2829 for 50 items and 0.0001, in words of 64
         tests.check(
             "sizes as arguments",
-            client.done("BF.INFO", "f", "CAPACITY") == [50] and 120 <= client.done("MEMORY", "USAGE", "f") < 500,
+            client.done("BF.INFO", "f", "CAPACITY") == [50] and 354 <= client.done("MEMORY", "USAGE", "f") < 800,
         )
         got = client("BF.MADD", "f", *range(100))
         tests.check(
@@ -40,6 +40,18 @@ def default_sizes(tests):
         on.start(wait=False)
         tests.check(f"arguments {words}", on.process.wait(timeout=20) == 1 and "the arguments of the module are" in on.log())
         on.process = None
+
+
+def small_filters(tests):
+    """Filters for few items keep their rate."""
+    with tests.main.client() as client:
+        client.done("FLUSHALL")
+        for count in [1, 2, 3, 10]:
+            key = f"small {count}"
+            client.done("BF.RESERVE", key, "0.001", count)
+            client.done("BF.MADD", key, *[f"item {i}" for i in range(count)])
+            wrong = sum(client.done("BF.MEXISTS", key, *[f"other {i}" for i in range(50000)]))
+            tests.check(f"the rate of a filter for {count}", wrong <= 90, wrong)
 
 
 def full_filters(tests):

@@ -58,10 +58,12 @@ class Sketch:
 
 
 def filter_for(library, capacity, questions, seed):
-    """Returns an empty filter of the published sizes."""
-    bits, hashes = c.c_uint64(), c.c_uint16()
+    """Returns an empty filter of the published sizes, with at least the minimum of bits."""
+    bits, hashes, least = c.c_uint64(), c.c_uint16(), c.c_uint64()
     library.checked("ds_bloom_suggest_num_bits", c.c_uint64(capacity), c.c_uint64(questions), c.byref(bits))
     library.checked("ds_bloom_suggest_num_hashes", bits, c.c_uint64(capacity), c.byref(hashes))
+    library.checked("ds_bloom_min_num_bits", c.c_uint64(capacity), c.c_uint64(questions), c.byref(least))
+    bits.value = max(bits.value, least.value)
     sketch = Sketch(library)
     sketch.call("ds_bloom_new", bits, hashes, c.c_uint64(seed))
     return sketch

@@ -111,6 +111,7 @@ GROUPS = [
     guards.parameters,
     guards.damaged_keys,
     full_filters.default_sizes,
+    full_filters.small_filters,
     full_filters.full_filters,
     full_filters.full_replicas,
     stored.reloads,

@@ -411,6 +411,7 @@ extern "C" {
         handle: *mut ds_sketch,
         no_false_negatives: bool,
         threshold: u64,
+        limit: usize,
         items: *mut u64,
         num_items: usize,
         bounds: *mut ds_frequent_items_bounds,
@@ -421,6 +422,7 @@ extern "C" {
         handle: *mut ds_sketch,
         no_false_negatives: bool,
         threshold: u64,
+        limit: usize,
         items: *mut i64,
         num_items: usize,
         bounds: *mut ds_frequent_items_bounds,
@@ -431,6 +433,7 @@ extern "C" {
         handle: *mut ds_sketch,
         no_false_negatives: bool,
         threshold: u64,
+        limit: usize,
         bytes: *mut u8,
         room_for_bytes: usize,
         offsets: *mut u64,
@@ -448,5 +451,6 @@ extern "C" {
 
     pub fn ds_frequent_items_suggest_max_map_size(parts: usize, max_map_size: *mut usize) -> i32;
     pub fn ds_bloom_suggest_num_bits(num_items: u64, questions: u64, num_bits: *mut u64) -> i32;
+    pub fn ds_bloom_min_num_bits(num_items: u64, questions: u64, num_bits: *mut u64) -> i32;
     pub fn ds_bloom_suggest_num_hashes(num_bits: u64, num_items: u64, num_hashes: *mut u16) -> i32;
 }

@@ -240,6 +240,8 @@ fn numbers_of_a_filter() {
     assert_eq!((one.capacity(), one.num_hashes()), (64, 1));
     let size = BloomFilter::suggest_num_bits(1000, 100).unwrap();
     assert!((9585..9643).contains(&size));
+    assert_eq!(BloomFilter::min_num_bits(100, 10_000).unwrap(), 4000);
+    assert_eq!(BloomFilter::min_num_bits(1 << 36, 1 << 36).unwrap_err().name(), "BadNumBits");
     assert_eq!(BloomFilter::suggest_num_hashes(size, 1000).unwrap(), 7);
     assert_eq!(BloomFilter::suggest_num_bits(0, 100).unwrap_err().name(), "BadNumBits");
     assert_eq!(BloomFilter::suggest_num_hashes(size, 0).unwrap_err().name(), "BadNumHashes");

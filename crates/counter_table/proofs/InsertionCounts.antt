@@ -40,7 +40,7 @@ pub table_size_of : (n m : ℕ) → n ≡ m → IsTrue (is_power_of_two m) → m
 table_size_of n m e power limit = let P : ℕ → Type 0 = λ k. IsTableSize k in subst P (sym e) (record { power = power; limit = limit })
 
 -- a table without an entry
-pub table_is : {T : Type 0} {key : TableKey} (slots : List (Slot T)) (n : ℕ) → entries_of slots ≡ [] → length slots ≡ n → table_of key slots ≡ record { entries = []; size = n; key = key }
+pub table_is : {T : Type 0} {key : TableKey} {purges : ℕ} (slots : List (Slot T)) (n : ℕ) → entries_of slots ≡ [] → length slots ≡ n → table_of key purges slots ≡ record { entries = []; size = n; key = key; purges = purges }
 table_is slots n a b = rw (a, b) refl
 
 -- a slice written back whole

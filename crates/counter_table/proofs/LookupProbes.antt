@@ -136,12 +136,12 @@ lookup_found names alike home h slots below placed d index probed (Some c) respe
     lookup_slot names alike slots index w.0 d w.1 w.3 ∙ ap Some w.2
 
 -- where x is absent, all of its reach was looked at
-pub reach_absent : {T : Type 0} {key : TableKey} (names : T → Bool) (home : T → ℕ) (slots : List (Slot T)) → ((x : T) → home x < length slots) → IsPlaced home slots → HasFree slots → (x : T) (index probed : ℕ) → IsProbe names (home x) slots index None probed → IsReach home (table_of key slots) x probed
+pub reach_absent : {T : Type 0} {key : TableKey} {purges : ℕ} (names : T → Bool) (home : T → ℕ) (slots : List (Slot T)) → ((x : T) → home x < length slots) → IsPlaced home slots → HasFree slots → (x : T) (index probed : ℕ) → IsProbe names (home x) slots index None probed → IsReach home (table_of key purges slots) x probed
 reach_absent names home slots below placed free_slot x index probed p =
     IsReach-from_free home slots below placed free_slot x probed p.some p.short (λ j l. p.passed.taken j (omega arith)) (ap (is_taken slots) (sym p.index_is) ∙ p.free refl)
 
 -- where x is present, less
-pub reach_present : {T : Type 0} {key : TableKey} (names : T → Bool) (home : T → ℕ) (slots : List (Slot T)) → ((x : T) → home x < length slots) → IsPlaced home slots → HasFree slots → (x : T) (index probed c : ℕ) → IsProbe names (home x) slots index (Some c) probed → IsShortOfReach home (table_of key slots) x probed
+pub reach_present : {T : Type 0} {key : TableKey} {purges : ℕ} (names : T → Bool) (home : T → ℕ) (slots : List (Slot T)) → ((x : T) → home x < length slots) → IsPlaced home slots → HasFree slots → (x : T) (index probed c : ℕ) → IsProbe names (home x) slots index (Some c) probed → IsShortOfReach home (table_of key purges slots) x probed
 reach_present names home slots below placed free_slot x index probed c p =
     let w = p.here c refl in
     let taken : (j : ℕ) → j < probed → is_taken slots (ahead (length slots) (home x) j) ≡ true = λ j l. elim (cases_eq j (probed - 1)) [
@@ -151,11 +151,11 @@ reach_present names home slots below placed free_slot x index probed c p =
     let r = reach_above home slots below placed free_slot x probed taken in
     record { some = p.some; reach = r.0; is_reach = r.1; less = r.2 }
 
-reach_if_absent : {T : Type 0} {key : TableKey} (names : T → Bool) (home : T → ℕ) (slots : List (Slot T)) → ((x : T) → home x < length slots) → IsPlaced home slots → HasFree slots → (x : T) (index probed : ℕ) (found : Option ℕ) → is_some found ≡ false → IsProbe names (home x) slots index found probed → IsReach home (table_of key slots) x probed
+reach_if_absent : {T : Type 0} {key : TableKey} {purges : ℕ} (names : T → Bool) (home : T → ℕ) (slots : List (Slot T)) → ((x : T) → home x < length slots) → IsPlaced home slots → HasFree slots → (x : T) (index probed : ℕ) (found : Option ℕ) → is_some found ≡ false → IsProbe names (home x) slots index found probed → IsReach home (table_of key purges slots) x probed
 reach_if_absent names home slots below placed free_slot x index probed None f p = reach_absent names home slots below placed free_slot x index probed p
 reach_if_absent names home slots below placed free_slot x index probed (Some c) f p = absurd (false≢true (sym f))
 
-reach_if_present : {T : Type 0} {key : TableKey} (names : T → Bool) (home : T → ℕ) (slots : List (Slot T)) → ((x : T) → home x < length slots) → IsPlaced home slots → HasFree slots → (x : T) (index probed : ℕ) (found : Option ℕ) → is_some found ≡ true → IsProbe names (home x) slots index found probed → IsShortOfReach home (table_of key slots) x probed
+reach_if_present : {T : Type 0} {key : TableKey} {purges : ℕ} (names : T → Bool) (home : T → ℕ) (slots : List (Slot T)) → ((x : T) → home x < length slots) → IsPlaced home slots → HasFree slots → (x : T) (index probed : ℕ) (found : Option ℕ) → is_some found ≡ true → IsProbe names (home x) slots index found probed → IsShortOfReach home (table_of key purges slots) x probed
 reach_if_present names home slots below placed free_slot x index probed None t p = absurd (false≢true t)
 reach_if_present names home slots below placed free_slot x index probed (Some c) t p = reach_present names home slots below placed free_slot x index probed c p
 
@@ -171,8 +171,8 @@ pub record Answers {T : Type 0} (eq : T → T → Bool) (hashed : T → ℕ) (ta
   pub few : probed ≤ length table.entries + 1
   pub within : probed ≤ table.size
 
-pub answers : {T : Type 0} {key : TableKey} {eq : T → T → Bool} → IsEquivalence eq → {hashed : T → ℕ} → ((x y : T) → IsTrue (eq x y) → hashed x ≡ hashed y) → (slots : List (Slot T)) → IsSlots eq hashed slots →
-    (x : T) (index : ℕ) (found : Option ℕ) (probed : ℕ) → IsProbe (eq x) (home_in hashed (length slots) x) slots index found probed → Answers eq hashed (table_of key slots) x found probed
+pub answers : {T : Type 0} {key : TableKey} {purges : ℕ} {eq : T → T → Bool} → IsEquivalence eq → {hashed : T → ℕ} → ((x y : T) → IsTrue (eq x y) → hashed x ≡ hashed y) → (slots : List (Slot T)) → IsSlots eq hashed slots →
+    (x : T) (index : ℕ) (found : Option ℕ) (probed : ℕ) → IsProbe (eq x) (home_in hashed (length slots) x) slots index found probed → Answers eq hashed (table_of key purges slots) x found probed
 answers {T} {eq} laws {hashed} respects slots s x index found probed p =
     let n = length slots in
     let home : T → ℕ = home_in hashed n in
@@ -189,7 +189,7 @@ answers {T} {eq} laws {hashed} respects slots s x index found probed p =
     }
 
 -- of a table under a view
-pub answers_of : {T : Type 0} {eq : T → T → Bool} → IsEquivalence eq → {input : T → List (List ℕ)} → ((x y : T) → IsTrue (eq x y) → input x ≡ input y) → (of : KeyedSlots T) → IsSlots eq (hash_in of.key input) of.slots → (table : Table T) → table_of of.key of.slots ≡ table →
+pub answers_of : {T : Type 0} {purges : ℕ} {eq : T → T → Bool} → IsEquivalence eq → {input : T → List (List ℕ)} → ((x y : T) → IsTrue (eq x y) → input x ≡ input y) → (of : KeyedSlots T) → IsSlots eq (hash_in of.key input) of.slots → (table : Table T) → table_of of.key purges of.slots ≡ table →
     (x : T) (index : ℕ) (found : Option ℕ) (probed : ℕ) → IsProbe (eq x) (home_in (hash_in of.key input) (length of.slots) x) of.slots index found probed → Answers eq (hash_in table.key input) table x found probed
 answers_of {T} {eq} laws {input} respects of s table view x index found probed p =
     let P : Table T → Type 0 = λ t. Answers eq (hash_in t.key input) t x found probed in
@@ -204,7 +204,7 @@ key_found {T} {eq} {hashed} {names} {fed} key slots s index found probed p =
     lookup_found names key.alike home ((fed % n)) slots (remainder_below _ n (some_size n s.size)) s.placed s.distinct index probed found (λ y t. ap (λ f. f % n) (key.same_hash y t)) p
 
 -- in a table under a view
-pub key_found_of : {T : Type 0} {eq : T → T → Bool} (input : T → List (List ℕ)) {names : T → Bool} {fed : List ℕ} → ((x : T) → IsTrue (names x) → fed ≡ concat (input x)) → ((x y : T) → IsTrue (names x) → names y ≡ eq x y) → (of : KeyedSlots T) → IsSlots eq (hash_in of.key input) of.slots → (table : Table T) → table_of of.key of.slots ≡ table →
+pub key_found_of : {T : Type 0} {purges : ℕ} {eq : T → T → Bool} (input : T → List (List ℕ)) {names : T → Bool} {fed : List ℕ} → ((x : T) → IsTrue (names x) → fed ≡ concat (input x)) → ((x y : T) → IsTrue (names x) → names y ≡ eq x y) → (of : KeyedSlots T) → IsSlots eq (hash_in of.key input) of.slots → (table : Table T) → table_of of.key purges of.slots ≡ table →
     (index : ℕ) (found : Option ℕ) (probed : ℕ) → IsProbe names (hash_of of.key fed % length of.slots) of.slots index found probed → lookup names table.entries ≡ found
 key_found_of {T} input {names = names} respects alike of s table view index found probed p =
     ap (λ t. lookup names t.entries) (sym view) ∙ key_found (record { same_hash = hashed_as_named input of.key respects; alike = alike }) of.slots s index found probed p

@@ -104,7 +104,7 @@ near_home home slots below placed p k m s l b e f a =
     ]
 
 -- ---- full is taken
-pub taken_if_full : {T : Type 0} {key : TableKey} (home : T → ℕ) (slots : List (Slot T)) → ((x : T) → home x < length slots) → IsPlaced home slots → (p : ℕ) → p < length slots → IsFullIndex home (table_of key slots) p → is_taken slots p ≡ true
+pub taken_if_full : {T : Type 0} {key : TableKey} {purges : ℕ} (home : T → ℕ) (slots : List (Slot T)) → ((x : T) → home x < length slots) → IsPlaced home slots → (p : ℕ) → p < length slots → IsFullIndex home (table_of key purges slots) p → is_taken slots p ≡ true
 taken_if_full {T} home slots below placed p l full =
     let n = length slots in
     let q : T × ℕ → Bool = λ e. leb (distance n (home e.0) p) full.back in
@@ -117,7 +117,7 @@ taken_if_full {T} home slots below placed p l full =
           absurd (omega (arith, full.many, count_entries q slots, fewer, window n p full.back l full.within))
     ]
 
-pub full_if_taken : {T : Type 0} {key : TableKey} (home : T → ℕ) (slots : List (Slot T)) → ((x : T) → home x < length slots) → IsPlaced home slots → HasFree slots → (p : ℕ) → is_taken slots p ≡ true → IsFullIndex home (table_of key slots) p
+pub full_if_taken : {T : Type 0} {key : TableKey} {purges : ℕ} (home : T → ℕ) (slots : List (Slot T)) → ((x : T) → home x < length slots) → IsPlaced home slots → HasFree slots → (p : ℕ) → is_taken slots p ≡ true → IsFullIndex home (table_of key purges slots) p
 full_if_taken {T} home slots below placed free_slot p t =
     let n = length slots in
     let l : p < n = is_taken-below slots p t in
@@ -137,8 +137,8 @@ full_if_taken {T} home slots below placed free_slot p t =
 
 -- ---- the reach, by what a look-up saw
 -- n indices from home(x) on, all taken but the last
-pub IsReach-from_free : {T : Type 0} {key : TableKey} (home : T → ℕ) (slots : List (Slot T)) → ((x : T) → home x < length slots) → IsPlaced home slots → HasFree slots → (x : T) (n : ℕ) → 1 ≤ n → n ≤ length slots →
-    ((j : ℕ) → j + 1 < n → is_taken slots (ahead (length slots) (home x) j) ≡ true) → is_taken slots (ahead (length slots) (home x) (n - 1)) ≡ false → IsReach home (table_of key slots) x n
+pub IsReach-from_free : {T : Type 0} {key : TableKey} {purges : ℕ} (home : T → ℕ) (slots : List (Slot T)) → ((x : T) → home x < length slots) → IsPlaced home slots → HasFree slots → (x : T) (n : ℕ) → 1 ≤ n → n ≤ length slots →
+    ((j : ℕ) → j + 1 < n → is_taken slots (ahead (length slots) (home x) j) ≡ true) → is_taken slots (ahead (length slots) (home x) (n - 1)) ≡ false → IsReach home (table_of key purges slots) x n
 IsReach-from_free home slots below placed free_slot x n some short taken free =
     let a = ahead_is (length slots) (home x) (n - 1) (below x) (omega arith) in
     record {
@@ -185,8 +185,8 @@ taken_within {T} slots h (suc b) l m taken =
     omega (arith, many, count_entries every slots, window n p b a.below (omega arith), count_by-le-length every (entries_of slots))
 
 -- n indices from home(x) on, all taken
-pub reach_above : {T : Type 0} {key : TableKey} (home : T → ℕ) (slots : List (Slot T)) → ((x : T) → home x < length slots) → IsPlaced home slots → HasFree slots → (x : T) (n : ℕ) →
-    ((j : ℕ) → j < n → is_taken slots (ahead (length slots) (home x) j) ≡ true) → (r : ℕ) × IsReach home (table_of key slots) x r × (n < r)
+pub reach_above : {T : Type 0} {key : TableKey} {purges : ℕ} (home : T → ℕ) (slots : List (Slot T)) → ((x : T) → home x < length slots) → IsPlaced home slots → HasFree slots → (x : T) (n : ℕ) →
+    ((j : ℕ) → j < n → is_taken slots (ahead (length slots) (home x) j) ≡ true) → (r : ℕ) × IsReach home (table_of key purges slots) x r × (n < r)
 reach_above home slots below placed free_slot x n taken =
     let r = stop_of slots (home x) (below x) free_slot in
     let over : n ≤ r.at = elim (cases_lt r.at n) [ inl a ↦ absurd (both_ways _ r.free (taken r.at a)) | inr b ↦ b ] in

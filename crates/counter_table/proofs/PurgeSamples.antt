@@ -1,5 +1,5 @@
 -- The entries of the first slots.
-use Rattle.std.proofs.Common.{◌≡◌, ℕ, ◌+◌, ◌-◌, ◌<◌, ◌≤◌, arith, List, [], ◌∷◌, ◌++◌, length, length-take, get_or, map, min, inl, inr, append_assoc, refl, ap, sym, ◌∙◌, take, drop, IsPermutation}
+use Rattle.std.proofs.Common.{◌≡◌, ℕ, Bool, ◌+◌, ◌-◌, ◌<◌, ◌≤◌, arith, List, [], ◌∷◌, ◌++◌, length, length-take, get_or, map, min, inl, inr, append_assoc, refl, ap, sym, ◌∙◌, take, drop, IsPermutation}
 use Rattle.std.proofs.Math.Seq.{take-append-add}
 use Rattle.std.proofs.lemmas.Bool.{cases_lt}
 use Rattle.std.proofs.lemmas.List.{take-append-drop, take-append-le, take_at, take_all, take_more, append-nil, length-map, map-append}
@@ -7,8 +7,9 @@ use Rattle.std.proofs.lemmas.List.Elements.{filter_map-append}
 use Rattle.std.proofs.lemmas.List.Sorted.{IsPermutation-trans, IsPermutation-append_comm, IsPermutation-append_left}
 use Rattle.counter_table.specs.declared.slot.Slot.{Slot}
 use Rattle.counter_table.specs.declared.slot.Slot.TheVariants.{Free, Taken}
-use Rattle.counter_table.specs.Samples.{entries_from}
-use Rattle.counter_table.specs.Slots.{entries_of, slot_entry}
+use Rattle.counter_table.specs.declared.table_key.TableKey.{TableKey}
+use Rattle.counter_table.specs.Samples.{entries_from, IsSampledFrom}
+use Rattle.counter_table.specs.Slots.{IsSlots, entries_of, slot_entry, table_of}
 use Rattle.counter_table.specs.Tables.{IsSampleMiddle}
 
 -- they are the first entries
@@ -78,3 +79,7 @@ sample_of_all n m es all same w = record {
   at_most = w.at_most;
   among = w.among;
 }
+
+-- a sample of a table's slots is one of the table
+pub sampled_from : {T : Type 0} {eq : T → T → Bool} {hashed : T → ℕ} {key : TableKey} {purges start n m : ℕ} {slots : List (Slot T)} → IsSlots eq hashed slots → IsSampleMiddle n (take n (entries_from start slots)) m → IsSampledFrom eq hashed (table_of key purges slots) start n m
+sampled_from {slots = slots} placed middle = record { slots = slots; placed = placed; entries = refl; size = refl; middle = middle }

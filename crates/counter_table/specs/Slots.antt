@@ -48,8 +48,9 @@ pub record KeyedSlots (T : Type 0) : Type 0 where
   pub key : TableKey
   pub slots : List (Slot T)
 
-abbrev pub table_of : {T : Type 0} → TableKey → List (Slot T) → Table T
-table_of key slots = record { entries = entries_of slots; size = length slots; key = key }
+-- the table of slots, after this number of purges
+abbrev pub table_of : {T : Type 0} → TableKey → ℕ → List (Slot T) → Table T
+table_of key purges slots = record { entries = entries_of slots; size = length slots; key = key; purges = purges }
 
 -- each drift is the distance from the item's home plus 1, and every index from the home to the entry is taken
 pub record IsPlaced {T : Type 0} (home : T → ℕ) (slots : List (Slot T)) : Type 0 where

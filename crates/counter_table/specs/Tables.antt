@@ -4,11 +4,12 @@ use Rattle.std.specs.List.{list_any, AllZip}
 use Rattle.std.specs.Map.{lookup}
 use Rattle.counter_table.specs.declared.table_key.TableKey.{TableKey}
 
--- a table: its entries in some order, its size, and its key
+-- a table: its entries in some order, its size, its key, and the number of its purges modulo 2^64
 pub record Table (T : Type 0) : Type 0 where
   pub entries : List (T × ℕ)
   pub size : ℕ
   pub key : TableKey
+  pub purges : ℕ
 
 -- the count of the item, 0 if it has none
 abbrev pub count_of : {T : Type 0} → (T → T → Bool) → List (T × ℕ) → T → ℕ

@@ -1,5 +1,5 @@
 //! Types whose clones equal their originals.
-ghost use Rattle.std.specs.Prelude.{◌≡◌, false, IsTrue};
+ghost use Rattle.std.specs.Prelude.{◌≡◌, false, true, IsTrue};
 ghost use Rattle.std.specs.Cmp.Lexicographic.{bytes_decides};
 ghost use Rattle.std.specs.String.{string_bytes};
 ghost use Rattle.std.proofs.Common.{rules, sym, ap, subst};
@@ -25,14 +25,16 @@ use std::cmp::Eq;
 /// }
 /// ```
 pub trait EqualClone: Clone + Eq {
-    /// Returns whether a clone may fail, as for a type that owns memory. `true` is always right.
+    // Holds of a type no clone of which fails, such as a number. It may be left out.
+    ghost clones_never_fail: { Type 0 } = { ⊥ };
+
+    /// Returns whether a clone may fail, as for a type that owns memory.
     ///
-    /// A merge into a table of its maximum size works in place if no clone fails.
+    /// A merge into a table of its maximum size works in place if no clone fails. `true` is right for each type for which
+    /// `clones_never_fail` is left out.
     fn may_fail() -> bool
-        ensures { result ≡ false → (x : Self) → Self.is_infallible x }
-    {
-        true
-    }
+        ensures infallible { result ≡ false → (x : Self) → Self.is_infallible x }
+        ensures known { clones_never_fail → result ≡ false };
 
     // Each clone equals its original.
     ghost clones_equal: { (x y : Self) → Self.is_clone x y → IsTrue (Self.eq x y) };
@@ -40,6 +42,8 @@ pub trait EqualClone: Clone + Eq {
 
 impl EqualClone for u8 {
     ghost clones_equal = { Prim.search rules };
+
+    ghost clones_never_fail = { Unit {0} };
 
     fn may_fail() -> bool {
         false
@@ -49,6 +53,8 @@ impl EqualClone for u8 {
 impl EqualClone for u16 {
     ghost clones_equal = { Prim.search rules };
 
+    ghost clones_never_fail = { Unit {0} };
+
     fn may_fail() -> bool {
         false
     }
@@ -56,6 +62,8 @@ impl EqualClone for u16 {
 
 impl EqualClone for u32 {
     ghost clones_equal = { Prim.search rules };
+
+    ghost clones_never_fail = { Unit {0} };
 
     fn may_fail() -> bool {
         false
@@ -65,6 +73,8 @@ impl EqualClone for u32 {
 impl EqualClone for u64 {
     ghost clones_equal = { Prim.search rules };
 
+    ghost clones_never_fail = { Unit {0} };
+
     fn may_fail() -> bool {
         false
     }
@@ -72,6 +82,8 @@ impl EqualClone for u64 {
 
 impl EqualClone for u128 {
     ghost clones_equal = { Prim.search rules };
+
+    ghost clones_never_fail = { Unit {0} };
 
     fn may_fail() -> bool {
         false
@@ -81,6 +93,8 @@ impl EqualClone for u128 {
 impl EqualClone for usize {
     ghost clones_equal = { Prim.search rules };
 
+    ghost clones_never_fail = { Unit {0} };
+
     fn may_fail() -> bool {
         false
     }
@@ -88,6 +102,8 @@ impl EqualClone for usize {
 
 impl EqualClone for i8 {
     ghost clones_equal = { Prim.search rules };
+
+    ghost clones_never_fail = { Unit {0} };
 
     fn may_fail() -> bool {
         false
@@ -97,6 +113,8 @@ impl EqualClone for i8 {
 impl EqualClone for i16 {
     ghost clones_equal = { Prim.search rules };
 
+    ghost clones_never_fail = { Unit {0} };
+
     fn may_fail() -> bool {
         false
     }
@@ -104,6 +122,8 @@ impl EqualClone for i16 {
 
 impl EqualClone for i32 {
     ghost clones_equal = { Prim.search rules };
+
+    ghost clones_never_fail = { Unit {0} };
 
     fn may_fail() -> bool {
         false
@@ -113,6 +133,8 @@ impl EqualClone for i32 {
 impl EqualClone for i64 {
     ghost clones_equal = { Prim.search rules };
 
+    ghost clones_never_fail = { Unit {0} };
+
     fn may_fail() -> bool {
         false
     }
@@ -120,6 +142,8 @@ impl EqualClone for i64 {
 
 impl EqualClone for i128 {
     ghost clones_equal = { Prim.search rules };
+
+    ghost clones_never_fail = { Unit {0} };
 
     fn may_fail() -> bool {
         false
@@ -129,6 +153,8 @@ impl EqualClone for i128 {
 impl EqualClone for isize {
     ghost clones_equal = { Prim.search rules };
 
+    ghost clones_never_fail = { Unit {0} };
+
     fn may_fail() -> bool {
         false
     }
@@ -136,6 +162,8 @@ impl EqualClone for isize {
 
 impl EqualClone for bool {
     ghost clones_equal = { Prim.search rules };
+
+    ghost clones_never_fail = { Unit {0} };
 
     fn may_fail() -> bool {
         false
@@ -145,6 +173,8 @@ impl EqualClone for bool {
 impl EqualClone for char {
     ghost clones_equal = { Prim.search rules };
 
+    ghost clones_never_fail = { Unit {0} };
+
     fn may_fail() -> bool {
         false
     }
@@ -152,25 +182,52 @@ impl EqualClone for char {
 
 impl<T: Eq> EqualClone for &T {
     ghost clones_equal = { λ x y is. subst (λ s. IsTrue (T.eq x.now s.now)) (sym is) (T.Eq.laws.refl x.now) };
+
+    fn may_fail() -> bool {
+        true
+    }
 }
 
 impl<A: EqualClone, B: EqualClone> EqualClone for (A, B) {
     ghost clones_equal = { λ x y is. both _ _ (A.clones_equal x.0 y.0 is.0) (B.clones_equal x.1 y.1 is.1) };
+
+    fn may_fail() -> bool {
+        true
+    }
 }
 
 impl<A: EqualClone, B: EqualClone, C: EqualClone> EqualClone for (A, B, C) {
     ghost clones_equal = { λ x y is. both _ _ (both _ _ (A.clones_equal x.0 y.0 is.0) (B.clones_equal x.1 y.1 is.1))
         (C.clones_equal x.2 y.2 is.2) };
+
+    fn may_fail() -> bool {
+        true
+    }
 }
 
 impl<T: EqualClone> EqualClone for Option<T> {
     ghost clones_equal = { Prim.search rules };
+
+    fn may_fail() -> bool {
+        true
+    }
 }
 
 impl<'a> EqualClone for &'a str {
     ghost clones_equal = { λ x y is. (bytes_decides x.now y.now).1 (sym (ap (λ s. s.now) is)) };
+
+    fn may_fail() -> bool
+        ensures infallible { result ≡ true }
+        ensures known { ⊥ → result ≡ false }
+    {
+        true
+    }
 }
 
 impl EqualClone for String {
     ghost clones_equal = { λ x y is. (bytes_decides (string_bytes x) (string_bytes y)).1 (sym is) };
+
+    fn may_fail() -> bool {
+        true
+    }
 }

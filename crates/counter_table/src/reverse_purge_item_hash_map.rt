@@ -1,11 +1,12 @@
 //! The table of counters.
-ghost use Rattle.std.specs.Prelude.{◌≡◌, ℕ, ◌+◌, ◌*◌, ◌/◌, ◌<◌, ◌≤◌, ◌^◌, true, false, [], length, min, map, IfOk, IfErr, IsOk, IsTrue, IsPermutation, OnOk, OnErr};
+ghost use Rattle.std.specs.Prelude.{◌≡◌, ℕ, ◌+◌, ◌*◌, ◌/◌, ◌%◌, ◌<◌, ◌≤◌, ◌^◌, true, false, [], length, min, map, IfOk, IfErr, IsOk, IsTrue, IsPermutation, OnOk, OnErr};
 ghost use Rattle.std.specs.Int.{is_power_of_two};
 ghost use Rattle.std.specs.List.{IsDistinct};
 ghost use Rattle.std.specs.Map.{keys_of, lookup};
 ghost use Rattle.sketch_base.specs.Errors.{no_memory};
 ghost use Rattle.counter_table.specs.Bytes.{table_bytes};
 ghost use Rattle.counter_table.specs.Homes.{home_in, IsReach, IsShortOfReach};
+ghost use Rattle.counter_table.specs.Samples.{sample_start, IsSampledFrom};
 ghost use Rattle.counter_table.specs.Slots.{entries_of};
 ghost use Rattle.counter_table.specs.TableHashes.{hash_in, hash_of};
 ghost use Rattle.counter_table.specs.Tables.{count_by_key, count_of, is_tracked_by_key, is_tracked, put, purged, IsSampleMiddle, IsSameMap, PutsEqual, PutsByKey};
@@ -53,7 +54,7 @@ use std::mem;
 pub struct ReversePurgeItemHashMap<T: Eq + Hash + Drop> {
     table: SlotTable<T>,
     active: usize,
-    /// The number of purges. A keyed table begins each sample at another slot, also after a `clear`.
+    /// The number of purges modulo 2^64. It selects the slot at which a keyed table begins the next sample, also after a `clear`.
     purges: u64,
 }
 
@@ -65,7 +66,7 @@ impl<T: Eq + Hash + Drop> Model for ReversePurgeItemHashMap<T> {
     ghost use Rattle.counter_table.specs.Slots.{table_of, IsCounted};
     ghost use Rattle.counter_table.specs.TableHashes.{hash_in};
 
-    ghost view = { λ a. table_of a.table.key a.table.slots };
+    ghost view = { λ a. table_of a.table.key a.purges a.table.slots };
 
     ghost invariant = { λ a. IsCounted T.eq (hash_in a.table.key T.hash_input) a.table.slots a.active };
 }
@@ -77,7 +78,7 @@ impl<T: Eq + Hash + Drop> ReversePurgeItemHashMap<T> {
     pub fn new(alloc: Global, map_size: usize) -> Result<Self, Error>
         requires power { IsTrue (is_power_of_two map_size) }
         requires limit { map_size ≤ 2 ^ 30 }
-        ensures ok { IfOk result (λ map. map ≡ record { entries = []; size = map_size; key = Plain }) }
+        ensures ok { IfOk result (λ map. map ≡ record { entries = []; size = map_size; key = Plain; purges = 0 }) }
         ensures err { IfErr result (λ e. e ≡ no_memory) }
     {
         Self::with_key(alloc, map_size, TableKey::Plain)
@@ -89,7 +90,7 @@ impl<T: Eq + Hash + Drop> ReversePurgeItemHashMap<T> {
     pub fn with_key(alloc: Global, map_size: usize, key: TableKey) -> Result<Self, Error>
         requires power { IsTrue (is_power_of_two map_size) }
         requires limit { map_size ≤ 2 ^ 30 }
-        ensures ok { IfOk result (λ map. map ≡ record { entries = []; size = map_size; key = key }) }
+        ensures ok { IfOk result (λ map. map ≡ record { entries = []; size = map_size; key = key; purges = 0 }) }
         ensures err { IfErr result (λ e. e ≡ no_memory) }
     {
         let table = SlotTable::new(alloc, key, map_size)?;
@@ -173,6 +174,7 @@ impl<T: Eq + Hash + Drop> ReversePurgeItemHashMap<T> {
         ensures entries { IsPermutation (put T.eq self.old.entries item adjust_amount) self.new.entries }
         ensures size { self.new.size ≡ self.old.size }
         ensures key { self.new.key ≡ self.old.key }
+        ensures purges { self.new.purges ≡ self.old.purges }
         ensures distinct { IsDistinct T.eq (keys_of self.new.entries) }
     {
         if self.table.put(item, adjust_amount) {
@@ -198,6 +200,7 @@ impl<T: Eq + Hash + Drop> ReversePurgeItemHashMap<T> {
         ensures entries { OnOk result (PutsEqual T.eq self.old.entries item.now adjust_amount self.new.entries) }
         ensures size { self.new.size ≡ self.old.size }
         ensures key { self.new.key ≡ self.old.key }
+        ensures purges { self.new.purges ≡ self.old.purges }
         ensures distinct { IsDistinct T.eq (keys_of self.new.entries) }
         ensures err { OnErr result (self.new ≡ self.old) }
         ensures memory { IfErr result (λ e. e ≡ no_memory) }
@@ -227,6 +230,7 @@ impl<T: Eq + Hash + Drop> ReversePurgeItemHashMap<T> {
         ensures entries { OnOk result (PutsByKey T.eq (K.names key) self.old.entries adjust_amount self.new.entries) }
         ensures size { self.new.size ≡ self.old.size }
         ensures key { self.new.key ≡ self.old.key }
+        ensures purges { self.new.purges ≡ self.old.purges }
         ensures distinct { IsDistinct T.eq (keys_of self.new.entries) }
         ensures err { OnErr result (self.new ≡ self.old) }
         ensures memory { IfErr result (λ e. e ≡ no_memory) }
@@ -262,6 +266,7 @@ impl<T: Eq + Hash + Drop> ReversePurgeItemHashMap<T> {
         ensures entries { OnOk result (PutsByKey T.eq (K.names key) self.old.entries adjust_amount self.new.entries) }
         ensures size { self.new.size ≡ self.old.size }
         ensures key { self.new.key ≡ self.old.key }
+        ensures purges { self.new.purges ≡ self.old.purges }
         ensures distinct { IsDistinct T.eq (keys_of self.new.entries) }
         ensures err { OnErr result (self.new ≡ self.old) }
         ensures memory { IfErr result (λ e. e ≡ no_memory) }
@@ -276,18 +281,25 @@ impl<T: Eq + Hash + Drop> ReversePurgeItemHashMap<T> {
 
     /// Subtracts a middle count m of a sample from every count, drops the entries at or below m, and returns m.
     ///
-    /// The sample has `min(sample_size, active, 1024)` entries, and m is the count at half its length in ascending order. Which
-    /// entries are sampled is unspecified. In a keyed map it depends on the key and on how many purges there were. Drops at
-    /// least half of the sample and one entry more. Requires an entry, and a `sample_size` above 0. It does not allocate.
+    /// The sample has `min(sample_size, active, 1024)` entries, and m is the count at half its length in ascending order. It is
+    /// taken in the order of the slots, from the first slot on. In a keyed map it begins at a slot that the key and the number
+    /// of earlier purges select. A clear and a resize keep this number, and so does a clone.
+    ///
+    /// Drops at least half of the sample and one entry more. Requires an entry, and a `sample_size` above 0. It does not
+    /// allocate.
     // Inlined, it would put its buffer for the sample on the stack of each update.
     #[inline(never)]
     pub fn purge(&mut self, sample_size: usize) -> u64
         requires active { 0 < length self.old.entries }
         requires sample { 0 < sample_size }
         ensures middle { IsSampleMiddle (min sample_size (min (length self.old.entries) 1024)) self.old.entries result }
+        ensures start { IsSampledFrom T.eq (hash_in self.old.key T.hash_input) self.old
+            (sample_start self.old.key self.old.purges self.old.size)
+            (min sample_size (min (length self.old.entries) 1024)) result }
         ensures entries { IsPermutation (purged result self.old.entries) self.new.entries }
         ensures size { self.new.size ≡ self.old.size }
         ensures key { self.new.key ≡ self.old.key }
+        ensures purges { self.new.purges ≡ (self.old.purges + 1) % 2 ^ 64 }
         ensures distinct { IsDistinct T.eq (keys_of self.new.entries) }
         ensures room { length self.new.entries + min sample_size (min (length self.old.entries) 1024) / 2 + 1
             ≤ length self.old.entries }
@@ -310,6 +322,7 @@ impl<T: Eq + Hash + Drop> ReversePurgeItemHashMap<T> {
         ensures entries { IsPermutation self.old.entries self.new.entries }
         ensures ok { OnOk result (self.new.size ≡ new_size) }
         ensures key { self.new.key ≡ self.old.key }
+        ensures purges { self.new.purges ≡ self.old.purges }
         ensures err { OnErr result (self.new ≡ self.old) }
         ensures memory { IfErr result (λ e. e ≡ no_memory) }
         ensures distinct { IsDistinct T.eq (keys_of self.new.entries) }
@@ -380,7 +393,7 @@ impl<T: Eq + Hash + Drop> ReversePurgeItemHashMap<T> {
         bytes_of_table::<T>(self.table.len())
     }
 
-    /// Returns the same map with clones of the items, in a table of the same size.
+    /// Returns the same map with clones of the items, in a table of the same size, after the same number of purges.
     ///
     /// Allocates the table and the clones. Returns `NoMemory` if an allocation fails.
     pub fn try_clone(&self) -> Result<Self, Error>
@@ -389,6 +402,7 @@ impl<T: Eq + Hash + Drop> ReversePurgeItemHashMap<T> {
         ensures entries { IfOk result (λ map. IsSameMap T.eq self.now.entries map.entries) }
         ensures size { IfOk result (λ map. map.size ≡ self.now.size) }
         ensures key { IfOk result (λ map. map.key ≡ self.now.key) }
+        ensures purges { IfOk result (λ map. map.purges ≡ self.now.purges) }
         ensures distinct { IfOk result (λ map. IsDistinct T.eq (keys_of map.entries)) }
         ensures err { IfErr result (λ e. e ≡ no_memory) }
     {
@@ -437,6 +451,7 @@ impl<T: Eq + Hash + Drop> ReversePurgeItemHashMap<T> {
         ensures absent { result ≡ false → self.new ≡ self.old }
         ensures size { self.new.size ≡ self.old.size }
         ensures key { self.new.key ≡ self.old.key }
+        ensures purges { self.new.purges ≡ self.old.purges }
         ensures distinct { IsDistinct T.eq (keys_of self.new.entries) }
     {
         self.adjust_by_key(item, adjust_amount)
@@ -454,6 +469,7 @@ impl<T: Eq + Hash + Drop> ReversePurgeItemHashMap<T> {
         ensures absent { result ≡ false → self.new ≡ self.old }
         ensures size { self.new.size ≡ self.old.size }
         ensures key { self.new.key ≡ self.old.key }
+        ensures purges { self.new.purges ≡ self.old.purges }
         ensures distinct { IsDistinct T.eq (keys_of self.new.entries) }
     {
         self.table.adjust(key, adjust_amount)
@@ -466,6 +482,7 @@ impl<T: Eq + Hash + Drop> ReversePurgeItemHashMap<T> {
         ensures entries { IsPermutation (put T.eq self.old.entries item amount) self.new.entries }
         ensures size { self.new.size ≡ self.old.size }
         ensures key { self.new.key ≡ self.old.key }
+        ensures purges { self.new.purges ≡ self.old.purges }
         ensures distinct { IsDistinct T.eq (keys_of self.new.entries) }
     {
         self.table.insert(item, amount);
@@ -478,7 +495,7 @@ impl<T: Eq + Hash + Drop> ReversePurgeItemHashMap<T> {
     pub fn clear(&mut self, size: usize)
         requires power { IsTrue (is_power_of_two size) }
         requires within { size ≤ self.old.size }
-        ensures { self.new ≡ record { entries = []; size = size; key = self.old.key } }
+        ensures { self.new ≡ record { entries = []; size = size; key = self.old.key; purges = self.old.purges } }
     {
         self.table.clear(size);
         self.active = 0;

@@ -4,6 +4,7 @@ use Rattle.sketch_countmin.specs.State.{CountState}
 use Rattle.datasketches_c.specs.CountCalls.{EstimatesAll}
 use Rattle.datasketches_c.specs.Estimates.{AreEstimates}
 use Rattle.datasketches_c.specs.Numbers.{ok}
+use Rattle.datasketches_c.specs.Sharing.{unreadable}
 use Rattle.datasketches_c.specs.ValidRows.{OnRows}
 use Rattle.datasketches_c.specs.declared.any_sketch.AnySketch.{AnySketch}
 use Rattle.datasketches_c.proofs.KindLemmas.{on_kind_said}
@@ -15,5 +16,5 @@ module _ (part : AnySketch → Option CountState) (old new : Option AnySketch) (
       → result ≡ ok → OnRows validity zero by_row (λ estimates. AreEstimates s items (map number estimates))
       → EstimatesAll number zero part old new result validity items by_row
   all_estimated number zero validity items by_row done are =
-      on_kind_said part old new held s result
+      on_kind_said unreadable part old new held s result
       (λ a. (result ≡ ok) × OnRows validity zero by_row (λ estimates. AreEstimates a items (map number estimates))) is which (done, are)

@@ -4,9 +4,9 @@ use Rattle.sketch_base.specs.declared.fault.Fault.TheVariants.{Mismatch}
 use Rattle.sketch_bloom.specs.Stands.{ExtendsBoth}
 use Rattle.sketch_bloom.specs.State.{FilterState, IsCompatible}
 use Rattle.datasketches_c.specs.Joining.{IsCombined, joined, joined_history}
-use Rattle.datasketches_c.specs.Kinds.{OnKind, HoldsKind, filter_of}
+use Rattle.datasketches_c.specs.Kinds.{ChangesKind, OnKind, HoldsKind, filter_of}
 use Rattle.datasketches_c.specs.Numbers.{ok, refusal_number}
-use Rattle.datasketches_c.specs.Sharing.{reads}
+use Rattle.datasketches_c.specs.Sharing.{reads, unchangeable, unreadable}
 use Rattle.datasketches_c.specs.declared.any_sketch.AnySketch.{AnySketch}
 use Rattle.datasketches_c.specs.declared.any_sketch.AnySketch.TheVariants.{Filter, CountI64, CountU64, FrequentI64, FrequentStrings, FrequentU64, Moved}
 use Rattle.datasketches_c.specs.declared.any_sketch.Held.TheVariants.{Own, Shared}
@@ -27,8 +27,8 @@ holds_filter None s is = absurd is
 
 -- a filter of a handle that another handle's filter was set against
 pub was_set_against : (operation : SetOperation) (old new other_old other_new : Option AnySketch) (result : ℤ)
-    → OnKind filter_of old new result (λ a. OnKind (reads filter_of) other_old other_new result (λ b. HoldsKind filter_of new (λ c. IsCombined operation a b c result)))
-    → OnKind filter_of old new result (λ a. OnKind (reads filter_of) other_old other_new result (λ b.
+    → ChangesKind filter_of old new result (λ a. OnKind (reads filter_of) other_old other_new result (λ b. HoldsKind filter_of new (λ c. IsCombined operation a b c result)))
+    → ChangesKind filter_of old new result (λ a. OnKind (reads filter_of) other_old other_new result (λ b.
     (IsCompatible a b → (result ≡ ok) × (new ≡ Some (Filter (Own (joined operation a b)))) × ExtendsBoth a b (joined operation a b) (joined_history operation)) × (¬ IsCompatible a b → result ≡ refusal_number Mismatch)))
 was_set_against operation old new other_old other_new result said =
     let Combined : FilterState → FilterState → Type 0 = λ a b. HoldsKind filter_of new (λ c. IsCombined operation a b c result) in
@@ -43,5 +43,5 @@ was_set_against operation old new other_old other_new result said =
       )),
       (λ differ. of_held filter_of new Is (λ c is. is.mismatch differ) held),
     ) in
-    on_kind_less filter_of old new result (λ a. OnKind (reads filter_of) other_old other_new result (Combined a)) (λ a. OnKind (reads filter_of) other_old other_new result (Set a))
-    (λ a. on_kind_less (reads filter_of) other_old other_new result (Combined a) (Set a) (set a)) said
+    on_kind_less unchangeable filter_of old new result (λ a. OnKind (reads filter_of) other_old other_new result (Combined a)) (λ a. OnKind (reads filter_of) other_old other_new result (Set a))
+    (λ a. on_kind_less unreadable (reads filter_of) other_old other_new result (Combined a) (Set a) (set a)) said

@@ -2,15 +2,16 @@
 use Rattle.std.proofs.Common.{◌≡◌, ◌≢◌, ℕ, zero, suc, ◌+◌, ◌<◌, ℤ, List, [], ◌∷◌, Option, None, Some, length, map, drop, get_or, refl, sym, ap, ◌∙◌, subst, arith}
 use Rattle.std.specs.Option.{IsSome}
 use Rattle.std.proofs.lemmas.List.{drop_more, get_or-map, length-map}
-use Rattle.datasketches_c.specs.Kinds.{OnPart, OnKind}
+use Rattle.datasketches_c.specs.Kinds.{OnKind, OnPartOr}
 use Rattle.datasketches_c.specs.ManyHandles.{OnEachKind, found_in}
 use Rattle.datasketches_c.specs.Numbers.{ok, no_sketch, wrong_kind}
+use Rattle.datasketches_c.specs.Sharing.{unreadable}
 use Rattle.datasketches_c.specs.declared.any_sketch.AnySketch.{AnySketch}
 use Rattle.datasketches_c.proofs.KindLemmas.{on_kind_less}
 
 module _ {S : Type 0} (part : AnySketch → Option S) where
-  on_part_moved : (found : Option S) (held : AnySketch) (z : ℤ) (P Q : S → Type 0) → ((s : S) → P s → Q s) → OnPart part found held (Some held) ok P
-      → OnPart part found held (Some held) z Q
+  on_part_moved : (found : Option S) (held : AnySketch) (z : ℤ) (P Q : S → Type 0) → ((s : S) → P s → Q s) → OnPartOr unreadable part found held (Some held) ok P
+      → OnPartOr unreadable part found held (Some held) z Q
   on_part_moved (Some s) held z P Q less said = less s said
   on_part_moved None held z P Q less said = let e : ok ≡ wrong_kind = said.0 in cc
 
@@ -23,7 +24,7 @@ module _ {S : Type 0} (part : AnySketch → Option S) where
   pub on_each_less : (held : List (Option AnySketch)) (z : ℤ) (P Q : List S → Type 0) → ((ss : List S) → P ss → Q ss) → OnEachKind part held z P → OnEachKind part held z Q
   on_each_less [] z P Q less said = less [] said
   on_each_less (v ∷ rest) z P Q less said =
-      on_kind_less part v v z (λ s. OnEachKind part rest z (λ ss. P (s ∷ ss))) (λ s. OnEachKind part rest z (λ ss. Q (s ∷ ss)))
+      on_kind_less unreadable part v v z (λ s. OnEachKind part rest z (λ ss. P (s ∷ ss))) (λ s. OnEachKind part rest z (λ ss. Q (s ∷ ss)))
       (λ s is. on_each_less rest z (λ ss. P (s ∷ ss)) (λ ss. Q (s ∷ ss)) (λ ss. less (s ∷ ss)) is) said
 
   -- the same of many sketches, as many as handles
@@ -42,11 +43,11 @@ module _ {S : Type 0} (part : AnySketch → Option S) where
   -- a handle that has none is the first of those
   pub on_each_stopped : (v : Option AnySketch) (rest : List (Option AnySketch)) (z : ℤ) → z ≢ ok → OnKind part v v z (λ s. z ≡ ok) → OnEachKind part (v ∷ rest) z (λ ss. z ≡ ok)
   on_each_stopped v rest z not one =
-      on_kind_less part v v z (λ s. z ≡ ok) (λ s. OnEachKind part rest z (λ ss. z ≡ ok)) (λ s is. absurd (not is)) one
+      on_kind_less unreadable part v v z (λ s. z ≡ ok) (λ s. OnEachKind part rest z (λ ss. z ≡ ok)) (λ s is. absurd (not is)) one
 
   -- lists of sketches are those of the kind
-  found_part : (found : Option S) (held : AnySketch) (s : S) (z : ℤ) (Q : S → Type 0) → found ≡ Some s → Q s → OnPart part found held (Some held) z Q
-  found_part found held s z Q is said = subst (λ (f : Option S). OnPart part f held (Some held) z Q) (sym is) said
+  found_part : (found : Option S) (held : AnySketch) (s : S) (z : ℤ) (Q : S → Type 0) → found ≡ Some s → Q s → OnPartOr unreadable part found held (Some held) z Q
+  found_part found held s z Q is said = subst (λ (f : Option S). OnPartOr unreadable part f held (Some held) z Q) (sym is) said
 
   found_kind : (v : Option AnySketch) (s : S) (z : ℤ) (Q : S → Type 0) → found_in part v ≡ Some s → Q s → OnKind part v v z Q
   found_kind None s z Q is said = cc
@@ -67,7 +68,7 @@ module _ {S : Type 0} (part : AnySketch → Option S) where
       found_kind v s z (λ t. OnEachKind part rest z (λ ts. Q (t ∷ ts))) (head_is (found_in part v) (Some s) (map (found_in part) rest) (map Some ss) is)
       (on_each_found rest ss z (λ ts. Q (s ∷ ts)) (tail_is (found_in part v) (Some s) (map (found_in part) rest) (map Some ss) is) said)
 
-  some_part : (found : Option S) (held : AnySketch) (P : S → Type 0) → OnPart part found held (Some held) ok P → IsSome found
+  some_part : (found : Option S) (held : AnySketch) (P : S → Type 0) → OnPartOr unreadable part found held (Some held) ok P → IsSome found
   some_part (Some s) held P said = refl
   some_part None held P said = let e : ok ≡ wrong_kind = said.0 in cc
 
@@ -75,7 +76,7 @@ module _ {S : Type 0} (part : AnySketch → Option S) where
   some_kind None P said = let e : ok ≡ no_sketch = said.0 in cc
   some_kind (Some held) P said = some_part (part held) held P said
 
-  part_out : {Y : Type 0} (found : Option S) (held : AnySketch) (P : S → Type 0) → ((s : S) → P s → Y) → OnPart part found held (Some held) ok P → Y
+  part_out : {Y : Type 0} (found : Option S) (held : AnySketch) (P : S → Type 0) → ((s : S) → P s → Y) → OnPartOr unreadable part found held (Some held) ok P → Y
   part_out (Some s) held P follows said = follows s said
   part_out None held P follows said = let e : ok ≡ wrong_kind = said.0 in cc
 

@@ -4,7 +4,7 @@ use Rattle.std.proofs.lemmas.List.{drop_at, take_at, length-map}
 use Rattle.sketch_frequencies.specs.RowValue.{RowValue}
 use Rattle.sketch_frequencies.specs.State.{FrequentState}
 use Rattle.sketch_frequencies.specs.declared.error_type.ErrorType.{ErrorType}
-use Rattle.datasketches_c.specs.FrequentRows.{AreRows, LeavesRows, Reports, StandAtFront, bounds_in}
+use Rattle.datasketches_c.specs.FrequentRows.{AreFirstRows, LeavesRows, Reports, StandAtFront, bounds_in}
 use Rattle.datasketches_c.specs.Numbers.{OnRefused, ok, no_room}
 use Rattle.sketch_frequencies.specs.declared.item_bounds.ItemBounds.{ItemBounds}
 
@@ -14,12 +14,12 @@ when_refused (pos n) P said = tt
 when_refused (negsuc n) P said = said
 
 -- rows that were found and copied are a report
-pub copied_rows : {T : Type 0} (eq : T → T → Bool) (kind : ErrorType) (threshold : ℕ) (s : FrequentState T) (rows : List (RowValue T)) (items_old items_new : List T)
-    (bounds_old bounds_new : List ItemBounds) (count : ℕ) (result : ℤ) → AreRows eq kind threshold s rows → count ≡ length rows
+pub copied_rows : {T : Type 0} (eq : T → T → Bool) (kind : ErrorType) (threshold limit : ℕ) (s : FrequentState T) (rows : List (RowValue T)) (items_old items_new : List T)
+    (bounds_old bounds_new : List ItemBounds) (count : ℕ) (result : ℤ) → AreFirstRows eq kind threshold s limit rows → count ≡ length rows
     → (length rows ≤ length items_old → length rows ≤ length bounds_old → (result ≡ ok) × StandAtFront rows items_old items_new bounds_old bounds_new)
     → (length items_old < length rows → result ≡ no_room) → (length bounds_old < length rows → result ≡ no_room)
-    → Reports eq kind threshold s items_old items_new bounds_old bounds_new count result
-copied_rows eq kind threshold s rows items_old items_new bounds_old bounds_new count result are counted written few_items few_bounds = record {
+    → Reports eq kind threshold s limit items_old items_new bounds_old bounds_new count result
+copied_rows eq kind threshold limit s rows items_old items_new bounds_old bounds_new count result are counted written few_items few_bounds = record {
   rows = rows;
   are = are;
   counted = counted;

@@ -70,9 +70,9 @@ pub string_rows_counted : (old new : StringBuffers) (count_old count_new num_byt
 string_rows_counted old new count_old count_new num_bytes_old num_bytes_new (pos n) few done left = record { untouched = left; uncounted = λ other none. absurd (other done) }
 string_rows_counted old new count_old count_new num_bytes_old num_bytes_new (negsuc n) few done left = record { untouched = left; uncounted = λ other none. absurd (none few) }
 
--- rows that were found and copied are a report
-pub strings_reported : (kind : ErrorType) (threshold : ℕ) (s : FrequentState (String Global)) (rows copied : List (RowValue (String Global))) (old new : StringBuffers) (count num_bytes : ℕ) (result : ℤ)
-    → AreRows strings_eq kind threshold s rows → copied ≡ rows → count ≡ length rows → ReportsStrings copied old new (length copied) num_bytes result
-    → WritesStringRows kind threshold s old new count num_bytes result
-strings_reported kind threshold s rows copied old new count num_bytes result are is counted report =
-    inl (rows, are, subst (λ (n : ℕ). ReportsStrings rows old new n num_bytes result) (sym counted) (subst (λ rs. ReportsStrings rs old new (length rs) num_bytes result) is report))
+-- the first of the rows that were found are a report, if they were copied
+pub strings_reported : (kind : ErrorType) (threshold limit : ℕ) (s : FrequentState (String Global)) (all rows : List (RowValue (String Global))) (old new : StringBuffers) (count num_bytes : ℕ) (result : ℤ)
+    → AreRows strings_eq kind threshold s all → rows ≡ take limit all → count ≡ length rows → ReportsStrings rows old new (length rows) num_bytes result
+    → WritesStringRows kind threshold limit s old new count num_bytes result
+strings_reported kind threshold limit s all rows old new count num_bytes result are first counted report =
+    inl (rows, (all, are, first), subst (λ (n : ℕ). ReportsStrings rows old new n num_bytes result) (sym counted) report)

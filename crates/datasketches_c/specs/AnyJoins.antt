@@ -3,14 +3,14 @@ use Rattle.std.specs.Prelude.{◌≡◌, ℤ, List, Option, Some, None, nat_eq}
 use Rattle.std.specs.Ordering.{int_eq}
 use Rattle.datasketches_c.specs.CountJoins.{IsJoined}
 use Rattle.datasketches_c.specs.Equality.{SaysWhetherSame}
-use Rattle.datasketches_c.specs.FrequentCalls.{MergesInto}
+use Rattle.datasketches_c.specs.FrequentCalls.{MergesInto, MergesNumbers}
 use Rattle.datasketches_c.specs.FrequentStrings.{strings_eq}
 use Rattle.datasketches_c.specs.Joining.{IsCombined}
 use Rattle.datasketches_c.specs.Kinds.{ReadsKind, HoldsKind, filter_of, count_i64_of, count_u64_of, frequent_i64_of, frequent_u64_of, frequent_strings_of}
 use Rattle.datasketches_c.specs.ManyHandles.{OnEachKind, OrNoMemory}
-use Rattle.datasketches_c.specs.ManyJoins.{IsMerged, IsUnited, MergesAllInto}
+use Rattle.datasketches_c.specs.ManyJoins.{IsMerged, IsUnited, MergesAllInto, MergesAllNumbers}
 use Rattle.datasketches_c.specs.Numbers.{max_i64, max_u64, no_sketch, wrong_kind}
-use Rattle.datasketches_c.specs.Sharing.{reads, unshared}
+use Rattle.datasketches_c.specs.Sharing.{reads, unchangeable, unshared}
 use Rattle.datasketches_c.specs.declared.any_sketch.AnySketch.{AnySketch}
 use Rattle.datasketches_c.specs.declared.any_sketch.Held.TheVariants.{Own}
 use Rattle.datasketches_c.specs.declared.any_sketch.AnySketch.TheVariants.{Filter, CountI64, CountU64, FrequentI64, FrequentU64, FrequentStrings}
@@ -26,14 +26,14 @@ MergesWith (CountU64 (Own a)) new result other_old other_new =
     ReadsKind count_u64_of other_old other_new result (λ b. HoldsKind count_u64_of (Some new) (λ c. IsJoined max_u64 a b c result))
 MergesWith (FrequentI64 (Own a)) new result other_old other_new =
     ReadsKind frequent_i64_of other_old other_new result (λ b.
-    HoldsKind frequent_i64_of (Some new) (λ c. MergesInto int_eq a b c result))
+    HoldsKind frequent_i64_of (Some new) (λ c. MergesNumbers int_eq a b c result))
 MergesWith (FrequentU64 (Own a)) new result other_old other_new =
     ReadsKind frequent_u64_of other_old other_new result (λ b.
-    HoldsKind frequent_u64_of (Some new) (λ c. MergesInto nat_eq a b c result))
+    HoldsKind frequent_u64_of (Some new) (λ c. MergesNumbers nat_eq a b c result))
 MergesWith (FrequentStrings (Own a)) new result other_old other_new =
     ReadsKind frequent_strings_of other_old other_new result (λ b.
     HoldsKind frequent_strings_of (Some new) (λ c. MergesInto strings_eq a b c result))
-MergesWith old new result other_old other_new = (result ≡ wrong_kind) × (new ≡ old)
+MergesWith old new result other_old other_new = (result ≡ unchangeable old) × (new ≡ old)
 
 -- the same of the sketches of two handles
 abbrev pub MergesAny : (old new : Option AnySketch) → ℤ → (other_old other_new : Option AnySketch) → Type 0
@@ -54,14 +54,14 @@ MergesWithAll (CountU64 (Own a)) new result others =
     OrNoMemory result bs (HoldsKind count_u64_of (Some new) (λ c. IsMerged max_u64 a bs c result)))
 MergesWithAll (FrequentI64 (Own a)) new result others =
     OnEachKind (reads frequent_i64_of) others result (λ bs.
-    OrNoMemory result bs (HoldsKind frequent_i64_of (Some new) (λ c. MergesAllInto int_eq a bs c result)))
+    OrNoMemory result bs (HoldsKind frequent_i64_of (Some new) (λ c. MergesAllNumbers int_eq a bs c result)))
 MergesWithAll (FrequentU64 (Own a)) new result others =
     OnEachKind (reads frequent_u64_of) others result (λ bs.
-    OrNoMemory result bs (HoldsKind frequent_u64_of (Some new) (λ c. MergesAllInto nat_eq a bs c result)))
+    OrNoMemory result bs (HoldsKind frequent_u64_of (Some new) (λ c. MergesAllNumbers nat_eq a bs c result)))
 MergesWithAll (FrequentStrings (Own a)) new result others =
     OnEachKind (reads frequent_strings_of) others result (λ bs.
     OrNoMemory result bs (HoldsKind frequent_strings_of (Some new) (λ c. MergesAllInto strings_eq a bs c result)))
-MergesWithAll old new result others = (result ≡ wrong_kind) × (new ≡ old)
+MergesWithAll old new result others = (result ≡ unchangeable old) × (new ≡ old)
 
 abbrev pub MergesAnyWithAll : (old new : Option AnySketch) → ℤ → (others : List (Option AnySketch)) → Type 0
 MergesAnyWithAll (Some old) (Some new) result others = MergesWithAll old new result others

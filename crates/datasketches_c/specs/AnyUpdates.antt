@@ -3,12 +3,12 @@ use Rattle.std.specs.Ordering.{int_eq}
 use Rattle.std.specs.Prelude.{◌≡◌, ℕ, ℤ, pos, List, nat_eq, Option, Some, None}
 use Rattle.datasketches_c.specs.CountCalls.{AddsEach, AddsWeights}
 use Rattle.datasketches_c.specs.FrequentBatches.{AreBoundsOfAll}
-use Rattle.datasketches_c.specs.FrequentCalls.{StopsOnlyToGrow, UpdatesMany, WeighsMany}
+use Rattle.datasketches_c.specs.FrequentCalls.{StopsOnlyIfFull, StopsOnlyToGrow, UpdatesMany, WeighsMany}
 use Rattle.datasketches_c.specs.FrequentStrings.{strings_eq}
 use Rattle.datasketches_c.specs.Kinds.{HoldsKind, count_i64_of, count_u64_of, frequent_i64_of, frequent_strings_of, frequent_u64_of}
 use Rattle.datasketches_c.specs.ManyItems.{ManyItems, OnI64s, OnStrings, OnU64s, fed_items}
 use Rattle.datasketches_c.specs.Numbers.{max_i64, max_u64, no_sketch, ok, wrong_kind}
-use Rattle.datasketches_c.specs.Sharing.{unshared}
+use Rattle.datasketches_c.specs.Sharing.{unchangeable, unshared}
 use Rattle.datasketches_c.specs.ValidRows.{OnRows}
 use Rattle.datasketches_c.specs.declared.any_sketch.AnySketch.{AnySketch}
 use Rattle.datasketches_c.specs.declared.any_sketch.AnySketch.TheVariants.{CountI64, CountU64, FrequentI64, FrequentStrings, FrequentU64}
@@ -23,13 +23,13 @@ UpdatesWith (CountU64 (Own s)) new items result =
     HoldsKind count_u64_of (Some new) (λ t. AddsEach max_u64 s (fed_items items) t result)
 UpdatesWith (FrequentI64 (Own s)) new items result =
     HoldsKind frequent_i64_of (Some new) (λ t.
-    OnI64s items result (t ≡ s) (λ names. UpdatesMany int_eq s names t result))
+    OnI64s items result (t ≡ s) (λ names. UpdatesMany int_eq s names t result × StopsOnlyIfFull t result))
 UpdatesWith (FrequentU64 (Own s)) new items result =
     HoldsKind frequent_u64_of (Some new) (λ t.
-    OnU64s items result (t ≡ s) (λ names. UpdatesMany nat_eq s names t result))
+    OnU64s items result (t ≡ s) (λ names. UpdatesMany nat_eq s names t result × StopsOnlyIfFull t result))
 UpdatesWith (FrequentStrings (Own s)) new items result =
     HoldsKind frequent_strings_of (Some new) (λ t. OnStrings items result (t ≡ s) (λ names. UpdatesMany strings_eq s names t result))
-UpdatesWith old new items result = (result ≡ wrong_kind) × (new ≡ old)
+UpdatesWith old new items result = (result ≡ unchangeable old) × (new ≡ old)
 
 -- the same of the sketch of a handle
 abbrev pub UpdatesAny : (old new : Option AnySketch) → ManyItems → ℤ → Type 0
@@ -50,7 +50,7 @@ WeighsWith (FrequentU64 (Own s)) new items weights result =
 WeighsWith (FrequentStrings (Own s)) new items weights result =
     HoldsKind frequent_strings_of (Some new) (λ t.
     OnStrings items result (t ≡ s) (λ names. WeighsMany strings_eq s names weights t result))
-WeighsWith old new items weights result = (result ≡ wrong_kind) × (new ≡ old)
+WeighsWith old new items weights result = (result ≡ unchangeable old) × (new ≡ old)
 
 -- the same of the sketch of a handle
 abbrev pub WeighsAny : (old new : Option AnySketch) → ManyItems → List ℕ → ℤ → Type 0

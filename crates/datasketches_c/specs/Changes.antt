@@ -16,7 +16,8 @@ use Rattle.sketch_frequencies.specs.State.{FrequentState, empty_state}
 use Rattle.datasketches_c.specs.FrequentCalls.{Empties, Resamples}
 use Rattle.datasketches_c.specs.FrequentStrings.{strings_eq}
 use Rattle.datasketches_c.specs.Kinds.{HoldsKind, filter_of, count_i64_of, count_u64_of, frequent_i64_of, frequent_u64_of, frequent_strings_of}
-use Rattle.datasketches_c.specs.Numbers.{no_sketch, ok, wrong_kind}
+use Rattle.datasketches_c.specs.Numbers.{no_sketch, ok}
+use Rattle.datasketches_c.specs.Sharing.{unchangeable}
 use Rattle.datasketches_c.specs.declared.any_sketch.AnySketch.{AnySketch}
 use Rattle.datasketches_c.specs.declared.any_sketch.Held.TheVariants.{Own}
 use Rattle.datasketches_c.specs.declared.any_sketch.AnySketch.TheVariants as held
@@ -59,7 +60,7 @@ Resets (held.CountU64 (Own s)) new result = HoldsKind count_u64_of (Some new) (�
 Resets (held.FrequentI64 (Own s)) new result = (result ≡ ok) × HoldsKind frequent_i64_of (Some new) (Empties int_eq s)
 Resets (held.FrequentU64 (Own s)) new result = (result ≡ ok) × HoldsKind frequent_u64_of (Some new) (Empties nat_eq s)
 Resets (held.FrequentStrings (Own s)) new result = (result ≡ ok) × HoldsKind frequent_strings_of (Some new) (Empties strings_eq s)
-Resets old new result = (result ≡ wrong_kind) × (new ≡ old)
+Resets old new result = (result ≡ unchangeable old) × (new ≡ old)
 
 -- the same of a handle's sketch
 abbrev pub ResetsAny : (old new : Option AnySketch) → ℤ → Type 0
@@ -72,7 +73,7 @@ abbrev pub Resampled : (old : AnySketch) → ℕ → (new : AnySketch) → ℤ �
 Resampled (held.FrequentI64 (Own s)) n new result = HoldsKind frequent_i64_of (Some new) (λ t. Resamples int_eq s n t result)
 Resampled (held.FrequentU64 (Own s)) n new result = HoldsKind frequent_u64_of (Some new) (λ t. Resamples nat_eq s n t result)
 Resampled (held.FrequentStrings (Own s)) n new result = HoldsKind frequent_strings_of (Some new) (λ t. Resamples strings_eq s n t result)
-Resampled old n new result = (result ≡ wrong_kind) × (new ≡ old)
+Resampled old n new result = (result ≡ unchangeable old) × (new ≡ old)
 
 abbrev pub ResamplesAny : (old : Option AnySketch) → ℕ → (new : Option AnySketch) → ℤ → Type 0
 ResamplesAny (Some old) n (Some new) result = Resampled old n new result

@@ -5,7 +5,7 @@ use Rattle.sketch_base.specs.declared.fault.Fault.TheVariants.{WeightOverflow}
 use Rattle.sketch_countmin.specs.State.{CountState, IsMinCell, upper_bound_of}
 use Rattle.datasketches_c.specs.CountSteps.{Weighs, WeighsAll, WeighsEach}
 use Rattle.datasketches_c.specs.Estimates.{IsEstimate, AreEstimates}
-use Rattle.datasketches_c.specs.Kinds.{OnKind, HoldsKind}
+use Rattle.datasketches_c.specs.Kinds.{ChangesKind, OnKind, HoldsKind}
 use Rattle.datasketches_c.specs.Numbers.{OnRefused, ok, refusal_number}
 use Rattle.datasketches_c.specs.ValidRows.{OnRows}
 use Rattle.datasketches_c.specs.declared.any_sketch.AnySketch.{AnySketch}
@@ -48,7 +48,7 @@ module _ (part : AnySketch → Option CountState) (greatest : ℕ) where
   -- the weight was added to the item's, or the result is `WeightOverflow` if the total has no room for it
   abbrev pub AddsWeight : (old new : Option AnySketch) → ℤ → (bytes : List ℕ) → (weight : ℤ) → Type 0
   AddsWeight old new result bytes weight =
-      OnKind part old new result (λ s.
+      ChangesKind part old new result (λ s.
       (s.total + unsigned_abs weight ≤ greatest → (result ≡ ok) × HoldsKind part new (Weighs s bytes weight))
       × (greatest < s.total + unsigned_abs weight → result ≡ refusal_number WeightOverflow))
 

@@ -17,7 +17,8 @@ use Rattle.datasketches_c.specs.FilterCalls.{InsertsAll}
 use Rattle.datasketches_c.specs.Kinds.{HoldsKind, count_i64_of}
 use Rattle.datasketches_c.specs.ManyItems.{ManyItems}
 use Rattle.datasketches_c.specs.ManyItems.Rows.{strings}
-use Rattle.datasketches_c.specs.Numbers.{bad_argument, max_i64, no_sketch, refusal_number, wrong_kind}
+use Rattle.datasketches_c.specs.Numbers.{bad_argument, max_i64, no_sketch, refusal_number}
+use Rattle.datasketches_c.specs.Sharing.{unchangeable}
 use Rattle.datasketches_c.specs.declared.any_sketch.AnySketch.{AnySketch}
 use Rattle.datasketches_c.specs.declared.any_sketch.AnySketch.TheVariants.{CountI64, CountU64, Filter, FrequentStrings}
 use Rattle.datasketches_c.specs.declared.any_sketch.Held.TheVariants.{Own}
@@ -108,7 +109,7 @@ UpdatesFields chosen bytes (Some (CountU64 (Own s))) new a b result =
 UpdatesFields chosen bytes (Some (FrequentStrings (Own s))) new a b result =
     OnRead number_in 1 chosen bytes result a b (new ≡ Some (FrequentStrings (Own s))) (λ found.
     WeighsAny (Some (FrequentStrings (Own s))) new (all_strings found.items) found.weights result)
-UpdatesFields chosen bytes (Some old) new a b result = (result ≡ wrong_kind) × (new ≡ Some old) × (b ≡ a)
+UpdatesFields chosen bytes (Some old) new a b result = (result ≡ unchangeable old) × (new ≡ Some old) × (b ≡ a)
 
 -- The items of records were inserted into the handle's filter, one after another. Without a filter, or with a shared one, nothing is read
 -- and nothing is written.
@@ -117,4 +118,4 @@ InsertsFields chosen bytes None new a b result = (result ≡ no_sketch) × (new 
 InsertsFields chosen bytes (Some (Filter (Own s))) new a b result =
     OnRead number_in 1 chosen bytes result a b (new ≡ Some (Filter (Own s))) (λ found.
     InsertsAll (Some (Filter (Own s))) new result (fed_strings found.items))
-InsertsFields chosen bytes (Some old) new a b result = (result ≡ wrong_kind) × (new ≡ Some old) × (b ≡ a)
+InsertsFields chosen bytes (Some old) new a b result = (result ≡ unchangeable old) × (new ≡ Some old) × (b ≡ a)

@@ -4,7 +4,7 @@ use Rattle.sketch_bloom.specs.History.{all_inserted_after}
 use Rattle.sketch_bloom.specs.History.BloomHistory.{Insert}
 use Rattle.sketch_bloom.specs.Stands.{Extends}
 use Rattle.sketch_bloom.specs.State.{FilterState, all_inserted, answers_in_turn, contains_item, inserted}
-use Rattle.datasketches_c.specs.Kinds.{OnFilter}
+use Rattle.datasketches_c.specs.Kinds.{ChangesFilter}
 use Rattle.datasketches_c.specs.Numbers.{no, ok, yes}
 use Rattle.datasketches_c.specs.ValidRows.{OnRows}
 use Rattle.datasketches_c.specs.declared.any_sketch.AnySketch.{AnySketch}
@@ -18,19 +18,19 @@ InsertsInto s t items result = (result ≡ ok) × (t ≡ all_inserted s items) �
 -- the items were inserted into the handle's filter, one after another
 abbrev pub InsertsAll : (old new : Option AnySketch) → ℤ → List (List ℕ) → Type 0
 InsertsAll old new result items =
-    OnFilter old new result (λ s.
+    ChangesFilter old new result (λ s.
     (result ≡ ok) × (new ≡ Some (Filter (Own (all_inserted s items)))) × Extends s (all_inserted s items) (λ h. all_inserted_after h items))
 
 -- the item was inserted into the handle's filter, and the result tells whether it was there
 abbrev pub TellsAndInserts : (old new : Option AnySketch) → ℤ → List ℕ → Type 0
 TellsAndInserts old new result bytes =
-    OnFilter old new result (λ s.
+    ChangesFilter old new result (λ s.
     (result ≡ (if contains_item s bytes then yes else no)) × (new ≡ Some (Filter (Own (inserted s bytes))))
     × Extends s (inserted s bytes) (λ h. Insert h bytes))
 
 -- the items were inserted into the handle's filter in turn, and the answers of their rows tell for each whether it was there in its turn
 abbrev pub TellsAndInsertsAll : (old new : Option AnySketch) → ℤ → Option (List Bool) → List (List ℕ) → (by_row : List Bool) → Type 0
 TellsAndInsertsAll old new result validity items by_row =
-    OnFilter old new result (λ s.
+    ChangesFilter old new result (λ s.
     (result ≡ ok) × OnRows validity false by_row (λ answers. answers ≡ answers_in_turn s items) × (new ≡ Some (Filter (Own (all_inserted s items))))
     × Extends s (all_inserted s items) (λ h. all_inserted_after h items))

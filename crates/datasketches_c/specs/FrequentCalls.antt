@@ -18,6 +18,10 @@ use Rattle.sketch_frequencies.specs.declared.item_bounds.ItemBounds.{ItemBounds}
 abbrev pub StopsOnlyToGrow : {T : Type 0} → (old : FrequentState T) (weights : List ℕ) (new : FrequentState T) (result : ℤ) → Type 0
 StopsOnlyToGrow old weights new result = TotalHasRoom old (sum weights) → OnRefused result (must_grow new ≡ true)
 
+-- a batch of weights of 1 stops only where the total has no room, or where the table must double
+abbrev pub StopsOnlyIfFull : {T : Type 0} → (new : FrequentState T) (result : ℤ) → Type 0
+StopsOnlyIfFull new result = OnRefused result (TotalHasRoom new 1 → must_grow new ≡ true)
+
 module _ {T : Type 0} (eq : T → T → Bool) where
   -- new is old with a weight above 0 added to the item. It stands for the history with that update, and keeps its tail budget
   pub record Weighs (old : FrequentState T) (item : T) (weight : ℕ) (new : FrequentState T) : Type 0 where
@@ -48,6 +52,11 @@ module _ {T : Type 0} (eq : T → T → Bool) where
     pub refused : OnRefused result (new ≡ old)
     pub overflow : Overflows old other.total → result ≡ refusal_number WeightOverflow
     pub memory : TotalHasRoom old other.total → OnRefused result (result ≡ refusal_number NoMemory)
+
+  -- the same for numbers. It allocates nothing if the table has its maximum size
+  pub record MergesNumbers (old other new : FrequentState T) (result : ℤ) : Type 0 where
+    pub merges : MergesInto old other new result
+    pub infallible : old.size ≡ old.max_size → TotalHasRoom old other.total → result ≡ ok
 
   -- the bounds are the sketch's numbers for the item, and hold for its weight in each history for which the sketch stands
   pub record AreBounds (s : FrequentState T) (item : T) (bounds : ItemBounds) : Type 0 where

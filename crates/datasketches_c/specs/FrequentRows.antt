@@ -41,12 +41,16 @@ module _ {T : Type 0} (eq : T → T → Bool) (kind : ErrorType) (threshold : �
     pub none_missing : kind ≡ NoFalseNegatives → MissesNone eq threshold s rows
     pub none_below : kind ≡ NoFalsePositives → ShowsNoneBelow eq threshold s rows
 
-  -- the rows of the report were counted, and written if both buffers have room for them. Otherwise the result is `no_room`
+  -- the rows are the first ones of these, at most so many as the limit
+  abbrev pub AreFirstRows : (limit : ℕ) → List (RowValue T) → Type 0
+  AreFirstRows limit rows = (all : List (RowValue T)) × AreRows all × (rows ≡ take limit all)
+
+  -- the first rows of the report were counted, and written if both buffers have room for them. Otherwise the result is `no_room`
   pub record Reports
-      (items_old items_new : List T) (bounds_old bounds_new : List ItemBounds) (count : ℕ) (result : ℤ)
+      (limit : ℕ) (items_old items_new : List T) (bounds_old bounds_new : List ItemBounds) (count : ℕ) (result : ℤ)
       : Type 0 where
     pub rows : List (RowValue T)
-    pub are : AreRows rows
+    pub are : AreFirstRows limit rows
     pub counted : count ≡ length rows
     pub written :
         count ≤ length items_old → count ≤ length bounds_old →
@@ -56,6 +60,6 @@ module _ {T : Type 0} (eq : T → T → Bool) (kind : ErrorType) (threshold : �
 
   -- the report was made, or the result is `NoMemory`
   abbrev pub WritesRows :
-      (items_old items_new : List T) (bounds_old bounds_new : List ItemBounds) (count : ℕ) (result : ℤ) → Type 0
-  WritesRows items_old items_new bounds_old bounds_new count result =
-      Reports items_old items_new bounds_old bounds_new count result ⊎ (result ≡ refusal_number NoMemory)
+      (limit : ℕ) → (items_old items_new : List T) (bounds_old bounds_new : List ItemBounds) (count : ℕ) (result : ℤ) → Type 0
+  WritesRows limit items_old items_new bounds_old bounds_new count result =
+      Reports limit items_old items_new bounds_old bounds_new count result ⊎ (result ≡ refusal_number NoMemory)

@@ -8,7 +8,7 @@ use Rattle.sketch_base.specs.declared.fault.Fault.TheVariants.{NoMemory}
 use Rattle.sketch_frequencies.specs.RowValue.{RowValue}
 use Rattle.sketch_frequencies.specs.State.{FrequentState}
 use Rattle.sketch_frequencies.specs.declared.error_type.ErrorType.{ErrorType}
-use Rattle.datasketches_c.specs.FrequentRows.{AreRows, bounds_in}
+use Rattle.datasketches_c.specs.FrequentRows.{AreFirstRows, bounds_in}
 use Rattle.datasketches_c.specs.FrequentStrings.{strings_eq}
 use Rattle.datasketches_c.specs.Numbers.{OnRefused, ok, no_room, refusal_number}
 use Rattle.sketch_base.specs.Strings.{strings_of}
@@ -57,7 +57,7 @@ pub record LeavesStringRows (old new : StringBuffers) (count_old count_new num_b
 
 -- the report was made, or the result is `NoMemory`
 abbrev pub WritesStringRows :
-    ErrorType → ℕ → FrequentState (String Global) → (old new : StringBuffers) → (count num_bytes : ℕ) → ℤ → Type 0
-WritesStringRows kind threshold s old new count num_bytes result =
-    ((rows : List (RowValue (String Global))) × AreRows strings_eq kind threshold s rows × ReportsStrings rows old new count num_bytes result)
+    ErrorType → (threshold limit : ℕ) → FrequentState (String Global) → (old new : StringBuffers) → (count num_bytes : ℕ) → ℤ → Type 0
+WritesStringRows kind threshold limit s old new count num_bytes result =
+    ((rows : List (RowValue (String Global))) × AreFirstRows strings_eq kind threshold s limit rows × ReportsStrings rows old new count num_bytes result)
     ⊎ (result ≡ refusal_number NoMemory)

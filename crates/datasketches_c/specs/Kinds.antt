@@ -5,22 +5,31 @@ use Rattle.std.specs.declared.string.String.{String}
 use Rattle.sketch_bloom.specs.State.{FilterState}
 use Rattle.sketch_countmin.specs.State.{CountState}
 use Rattle.sketch_frequencies.specs.State.{FrequentState}
-use Rattle.datasketches_c.specs.Numbers.{OnRefused, ok, no_sketch, wrong_kind}
-use Rattle.datasketches_c.specs.Sharing.{reads}
+use Rattle.datasketches_c.specs.Numbers.{OnRefused, ok, no_sketch}
+use Rattle.datasketches_c.specs.Sharing.{reads, unchangeable, unreadable}
 use Rattle.datasketches_c.specs.declared.any_sketch.AnySketch.{AnySketch}
 use Rattle.datasketches_c.specs.declared.any_sketch.Held.TheVariants.{Own}
 use Rattle.datasketches_c.specs.declared.any_sketch.AnySketch.TheVariants.{Filter, CountI64, CountU64, FrequentI64, FrequentStrings, FrequentU64}
 
-module _ {S : Type 0} (part : AnySketch → Option S) where
-  -- the statement holds of the sketch of this kind. If there is none, the result is `wrong_kind` and the handle is unchanged.
-  -- `OnKind` states this of a handle, and `no_sketch` if the handle is empty
-  abbrev pub OnPart : Option S → AnySketch → Option AnySketch → ℤ → (S → Type 0) → Type 0
-  OnPart (Some s) held new result said = said s
-  OnPart None held new result said = (result ≡ wrong_kind) × (new ≡ Some held)
+-- the statement holds of the sketch of this kind. If there is none, the result is the error that `refusal` has for the sketch, and the
+-- handle is unchanged. `OnKindOr` states this of a handle, and `no_sketch` if the handle is empty
+module _ {S : Type 0} (refusal : AnySketch → ℤ) (part : AnySketch → Option S) where
+  abbrev pub OnPartOr : Option S → AnySketch → Option AnySketch → ℤ → (S → Type 0) → Type 0
+  OnPartOr (Some s) held new result said = said s
+  OnPartOr None held new result said = (result ≡ refusal held) × (new ≡ Some held)
 
+  abbrev pub OnKindOr : (old new : Option AnySketch) → ℤ → (S → Type 0) → Type 0
+  OnKindOr None new result said = (result ≡ no_sketch) × (new ≡ None)
+  OnKindOr (Some held) new result said = OnPartOr (part held) held new result said
+
+module _ {S : Type 0} (part : AnySketch → Option S) where
+  -- `OnKindOr` for calls that read the sketch of a handle
   abbrev pub OnKind : (old new : Option AnySketch) → ℤ → (S → Type 0) → Type 0
-  OnKind None new result said = (result ≡ no_sketch) × (new ≡ None)
-  OnKind (Some held) new result said = OnPart (part held) held new result said
+  OnKind = OnKindOr unreadable part
+
+  -- `OnKindOr` for calls that change the sketch of a handle
+  abbrev pub ChangesKind : (old new : Option AnySketch) → ℤ → (S → Type 0) → Type 0
+  ChangesKind = OnKindOr unchangeable part
 
   -- there is a sketch of this kind, and the statement holds of it. `HoldsKind` states this of a handle
   abbrev pub OfPart : Option S → (S → Type 0) → Type 0
@@ -69,21 +78,21 @@ abbrev pub frequent_strings_of : AnySketch → Option (FrequentState (String Glo
 frequent_strings_of (FrequentStrings (Own s)) = Some s
 frequent_strings_of held = None
 
--- `OnKind` for filters; below, for the other kinds
-abbrev pub OnFilter : (old new : Option AnySketch) → ℤ → (FilterState → Type 0) → Type 0
-OnFilter = OnKind filter_of
+-- `ChangesKind` for filters; below, for the other kinds
+abbrev pub ChangesFilter : (old new : Option AnySketch) → ℤ → (FilterState → Type 0) → Type 0
+ChangesFilter = ChangesKind filter_of
 
-abbrev pub OnCountU64 : (old new : Option AnySketch) → ℤ → (CountState → Type 0) → Type 0
-OnCountU64 = OnKind count_u64_of
+abbrev pub ChangesCountU64 : (old new : Option AnySketch) → ℤ → (CountState → Type 0) → Type 0
+ChangesCountU64 = ChangesKind count_u64_of
 
-abbrev pub OnFrequentI64 : (old new : Option AnySketch) → ℤ → (FrequentState ℤ → Type 0) → Type 0
-OnFrequentI64 = OnKind frequent_i64_of
+abbrev pub ChangesFrequentI64 : (old new : Option AnySketch) → ℤ → (FrequentState ℤ → Type 0) → Type 0
+ChangesFrequentI64 = ChangesKind frequent_i64_of
 
-abbrev pub OnFrequentU64 : (old new : Option AnySketch) → ℤ → (FrequentState ℕ → Type 0) → Type 0
-OnFrequentU64 = OnKind frequent_u64_of
+abbrev pub ChangesFrequentU64 : (old new : Option AnySketch) → ℤ → (FrequentState ℕ → Type 0) → Type 0
+ChangesFrequentU64 = ChangesKind frequent_u64_of
 
-abbrev pub OnFrequentStrings : (old new : Option AnySketch) → ℤ → (FrequentState (String Global) → Type 0) → Type 0
-OnFrequentStrings = OnKind frequent_strings_of
+abbrev pub ChangesFrequentStrings : (old new : Option AnySketch) → ℤ → (FrequentState (String Global) → Type 0) → Type 0
+ChangesFrequentStrings = ChangesKind frequent_strings_of
 
 -- `HoldsKind` for filters; below, for the other kinds
 abbrev pub HoldsFilter : Option AnySketch → (FilterState → Type 0) → Type 0

@@ -12,6 +12,7 @@ pub mod Estimates
 pub mod FieldUpdates
 pub mod FilterCalls
 pub mod FilterImages
+pub mod FilterSizes
 pub mod FrequentBatches
 pub mod FrequentCalls
 pub mod FrequentImages

@@ -47,3 +47,8 @@ module _ {T : Type 0} (eq : T → T → Bool) where
     pub refused : OnRefused result (new ≡ old)
     pub overflow : Overflows old (total_of_all others) → result ≡ refusal_number WeightOverflow
     pub memory : TotalHasRoom old (total_of_all others) → OnRefused result (result ≡ refusal_number NoMemory)
+
+  -- the same for numbers. It allocates nothing if the table has its maximum size
+  pub record MergesAllNumbers (old : FrequentState T) (others : List (FrequentState T)) (new : FrequentState T) (result : ℤ) : Type 0 where
+    pub merges : MergesAllInto old others new result
+    pub infallible : old.size ≡ old.max_size → TotalHasRoom old (total_of_all others) → result ≡ ok

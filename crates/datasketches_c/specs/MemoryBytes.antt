@@ -1,17 +1,23 @@
 -- The number of bytes that a sketch takes, by fixed formulas.
 use Rattle.std.specs.Prelude.{◌≡◌, ◌*◌, ℕ, ℤ, Option, Some, None}
 use Rattle.std.specs.String.{string_bytes}
-use Rattle.counter_table.specs.Bytes.{table_bytes}
+use Rattle.counter_table.specs.Bytes.{slots_bytes}
 use Rattle.sketch_countmin.specs.Shapes.{grid_bytes}
 use Rattle.sketch_frequencies.specs.Items.{i64_codec, text_codec, u64_codec}
 use Rattle.sketch_frequencies.specs.Memory.{memory_bytes, owned_by}
-use Rattle.datasketches_c.specs.FrequentImages.{i64_row, u64_row}
-use Rattle.datasketches_c.specs.FrequentStringImages.{string_row}
 use Rattle.datasketches_c.specs.Numbers.{no_sketch, ok}
 use Rattle.datasketches_c.specs.Sharing.{unshared}
 use Rattle.datasketches_c.specs.declared.any_sketch.AnySketch.{AnySketch}
 use Rattle.datasketches_c.specs.declared.any_sketch.Held.TheVariants.{Own}
 use Rattle.datasketches_c.specs.declared.any_sketch.AnySketch.TheVariants.{Filter, CountI64, CountU64, FrequentI64, FrequentStrings, FrequentU64}
+
+-- the bytes of a table of numbers: 28 for each slot, since an `Option` of a number takes 16
+abbrev pub number_slots : ℕ → ℕ
+number_slots size = slots_bytes 16 size
+
+-- the bytes of a table of strings: 44 for each slot, since an `Option` of a string takes 32
+abbrev pub string_slots : ℕ → ℕ
+string_slots size = slots_bytes 32 size
 
 -- 8 for each word of a filter, and for each cell and each row of a Count-Min sketch. For frequent items, the bytes of the table
 -- and those that the items own
@@ -19,10 +25,10 @@ abbrev pub bytes_of : AnySketch → ℕ
 bytes_of (Filter (Own s)) = 8 * s.num_words
 bytes_of (CountI64 (Own s)) = grid_bytes 8 s.hashes s.buckets
 bytes_of (CountU64 (Own s)) = grid_bytes 8 s.hashes s.buckets
-bytes_of (FrequentI64 (Own s)) = memory_bytes (table_bytes i64_row s.size) (owned_by i64_codec (λ n. n) s.counters)
-bytes_of (FrequentU64 (Own s)) = memory_bytes (table_bytes u64_row s.size) (owned_by u64_codec (λ n. n) s.counters)
+bytes_of (FrequentI64 (Own s)) = memory_bytes (number_slots s.size) (owned_by i64_codec (λ n. n) s.counters)
+bytes_of (FrequentU64 (Own s)) = memory_bytes (number_slots s.size) (owned_by u64_codec (λ n. n) s.counters)
 bytes_of (FrequentStrings (Own s)) =
-    memory_bytes (table_bytes string_row s.size) (owned_by text_codec (λ item. string_bytes item) s.counters)
+    memory_bytes (string_slots s.size) (owned_by text_codec (λ item. string_bytes item) s.counters)
 bytes_of held = 0
 
 -- the call wrote the number of bytes that the handle's sketch takes, or the result is `no_sketch` and nothing was written

@@ -49,6 +49,14 @@ bad_argument = negsuc 4
 abbrev pub bad_offsets : ℤ
 bad_offsets = negsuc 5
 
+-- the sketch is shared, and the call changes it: -8
+abbrev pub shared : ℤ
+shared = negsuc 7
+
+-- the sketch is not shared, and the call takes shared ones alone: -9
+abbrev pub not_shared : ℤ
+not_shared = negsuc 8
+
 -- the result for a fault: -11 or below, or that of bad offsets
 abbrev pub refusal_number : Fault → ℤ
 refusal_number fault.BadNumBits = negsuc 10

@@ -1,8 +1,8 @@
 -- Sketches that several handles share.
-use Rattle.std.specs.Prelude.{◌≡◌, ◌⊎◌, Bool, true, false, Option, Some, None, ℤ}
+use Rattle.std.specs.Prelude.{◌≡◌, ◌⊎◌, Bool, true, false, Option, Some, None, ℤ, if◌then◌else◌}
 use Rattle.std.specs.Arc.{arc_value}
 use Rattle.sketch_base.specs.declared.fault.Fault.TheVariants.{NoMemory}
-use Rattle.datasketches_c.specs.Numbers.{no_sketch, refusal_number, wrong_kind}
+use Rattle.datasketches_c.specs.Numbers.{no_sketch, not_shared, refusal_number, shared, wrong_kind}
 use Rattle.datasketches_c.specs.declared.any_sketch.AnySketch.{AnySketch}
 use Rattle.datasketches_c.specs.declared.any_sketch.AnySketch.TheVariants.{Filter, CountI64, CountU64, FrequentI64, FrequentU64, FrequentStrings, Moved}
 use Rattle.datasketches_c.specs.declared.any_sketch.Held.{Held}
@@ -11,11 +11,11 @@ use Rattle.datasketches_c.specs.declared.any_sketch.Held.TheVariants.{Own, Share
 -- the sketch that is held
 abbrev pub value_in : {K : Type 0} → Held K → K
 value_in (Own sketch) = sketch
-value_in (Shared shared) = arc_value shared
+value_in (Shared arc) = arc_value arc
 
 abbrev pub is_share : {K : Type 0} → Held K → Bool
 is_share (Own sketch) = false
-is_share (Shared shared) = true
+is_share (Shared arc) = true
 
 -- the sketch as one that is not shared
 abbrev pub unshared : AnySketch → AnySketch
@@ -39,6 +39,14 @@ is_shared Moved = false
 -- the sketch of a kind, shared or not, where `part` gives one that is not shared
 abbrev pub reads : {S : Type 0} → (AnySketch → Option S) → AnySketch → Option S
 reads part held = part (unshared held)
+
+-- the error of a call that cannot read the sketch: it is of another kind
+abbrev pub unreadable : AnySketch → ℤ
+unreadable held = wrong_kind
+
+-- the error of a call that cannot change the sketch: it is shared, or else of another kind
+abbrev pub unchangeable : AnySketch → ℤ
+unchangeable held = if is_shared held then shared else wrong_kind
 
 -- new holds the sketch of old, and shares it
 abbrev pub IsShareOf : Option AnySketch → Option AnySketch → Type 0
@@ -65,4 +73,4 @@ IsFreezeRefusal (Some held) result =
 abbrev pub IsShareRefusal : Option AnySketch → ℤ → Type 0
 IsShareRefusal None result = result ≡ no_sketch
 IsShareRefusal (Some held) result =
-    ((result ≡ wrong_kind) × (is_shared held ≡ false)) ⊎ ((result ≡ refusal_number NoMemory) × (is_shared held ≡ true))
+    ((result ≡ not_shared) × (is_shared held ≡ false)) ⊎ ((result ≡ refusal_number NoMemory) × (is_shared held ≡ true))

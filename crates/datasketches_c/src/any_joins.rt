@@ -31,7 +31,7 @@ fn merge_with(alloc: Global, sketch: &mut AnySketch, other: &mut SketchHandle) -
             other,
             SetOperation::Union,
         ),
-        _ => WRONG_KIND,
+        _ => sketch.refusal_of_change(),
     }
 }
 
@@ -40,8 +40,8 @@ fn merge_with(alloc: Global, sketch: &mut AnySketch, other: &mut SketchHandle) -
 ///
 /// Returns the first of these errors, and then changes nothing:
 ///
-/// - `NO_SKETCH` if a handle has no sketch, and `WRONG_KIND` if this one's is shared, or the other's is of another kind. The errors
-///   of `handle` come before those of `other`.
+/// - `NO_SKETCH` if a handle has no sketch, `SHARED` if this one's is shared, and `WRONG_KIND` if the other's is of another kind.
+///   The errors of `handle` come before those of `other`.
 /// - `Mismatch` if the shapes or the seeds of two filters or two Count-Min sketches differ.
 /// - `WeightOverflow` if the totals together exceed 2^64 - 1, or 2^63 - 1 for weights in `i64`.
 /// - `NoMemory` if an allocation fails. Only a sketch of frequent items allocates.
@@ -76,7 +76,7 @@ fn merge_with_all(alloc: Global, sketch: &mut AnySketch, others: &mut [SketchHan
         AnySketch::CountI64(Held::Own(sketch)) => join_many_into(alloc, sketch, others),
         AnySketch::CountU64(Held::Own(sketch)) => join_many_into(alloc, sketch, others),
         AnySketch::Filter(Held::Own(sketch)) => join_many_into(alloc, sketch, others),
-        _ => WRONG_KIND,
+        _ => sketch.refusal_of_change(),
     }
 }
 
@@ -85,8 +85,8 @@ fn merge_with_all(alloc: Global, sketch: &mut AnySketch, others: &mut [SketchHan
 ///
 /// Returns the first of these errors, and then changes nothing:
 ///
-/// - `NO_SKETCH` if a handle has no sketch, and `WRONG_KIND` if this one's is shared, or another's is of another kind. The errors of
-///   `handle` come first, then those of `others`, in order.
+/// - `NO_SKETCH` if a handle has no sketch, `SHARED` if this one's is shared, and `WRONG_KIND` if another's is of another kind. The
+///   errors of `handle` come first, then those of `others`, in order.
 /// - `NoMemory` if the list of the other sketches cannot be allocated, of two words for each.
 /// - `Mismatch` if another filter or Count-Min sketch differs from this one in shape or seed.
 /// - `WeightOverflow` if the totals together exceed 2^64 - 1, or 2^63 - 1 for weights in `i64`.

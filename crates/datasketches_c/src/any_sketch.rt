@@ -1,7 +1,8 @@
 //! Sketches of any kind, alone or shared.
 ghost use Rattle.std.specs.Prelude.{◌≡◌};
-ghost use Rattle.datasketches_c.specs.Sharing.{value_in};
+ghost use Rattle.datasketches_c.specs.Sharing.{unchangeable, value_in};
 
+use crate::status_code::{SHARED, WRONG_KIND};
 use sketch_bloom::BloomFilter;
 use sketch_countmin::CountMinSketch;
 use sketch_frequencies::FrequentItemsSketch;
@@ -37,4 +38,22 @@ pub enum AnySketch {
     CountU64(Held<CountMinSketch<u64>>),
     Filter(Held<BloomFilter>),
     Moved,
+}
+
+impl AnySketch {
+    /// Returns the error of a call that cannot change the sketch: `SHARED` if it is shared, and `WRONG_KIND` otherwise.
+    #[cold]
+    pub(crate) fn refusal_of_change(&self) -> i32
+        ensures { result ≡ unchangeable self.now }
+    {
+        match self {
+            AnySketch::FrequentStrings(Held::Shared(_)) => SHARED,
+            AnySketch::FrequentI64(Held::Shared(_)) => SHARED,
+            AnySketch::FrequentU64(Held::Shared(_)) => SHARED,
+            AnySketch::CountI64(Held::Shared(_)) => SHARED,
+            AnySketch::CountU64(Held::Shared(_)) => SHARED,
+            AnySketch::Filter(Held::Shared(_)) => SHARED,
+            _ => WRONG_KIND,
+        }
+    }
 }

@@ -29,7 +29,7 @@ fn update_with(sketch: &mut AnySketch, items: GivenItems<'_>) -> i32
         AnySketch::FrequentU64(Held::Own(sketch)) => add_u64s(sketch, items),
         AnySketch::CountI64(Held::Own(sketch)) => add_given(sketch, items),
         AnySketch::CountU64(Held::Own(sketch)) => add_given(sketch, items),
-        _ => WRONG_KIND,
+        _ => sketch.refusal_of_change(),
     }
 }
 
@@ -54,12 +54,12 @@ fn update_given(alloc: Global, handle: &mut SketchHandle, items: GivenItems<'_>)
 ///   bitmap.
 /// - `BadOffsets` if there is no offset, an offset is below the one before it, or an offset exceeds the number of bytes.
 /// - `InvalidUtf8` if a string is not UTF-8.
-/// - `NO_SKETCH` if the handle has no sketch, and `WRONG_KIND` if its sketch is a filter, shared, or one of frequent items of another
-///   type.
+/// - `NO_SKETCH` if the handle has no sketch, `SHARED` if its sketch is shared, and `WRONG_KIND` if it is a filter or of frequent
+///   items of another type.
 ///
-/// Returns the error of the first item whose own update returns one. Then the items before it are added, and no others. The error is
-/// `WeightOverflow` if the total would exceed 2^64 - 1, or 2^63 - 1 for weights in `i64`. It is `NoMemory` if an allocation fails,
-/// which only a sketch of frequent items makes.
+/// Returns the error of the first item whose own update returns one. Then the items before it are added, and no others. The error
+/// is `WeightOverflow` if the total would exceed 2^64 - 1, or 2^63 - 1 for weights in `i64`. It is `NoMemory` if an allocation
+/// fails, which only a sketch of frequent items makes.
 #[unsafe(no_mangle)]
 pub extern "C" fn ds_update_all(
     alloc: Global,
@@ -88,7 +88,7 @@ pub(crate) fn update_weighted_with(
         AnySketch::FrequentI64(Held::Own(sketch)) => add_i64s_weighted(sketch, items, weights),
         AnySketch::FrequentU64(Held::Own(sketch)) => add_u64s_weighted(sketch, items, weights),
         AnySketch::CountU64(Held::Own(sketch)) => add_given_weighted(sketch, items, weights),
-        _ => WRONG_KIND,
+        _ => sketch.refusal_of_change(),
     }
 }
 
@@ -141,8 +141,8 @@ fn update_weighted_rows(
 /// - `InvalidUtf8` if a string is not UTF-8.
 /// - `NO_ROOM` if the number of rows is not the length of `weights`.
 /// - `NoMemory` if the items have a bitmap, and the copy of the weights of valid rows cannot be allocated.
-/// - `NO_SKETCH` if the handle has no sketch, and `WRONG_KIND` if its sketch is of another kind, shared, or one of frequent items of
-///   another type.
+/// - `NO_SKETCH` if the handle has no sketch, `SHARED` if its sketch is shared, and `WRONG_KIND` if it is of another kind or of
+///   frequent items of another type.
 /// - `WeightOverflow` if the total would exceed 2^64 - 1 with all weights.
 ///
 /// Returns `NoMemory` for the first item for which an allocation fails. Then the items before it are added, and no others. For

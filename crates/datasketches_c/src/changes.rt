@@ -184,14 +184,14 @@ fn reset(sketch: &mut AnySketch) -> i32
         AnySketch::CountI64(Held::Own(sketch)) => clear_count(sketch),
         AnySketch::CountU64(Held::Own(sketch)) => clear_count(sketch),
         AnySketch::Filter(Held::Own(sketch)) => clear_filter(sketch),
-        _ => WRONG_KIND,
+        _ => sketch.refusal_of_change(),
     }
 }
 
 /// Removes all items and weights from the handle's sketch, of any kind. Its sizes, its seed and its key stay as they were. Does not
 /// allocate.
 ///
-/// Returns `NO_SKETCH` if the handle has no sketch, and `WRONG_KIND` if its sketch is shared. Then nothing changes.
+/// Returns `NO_SKETCH` if the handle has no sketch, and `SHARED` if its sketch is shared. Then nothing changes.
 #[unsafe(no_mangle)]
 pub extern "C" fn ds_reset(alloc: Global, handle: &mut SketchHandle) -> i32
     ensures call { ResetsAny handle.old.value handle.new.value result }
@@ -214,7 +214,7 @@ fn resample_any(sketch: &mut AnySketch, sample_size: usize) -> i32
         AnySketch::FrequentStrings(Held::Own(sketch)) => resample(sketch, sample_size),
         AnySketch::FrequentI64(Held::Own(sketch)) => resample(sketch, sample_size),
         AnySketch::FrequentU64(Held::Own(sketch)) => resample(sketch, sample_size),
-        _ => WRONG_KIND,
+        _ => sketch.refusal_of_change(),
     }
 }
 
@@ -222,7 +222,7 @@ fn resample_any(sketch: &mut AnySketch, sample_size: usize) -> i32
 ///
 /// Returns the first of these errors, and then changes nothing:
 ///
-/// - `NO_SKETCH` if the handle has no sketch, and `WRONG_KIND` if its sketch is of another kind or shared.
+/// - `NO_SKETCH` if the handle has no sketch, `SHARED` if its sketch is shared, and `WRONG_KIND` if it is of another kind.
 /// - `BadSampleSize` unless `sample_size` is even, and from 2 to three quarters of the maximum size, at most 1024.
 #[unsafe(no_mangle)]
 pub extern "C" fn ds_frequent_items_set_sample_size(

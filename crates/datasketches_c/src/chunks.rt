@@ -3,7 +3,7 @@ ghost use Rattle.std.specs.Prelude.{◌≡◌, ◌≤◌, length};
 ghost use Rattle.std.specs.Str.{IsUtf8};
 ghost use Rattle.core.specs.Str.{IsValidUpTo};
 ghost use Rattle.std.specs.Str.Lines.{lines};
-ghost use Rattle.sketch_base.specs.Csv.{IsBehindLastEnd};
+ghost use Rattle.sketch_base.specs.Csv.{IsBehindLastEnd, csv_records};
 ghost use Rattle.sketch_base.specs.Split.{CutsUtf8, IsBehindLast, SplitsAt, separates, words_by};
 ghost use Rattle.sketch_base.specs.declared.place.Place.TheVariants.{Start};
 ghost use Rattle.sketch_base.specs.declared.separator.Separator.TheVariants.{AsciiWhitespace, LineFeed};
@@ -42,6 +42,7 @@ pub extern "C" fn ds_finished_lines(text: &[u8]) -> usize
 pub extern "C" fn ds_finished_csv_records(bytes: &[u8], delimiter: u8) -> usize
     ensures bound { result ≤ length bytes.now }
     ensures last { IsBehindLastEnd delimiter Start bytes.now result }
+    ensures records { SplitsAt (csv_records delimiter) bytes.now result }
 {
     let (end, _) = finished_csv_records(delimiter, Place::Start, bytes);
     end

@@ -2,7 +2,7 @@
 ghost use Rattle.std.specs.Prelude.{◌≡◌, ◌≢◌, length, map, pos};
 ghost use Rattle.datasketches_c.specs.CountCalls.{AddsEach, AddsWeights, EstimatesAll};
 ghost use Rattle.datasketches_c.specs.Estimates.{AreEstimates};
-ghost use Rattle.datasketches_c.specs.Kinds.{HoldsKind, OnKind, count_i64_of, count_u64_of};
+ghost use Rattle.datasketches_c.specs.Kinds.{ChangesKind, HoldsKind, count_i64_of, count_u64_of};
 ghost use Rattle.datasketches_c.specs.ManyItems.{OnItems, OnPlaces, fed_items, many, num_items, num_rows};
 ghost use Rattle.datasketches_c.specs.Numbers.{OnRefused, max_i64, no_room};
 ghost use Rattle.datasketches_c.specs.Sharing.{reads};
@@ -50,7 +50,7 @@ fn update_weighted<V: CountMinValue>(
 where
     CountMinSketch<V>: Kind,
     requires { length weights.now ≡ num_items (many items) }
-    ensures call { OnKind (⟦<CountMinSketch<V> as Kind>⟧.part) handle.old.value handle.new.value result (λ s.
+    ensures call { ChangesKind (⟦<CountMinSketch<V> as Kind>⟧.part) handle.old.value handle.new.value result (λ s.
         HoldsKind (⟦<CountMinSketch<V> as Kind>⟧.part) handle.new.value (λ t.
         AddsWeights V.greatest V.number s (fed_items (many items.entry)) weights.now t result)) }
     ensures refused { OnRefused result (handle.new.value ≡ handle.old.value) }
@@ -71,7 +71,7 @@ where
         → (result ≡ no_room) × (handle.new.value ≡ handle.old.value) }
     ensures call { length weights.now ≡ num_rows (many items.entry).rows
         → OnWeights (many items.entry).validity weights.now result (handle.new.value ≡ handle.old.value) (λ kept.
-        OnKind (⟦<CountMinSketch<V> as Kind>⟧.part) handle.old.value handle.new.value result (λ s.
+        ChangesKind (⟦<CountMinSketch<V> as Kind>⟧.part) handle.old.value handle.new.value result (λ s.
         HoldsKind (⟦<CountMinSketch<V> as Kind>⟧.part) handle.new.value (λ t.
         AddsWeights V.greatest V.number s (fed_items (many items.entry)) kept t result))) }
     ensures refused { OnRefused result (handle.new.value ≡ handle.old.value) }
@@ -93,7 +93,7 @@ where
 /// - `InvalidUtf8` if a string is not UTF-8.
 /// - `NO_ROOM` if the number of rows is not the length of `weights`.
 /// - `NoMemory` if the items have a bitmap, and the copy of the weights of valid rows cannot be allocated.
-/// - `NO_SKETCH` if the handle has no sketch, and `WRONG_KIND` if its sketch is of another kind or shared.
+/// - `NO_SKETCH` if the handle has no sketch, `SHARED` if its sketch is shared, and `WRONG_KIND` if it is of another kind.
 /// - `WeightOverflow` if the total would exceed 2^63 - 1 with all weights.
 #[unsafe(no_mangle)]
 pub extern "C" fn ds_count_min_i64_update_all_weighted(
@@ -105,7 +105,7 @@ pub extern "C" fn ds_count_min_i64_update_all_weighted(
     ensures call { OnItems items.now result (handle.new.value ≡ handle.old.value) (λ given.
         OnPlaces (length weights.now) given result (handle.new.value ≡ handle.old.value)
         (OnWeights given.validity weights.now result (handle.new.value ≡ handle.old.value) (λ kept.
-        OnKind count_i64_of handle.old.value handle.new.value result (λ s. HoldsKind count_i64_of handle.new.value (λ t.
+        ChangesKind count_i64_of handle.old.value handle.new.value result (λ s. HoldsKind count_i64_of handle.new.value (λ t.
         AddsWeights max_i64 (λ weight. weight) s (fed_items given) kept t result))))) }
     ensures refused { OnRefused result (handle.new.value ≡ handle.old.value) }
 {

@@ -3,7 +3,7 @@ ghost use Rattle.std.specs.Prelude.{◌≡◌, ◌<◌, ◌≤◌, Some};
 ghost use Rattle.sketch_countmin.specs.History.CountHistory.{Decay, Halve};
 ghost use Rattle.sketch_countmin.specs.Stands.{Extends};
 ghost use Rattle.sketch_countmin.specs.State.{decayed_state, halved_state};
-ghost use Rattle.datasketches_c.specs.Kinds.{OnCountU64};
+ghost use Rattle.datasketches_c.specs.Kinds.{ChangesCountU64};
 ghost use Rattle.datasketches_c.specs.Numbers.{bad_fraction, ok};
 ghost use Rattle.datasketches_c.specs.declared.any_sketch.Held.TheVariants.{Own};
 ghost use Rattle.datasketches_c.specs.declared.any_sketch.AnySketch.TheVariants.{CountU64};
@@ -16,11 +16,11 @@ use std::alloc::Global;
 
 /// Halves each cell and the total, rounded down.
 ///
-/// Returns `NO_SKETCH` if the handle has no sketch, and `WRONG_KIND` if its sketch is of another kind. Then nothing
-/// changes.
+/// Returns `NO_SKETCH` if the handle has no sketch, `SHARED` if its sketch is shared, and `WRONG_KIND` if it is of another kind.
+/// Then nothing changes.
 #[unsafe(no_mangle)]
 pub extern "C" fn ds_count_min_u64_halve(alloc: Global, handle: &mut SketchHandle) -> i32
-    ensures { OnCountU64 handle.old.value handle.new.value result (λ s.
+    ensures { ChangesCountU64 handle.old.value handle.new.value result (λ s.
         (result ≡ ok) × (handle.new.value ≡ Some (CountU64 (Own (halved_state s)))) × Extends s (halved_state s) Halve) }
 {
     on_kind!(alloc, handle, CountMinSketch<u64>, sketch => {
@@ -34,7 +34,7 @@ pub extern "C" fn ds_count_min_u64_halve(alloc: Global, handle: &mut SketchHandl
 /// Returns the first of these errors, and then changes nothing:
 ///
 /// - `BAD_FRACTION` if `numerator` is 0 or exceeds `denominator`.
-/// - `NO_SKETCH` if the handle has no sketch, and `WRONG_KIND` if its sketch is of another kind.
+/// - `NO_SKETCH` if the handle has no sketch, `SHARED` if its sketch is shared, and `WRONG_KIND` if it is of another kind.
 #[unsafe(no_mangle)]
 pub extern "C" fn ds_count_min_u64_decay(
     alloc: Global,
@@ -45,7 +45,7 @@ pub extern "C" fn ds_count_min_u64_decay(
     ensures zero { numerator ≡ 0 → (result ≡ bad_fraction) × (handle.new.value ≡ handle.old.value) }
     ensures above { denominator < numerator → (result ≡ bad_fraction) × (handle.new.value ≡ handle.old.value) }
     ensures call { 0 < numerator → numerator ≤ denominator
-        → OnCountU64 handle.old.value handle.new.value result (λ s.
+        → ChangesCountU64 handle.old.value handle.new.value result (λ s.
         (result ≡ ok) × (handle.new.value ≡ Some (CountU64 (Own (decayed_state numerator denominator s))))
         × Extends s (decayed_state numerator denominator s) (λ h. Decay h numerator denominator)) }
 {

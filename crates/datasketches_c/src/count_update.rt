@@ -17,7 +17,7 @@ use std::alloc::Global;
 ///
 /// Returns the first of these errors, and then changes nothing:
 ///
-/// - `NO_SKETCH` if the handle has no sketch, and `WRONG_KIND` if its sketch is of another kind.
+/// - `NO_SKETCH` if the handle has no sketch, `SHARED` if its sketch is shared, and `WRONG_KIND` if it is of another kind.
 /// - `WeightOverflow` if the total would exceed 2^64 - 1.
 #[unsafe(no_mangle)]
 pub extern "C" fn ds_count_min_u64_update_u64(
@@ -37,7 +37,7 @@ pub extern "C" fn ds_count_min_u64_update_u64(
 /// Returns the first of these errors, and then changes nothing:
 ///
 /// - `InvalidUtf8` if the bytes are not UTF-8.
-/// - `NO_SKETCH` if the handle has no sketch, and `WRONG_KIND` if its sketch is of another kind.
+/// - `NO_SKETCH` if the handle has no sketch, `SHARED` if its sketch is shared, and `WRONG_KIND` if it is of another kind.
 /// - `WeightOverflow` if the total would exceed 2^64 - 1.
 #[unsafe(no_mangle)]
 pub extern "C" fn ds_count_min_u64_update_string(
@@ -58,7 +58,7 @@ pub extern "C" fn ds_count_min_u64_update_string(
 ///
 /// Returns the first of these errors, and then changes nothing:
 ///
-/// - `NO_SKETCH` if the handle has no sketch, and `WRONG_KIND` if its sketch is of another kind.
+/// - `NO_SKETCH` if the handle has no sketch, `SHARED` if its sketch is shared, and `WRONG_KIND` if it is of another kind.
 /// - `WeightOverflow` if the total would exceed 2^63 - 1.
 #[unsafe(no_mangle)]
 pub extern "C" fn ds_count_min_i64_update_u64(
@@ -78,7 +78,7 @@ pub extern "C" fn ds_count_min_i64_update_u64(
 /// Returns the first of these errors, and then changes nothing:
 ///
 /// - `InvalidUtf8` if the bytes are not UTF-8.
-/// - `NO_SKETCH` if the handle has no sketch, and `WRONG_KIND` if its sketch is of another kind.
+/// - `NO_SKETCH` if the handle has no sketch, `SHARED` if its sketch is shared, and `WRONG_KIND` if it is of another kind.
 /// - `WeightOverflow` if the total would exceed 2^63 - 1.
 #[unsafe(no_mangle)]
 pub extern "C" fn ds_count_min_i64_update_string(

@@ -7,7 +7,7 @@ ghost use Rattle.datasketches_c.specs.CountCalls.{AddsWeight, Bounds, Estimates}
 ghost use Rattle.datasketches_c.specs.Estimates.{IsEstimate};
 ghost use Rattle.datasketches_c.specs.FilterCalls.{TellsAndInserts};
 ghost use Rattle.datasketches_c.specs.ImageViews.{AsksCount};
-ghost use Rattle.datasketches_c.specs.Kinds.{OnFilter, ReadsFilter, count_i64_of, count_u64_of};
+ghost use Rattle.datasketches_c.specs.Kinds.{ChangesFilter, ReadsFilter, count_i64_of, count_u64_of};
 ghost use Rattle.datasketches_c.specs.Numbers.{OnRefused, max_i64, max_u64, min_i64, no, ok, yes};
 ghost use Rattle.datasketches_c.specs.Sharing.{reads};
 ghost use Rattle.datasketches_c.specs.declared.any_sketch.Held.TheVariants.{Own};
@@ -21,11 +21,11 @@ use std::alloc::Global;
 
 /// Inserts an item that is given by the bytes that its hash feeds, in one piece.
 ///
-/// Returns `NO_SKETCH` if the handle has no sketch, and `WRONG_KIND` if its sketch is of another kind or shared. Then nothing
-/// changes.
+/// Returns `NO_SKETCH` if the handle has no sketch, `SHARED` if its sketch is shared, and `WRONG_KIND` if it is of another kind.
+/// Then nothing changes.
 #[unsafe(no_mangle)]
 pub extern "C" fn ds_bloom_insert_fed(alloc: Global, handle: &mut SketchHandle, item: &[u8]) -> i32
-    ensures { OnFilter handle.old.value handle.new.value result (λ s.
+    ensures { ChangesFilter handle.old.value handle.new.value result (λ s.
         (result ≡ ok) × (handle.new.value ≡ Some (Filter (Own (inserted s item.now))))
         × Extends s (inserted s item.now) (λ h. Insert h item.now)) }
 {
@@ -52,8 +52,8 @@ pub extern "C" fn ds_bloom_contains_fed(
 /// Inserts an item that is given as in `ds_bloom_insert_fed`, and returns `YES` if the filter contained it before, and `NO`
 /// otherwise.
 ///
-/// Returns `NO_SKETCH` if the handle has no sketch, and `WRONG_KIND` if its sketch is of another kind or shared. Then nothing
-/// changes.
+/// Returns `NO_SKETCH` if the handle has no sketch, `SHARED` if its sketch is shared, and `WRONG_KIND` if it is of another kind.
+/// Then nothing changes.
 #[unsafe(no_mangle)]
 pub extern "C" fn ds_bloom_contains_and_insert_fed(
     alloc: Global,
@@ -69,7 +69,7 @@ pub extern "C" fn ds_bloom_contains_and_insert_fed(
 ///
 /// Returns the first of these errors, and then changes nothing:
 ///
-/// - `NO_SKETCH` if the handle has no sketch, and `WRONG_KIND` if its sketch is of another kind or shared.
+/// - `NO_SKETCH` if the handle has no sketch, `SHARED` if its sketch is shared, and `WRONG_KIND` if it is of another kind.
 /// - `WeightOverflow` if the total would exceed 2^64 - 1.
 #[unsafe(no_mangle)]
 pub extern "C" fn ds_count_min_u64_update_fed(
@@ -143,7 +143,7 @@ pub extern "C" fn ds_count_min_u64_image_estimate_fed(
 ///
 /// Returns the first of these errors, and then changes nothing:
 ///
-/// - `NO_SKETCH` if the handle has no sketch, and `WRONG_KIND` if its sketch is of another kind or shared.
+/// - `NO_SKETCH` if the handle has no sketch, `SHARED` if its sketch is shared, and `WRONG_KIND` if it is of another kind.
 /// - `WeightOverflow` if the total would exceed 2^63 - 1.
 #[unsafe(no_mangle)]
 pub extern "C" fn ds_count_min_i64_update_fed(

@@ -105,7 +105,7 @@ fn update_with(
         AnySketch::FrequentStrings(Held::Own(_)) => update_unsigned(
             alloc, sketch, chosen, bytes, read,
         ),
-        _ => WRONG_KIND,
+        _ => sketch.refusal_of_change(),
     }
 }
 
@@ -133,7 +133,7 @@ fn update_chosen(
 /// Returns the first of these errors, and then changes no sketch, and of `read` only what the third one says:
 ///
 /// - `BAD_ARGUMENT` if the format is not known, the whole record of CSV is asked for, or the delimiter is not one of the format.
-/// - `NO_SKETCH` if the handle has no sketch, and `WRONG_KIND` if its sketch is of another kind or shared.
+/// - `NO_SKETCH` if the handle has no sketch, `SHARED` if its sketch is shared, and `WRONG_KIND` if it is of another kind.
 /// - The error of the first record with one, and writes at which byte it begins: `InvalidUtf8` if its item is not UTF-8, and
 ///   `BadWeight` if it has no weight, which is a whole number in decimal digits. It is below 2^64, or from -2^63 to 2^63 - 1 for
 ///   weights in `i64`. `NoMemory` if the items and weights of the records cannot be allocated.
@@ -194,7 +194,7 @@ fn insert_with(
 {
     match sketch {
         AnySketch::Filter(Held::Own(filter)) => insert_read(alloc, filter, chosen, bytes, read),
-        _ => WRONG_KIND,
+        _ => sketch.refusal_of_change(),
     }
 }
 
@@ -222,7 +222,7 @@ fn insert_chosen(
 /// Returns the first of these errors, and then changes no filter, and of `read` only what the third one says:
 ///
 /// - `BAD_ARGUMENT` if the format is not known, the whole record of CSV is asked for, or the delimiter is not one of the format.
-/// - `NO_SKETCH` if the handle has no sketch, and `WRONG_KIND` if its sketch is of another kind or shared.
+/// - `NO_SKETCH` if the handle has no sketch, `SHARED` if its sketch is shared, and `WRONG_KIND` if it is of another kind.
 /// - The error of the first record with one, and writes at which byte it begins: `InvalidUtf8` if its item is not UTF-8, and
 ///   `BadWeight` if it has no weight. `NoMemory` if the items of the records cannot be allocated.
 #[unsafe(no_mangle)]

@@ -11,7 +11,7 @@ ghost use Rattle.sketch_bloom.specs.Stands.{Extends, ExtendsBoth, StandsFor};
 ghost use Rattle.sketch_bloom.specs.State.{empty_state, contains_item, inserted, IsCompatible, intersected, subtracted};
 ghost use Rattle.datasketches_c.specs.Images.{WritesSizedImage};
 ghost use Rattle.datasketches_c.specs.Joining.{IsCombined};
-ghost use Rattle.datasketches_c.specs.Kinds.{OnFilter, ReadsFilter};
+ghost use Rattle.datasketches_c.specs.Kinds.{ChangesFilter, ReadsFilter};
 ghost use Rattle.datasketches_c.specs.Numbers.{OnDone, OnRefused, ok, no, yes, refusal_number};
 ghost use Rattle.datasketches_c.specs.declared.any_sketch.Held.TheVariants.{Own};
 ghost use Rattle.datasketches_c.specs.declared.any_sketch.AnySketch.TheVariants.{Filter};
@@ -59,7 +59,7 @@ pub extern "C" fn ds_bloom_new(
 /// Inserts an item, for the calls below.
 #[inline]
 pub(crate) fn insert<X: Item + Drop>(alloc: Global, handle: &mut SketchHandle, item: X) -> i32
-    ensures { OnFilter handle.old.value handle.new.value result (λ s.
+    ensures { ChangesFilter handle.old.value handle.new.value result (λ s.
         (result ≡ ok) × (handle.new.value ≡ Some (Filter (Own (inserted s (X.bytes item)))))
         × Extends s (inserted s (X.bytes item)) (λ h. Insert h (X.bytes item))) }
 {
@@ -71,11 +71,11 @@ pub(crate) fn insert<X: Item + Drop>(alloc: Global, handle: &mut SketchHandle, i
 
 /// Inserts a number.
 ///
-/// Returns `NO_SKETCH` if the handle has no sketch, and `WRONG_KIND` if its sketch is of another kind. Then nothing
-/// changes.
+/// Returns `NO_SKETCH` if the handle has no sketch, `SHARED` if its sketch is shared, and `WRONG_KIND` if it is of another kind.
+/// Then nothing changes.
 #[unsafe(no_mangle)]
 pub extern "C" fn ds_bloom_insert_u64(alloc: Global, handle: &mut SketchHandle, item: u64) -> i32
-    ensures { OnFilter handle.old.value handle.new.value result (λ s.
+    ensures { ChangesFilter handle.old.value handle.new.value result (λ s.
         (result ≡ ok) × (handle.new.value ≡ Some (Filter (Own (inserted s (fed_bytes fed.u64 item)))))
         × Extends s (inserted s (fed_bytes fed.u64 item)) (λ h. Insert h (fed_bytes fed.u64 item))) }
 {
@@ -87,14 +87,14 @@ pub extern "C" fn ds_bloom_insert_u64(alloc: Global, handle: &mut SketchHandle, 
 /// Returns the first of these errors, and then changes nothing:
 ///
 /// - `InvalidUtf8` if the bytes are not UTF-8.
-/// - `NO_SKETCH` if the handle has no sketch, and `WRONG_KIND` if its sketch is of another kind.
+/// - `NO_SKETCH` if the handle has no sketch, `SHARED` if its sketch is shared, and `WRONG_KIND` if it is of another kind.
 #[unsafe(no_mangle)]
 pub extern "C" fn ds_bloom_insert_string(
     alloc: Global,
     handle: &mut SketchHandle,
     item: &[u8],
 ) -> i32
-    ensures utf8 { IsUtf8 item.now → OnFilter handle.old.value handle.new.value result (λ s.
+    ensures utf8 { IsUtf8 item.now → ChangesFilter handle.old.value handle.new.value result (λ s.
         (result ≡ ok) × (handle.new.value ≡ Some (Filter (Own (inserted s (fed_bytes fed.str item.now)))))
         × Extends s (inserted s (fed_bytes fed.str item.now)) (λ h. Insert h (fed_bytes fed.str item.now))) }
     ensures invalid_utf8 { ¬ (IsUtf8 item.now) → (result ≡ refusal_number Fault.InvalidUtf8)
@@ -171,8 +171,8 @@ impl Joins<SetOperation> for BloomFilter {
 ///
 /// Returns the first of these errors, and then changes nothing:
 ///
-/// - `NO_SKETCH` if a handle has no sketch, and `WRONG_KIND` if its sketch is of another kind. The errors of `handle`
-///   come before those of `other`.
+/// - `NO_SKETCH` if a handle has no sketch, `SHARED` if that of `handle` is shared, and `WRONG_KIND` if one is of another kind. The
+///   errors of `handle` come before those of `other`.
 /// - `Mismatch` if the numbers of bits, the numbers of hashes, or the seeds differ.
 #[unsafe(no_mangle)]
 pub extern "C" fn ds_bloom_intersect(
@@ -182,7 +182,7 @@ pub extern "C" fn ds_bloom_intersect(
 ) -> i32
     ensures other { other.new.value ≡ other.old.value }
     ensures refused { OnRefused result (handle.new.value ≡ handle.old.value) }
-    ensures call { OnFilter handle.old.value handle.new.value result (λ a.
+    ensures call { ChangesFilter handle.old.value handle.new.value result (λ a.
         ReadsFilter other.old.value other.new.value result (λ b.
         (IsCompatible a b → (result ≡ ok) × (handle.new.value ≡ Some (Filter (Own (intersected a b))))
         × ExtendsBoth a b (intersected a b) Intersection)
@@ -195,8 +195,8 @@ pub extern "C" fn ds_bloom_intersect(
 ///
 /// Returns the first of these errors, and then changes nothing:
 ///
-/// - `NO_SKETCH` if a handle has no sketch, and `WRONG_KIND` if its sketch is of another kind. The errors of `handle`
-///   come before those of `other`.
+/// - `NO_SKETCH` if a handle has no sketch, `SHARED` if that of `handle` is shared, and `WRONG_KIND` if one is of another kind. The
+///   errors of `handle` come before those of `other`.
 /// - `Mismatch` if the numbers of bits, the numbers of hashes, or the seeds differ.
 #[unsafe(no_mangle)]
 pub extern "C" fn ds_bloom_difference(
@@ -206,7 +206,7 @@ pub extern "C" fn ds_bloom_difference(
 ) -> i32
     ensures other { other.new.value ≡ other.old.value }
     ensures refused { OnRefused result (handle.new.value ≡ handle.old.value) }
-    ensures call { OnFilter handle.old.value handle.new.value result (λ a.
+    ensures call { ChangesFilter handle.old.value handle.new.value result (λ a.
         ReadsFilter other.old.value other.new.value result (λ b.
         (IsCompatible a b → (result ≡ ok) × (handle.new.value ≡ Some (Filter (Own (subtracted a b))))
         × ExtendsBoth a b (subtracted a b) Difference)

@@ -45,7 +45,7 @@ fn insert_given(alloc: Global, handle: &mut SketchHandle, items: GivenItems<'_>)
 ///   bitmap.
 /// - `BadOffsets` if there is no offset, an offset is below the one before it, or an offset exceeds the number of bytes.
 /// - `InvalidUtf8` if a string is not UTF-8.
-/// - `NO_SKETCH` if the handle has no sketch, and `WRONG_KIND` if its sketch is of another kind or shared.
+/// - `NO_SKETCH` if the handle has no sketch, `SHARED` if its sketch is shared, and `WRONG_KIND` if it is of another kind.
 #[unsafe(no_mangle)]
 pub extern "C" fn ds_bloom_insert_all(
     alloc: Global,
@@ -183,7 +183,7 @@ fn contains_and_insert_given(
 /// - `BadOffsets` if there is no offset, an offset is below the one before it, or an offset exceeds the number of bytes.
 /// - `InvalidUtf8` if a string is not UTF-8.
 /// - `NO_ROOM` if the number of rows is not the length of `results`.
-/// - `NO_SKETCH` if the handle has no sketch, and `WRONG_KIND` if its sketch is of another kind or shared.
+/// - `NO_SKETCH` if the handle has no sketch, `SHARED` if its sketch is shared, and `WRONG_KIND` if it is of another kind.
 #[unsafe(no_mangle)]
 pub extern "C" fn ds_bloom_contains_and_insert_all(
     alloc: Global,

@@ -34,8 +34,8 @@ pub(crate) fn contains_and_insert<X: Item + Drop>(
 
 /// Inserts a number, and returns `YES` if the filter contained it before, and `NO` otherwise.
 ///
-/// Returns `NO_SKETCH` if the handle has no sketch, and `WRONG_KIND` if its sketch is of another kind or shared. Then nothing
-/// changes.
+/// Returns `NO_SKETCH` if the handle has no sketch, `SHARED` if its sketch is shared, and `WRONG_KIND` if it is of another kind.
+/// Then nothing changes.
 #[unsafe(no_mangle)]
 pub extern "C" fn ds_bloom_contains_and_insert_u64(
     alloc: Global,

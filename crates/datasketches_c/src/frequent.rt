@@ -1,12 +1,13 @@
 //! Calls on sketches of frequent items in handles, for any type of items.
 ghost use Rattle.std.specs.Ordering.{int_eq};
 ghost use Rattle.std.specs.Prelude.{◌≡◌, length, nat_eq};
+ghost use Rattle.sketch_frequencies.specs.State.{TotalHasRoom};
 ghost use Rattle.datasketches_c.specs.FrequentBatches.{AreBoundsOfAll};
-ghost use Rattle.datasketches_c.specs.FrequentCalls.{Updates, UpdatesMany, WeighsMany, StopsOnlyToGrow, MergesInto, Resamples, AreBounds};
+ghost use Rattle.datasketches_c.specs.FrequentCalls.{Updates, UpdatesMany, WeighsMany, StopsOnlyIfFull, StopsOnlyToGrow, MergesInto, MergesNumbers, Resamples, AreBounds};
 ghost use Rattle.datasketches_c.specs.FrequentRows.{LeavesRows, WritesRows, error_type};
 ghost use Rattle.datasketches_c.specs.FrequentStrings.{strings_eq};
-ghost use Rattle.datasketches_c.specs.Kinds.{OnKind, HoldsKind, WritesDown};
-ghost use Rattle.datasketches_c.specs.Numbers.{OnRefused};
+ghost use Rattle.datasketches_c.specs.Kinds.{ChangesKind, OnKind, HoldsKind, WritesDown};
+ghost use Rattle.datasketches_c.specs.Numbers.{OnRefused, ok};
 ghost use Rattle.datasketches_c.specs.Sharing.{reads};
 
 use crate::frequent_rows::write_rows;
@@ -36,7 +37,7 @@ pub(crate) fn update<T: Eq + Hash + Drop>(
 ) -> i32
 where
     FrequentItemsSketch<T>: Kind,
-    ensures call { OnKind (⟦<FrequentItemsSketch<T> as Kind>⟧.part) handle.old.value handle.new.value result (λ s.
+    ensures call { ChangesKind (⟦<FrequentItemsSketch<T> as Kind>⟧.part) handle.old.value handle.new.value result (λ s.
         HoldsKind (⟦<FrequentItemsSketch<T> as Kind>⟧.part) handle.new.value (λ t. Updates T.eq s item weight t result)) }
     ensures refused { OnRefused result (handle.new.value ≡ handle.old.value) }
 {
@@ -50,7 +51,8 @@ pub(crate) fn add_all<T: Eq + Hash + Drop, K: Keys<T>>(
 ) -> i32
 where
     K::Key: OwnedKey<T>,
-    ensures { UpdatesMany T.eq sketch.old (K.names keys) sketch.new result }
+    ensures updates { UpdatesMany T.eq sketch.old (K.names keys) sketch.new result }
+    ensures grows { ((key : K.Key) → K.Key.needs_no_memory key) → StopsOnlyIfFull sketch.new result }
 {
     on_done!(sketch.update_all(keys))
 }
@@ -117,12 +119,14 @@ fn merge<T: EqualClone + Hash + Drop>(
 ) -> i32
     ensures merges { MergesInto T.eq sketch.old other.now sketch.new result }
     ensures refused { OnRefused result (sketch.new ≡ sketch.old) }
+    ensures infallible { T.clones_never_fail → sketch.old.size ≡ sketch.old.max_size
+        → TotalHasRoom sketch.old other.now.total → result ≡ ok }
 {
     on_done!(sketch.merge(other))
 }
 
 impl Joins<()> for FrequentItemsSketch<i64> {
-    ghost joins = { λ _. MergesInto int_eq };
+    ghost joins = { λ _. MergesNumbers int_eq };
 
     fn join_with(&mut self, other: &FrequentItemsSketch<i64>, _way: ()) -> i32 {
         merge(self, other)
@@ -130,7 +134,7 @@ impl Joins<()> for FrequentItemsSketch<i64> {
 }
 
 impl Joins<()> for FrequentItemsSketch<u64> {
-    ghost joins = { λ _. MergesInto nat_eq };
+    ghost joins = { λ _. MergesNumbers nat_eq };
 
     fn join_with(&mut self, other: &FrequentItemsSketch<u64>, _way: ()) -> i32 {
         merge(self, other)
@@ -152,6 +156,7 @@ pub(crate) fn rows<T: EqualClone + Hash + Copy + Drop>(
     handle: &mut SketchHandle,
     no_false_negatives: bool,
     threshold: u64,
+    limit: usize,
     items: &mut [T],
     bounds: &mut [ItemBounds],
     count: &mut usize,
@@ -161,11 +166,11 @@ where
     ensures kept { handle.new.value ≡ handle.old.value }
     ensures left { LeavesRows items.old items.new bounds.old bounds.new count.old count.new result }
     ensures rows { OnKind (reads (⟦<FrequentItemsSketch<T> as Kind>⟧.part)) handle.old.value handle.new.value result (λ s.
-        WritesRows T.eq (error_type no_false_negatives) threshold s items.old items.new bounds.old bounds.new count.new
+        WritesRows T.eq (error_type no_false_negatives) threshold s limit items.old items.new bounds.old bounds.new count.new
         result) }
 {
     reading_kind!(alloc, handle, FrequentItemsSketch<T>, sketch => {
-        write_rows(sketch, no_false_negatives, threshold, items, bounds, count)
+        write_rows(sketch, no_false_negatives, threshold, limit, items, bounds, count)
     })
 }
 

@@ -3,7 +3,7 @@ ghost use Rattle.std.specs.Ordering.{int_eq};
 ghost use Rattle.std.specs.Prelude.{◌≡◌, length, nat_eq};
 ghost use Rattle.datasketches_c.specs.AnyUpdates.{no_bounds};
 ghost use Rattle.datasketches_c.specs.FrequentBatches.{AreBoundsOfAll};
-ghost use Rattle.datasketches_c.specs.FrequentCalls.{StopsOnlyToGrow, UpdatesMany, WeighsMany};
+ghost use Rattle.datasketches_c.specs.FrequentCalls.{StopsOnlyIfFull, StopsOnlyToGrow, UpdatesMany, WeighsMany};
 ghost use Rattle.datasketches_c.specs.FrequentStrings.{strings_eq};
 ghost use Rattle.datasketches_c.specs.ManyItems.{OnI64s, OnStrings, OnU64s, many, num_items, num_rows};
 ghost use Rattle.datasketches_c.specs.Numbers.{OnRefused, ok};
@@ -27,7 +27,7 @@ const NO_BOUNDS: ItemBounds = ItemBounds {
 /// Adds 1 to the weight of each number without a sign, in order. Returns the result's number.
 pub(crate) fn add_u64s(sketch: &mut FrequentItemsSketch<u64>, items: GivenItems<'_>) -> i32
     ensures { OnU64s (many items.entry) result (sketch.new ≡ sketch.old) (λ names.
-        UpdatesMany nat_eq sketch.old names sketch.new result) }
+        UpdatesMany nat_eq sketch.old names sketch.new result × StopsOnlyIfFull sketch.new result) }
 {
     let GivenItems { rows, validity } = items;
     match rows {
@@ -39,7 +39,7 @@ pub(crate) fn add_u64s(sketch: &mut FrequentItemsSketch<u64>, items: GivenItems<
 /// Adds 1 to the weight of each number with a sign, in order. Returns the result's number.
 pub(crate) fn add_i64s(sketch: &mut FrequentItemsSketch<i64>, items: GivenItems<'_>) -> i32
     ensures { OnI64s (many items.entry) result (sketch.new ≡ sketch.old) (λ names.
-        UpdatesMany int_eq sketch.old names sketch.new result) }
+        UpdatesMany int_eq sketch.old names sketch.new result × StopsOnlyIfFull sketch.new result) }
 {
     let GivenItems { rows, validity } = items;
     match rows {

@@ -7,7 +7,7 @@ ghost use Rattle.datasketches_c.specs.FrequentCalls.{AreBounds, Updates};
 ghost use Rattle.datasketches_c.specs.FrequentRows.{WritesRows, error_type};
 ghost use Rattle.datasketches_c.specs.FrequentStringRows.{WritesStringRows};
 ghost use Rattle.datasketches_c.specs.FrequentStrings.{UpdatesString};
-ghost use Rattle.datasketches_c.specs.Kinds.{HoldsFrequentI64, HoldsFrequentStrings, HoldsFrequentU64, OnFrequentI64, OnFrequentStrings, OnFrequentU64, ReadsFrequentStrings, ReadsFrequentU64, ReadsFrequentI64};
+ghost use Rattle.datasketches_c.specs.Kinds.{HoldsFrequentI64, HoldsFrequentStrings, HoldsFrequentU64, ChangesFrequentI64, ChangesFrequentStrings, ChangesFrequentU64, ReadsFrequentStrings, ReadsFrequentU64, ReadsFrequentI64};
 ghost use Rattle.datasketches_c.specs.Numbers.{OnRefused, no_room, ok, refusal_number};
 
 use crate::frequent;
@@ -24,7 +24,7 @@ use std::alloc::Global;
 /// Returns the first of these errors, and then changes nothing:
 ///
 /// - `InvalidUtf8` if the bytes are not UTF-8.
-/// - `NO_SKETCH` if the handle has no sketch, and `WRONG_KIND` if its sketch is of another kind.
+/// - `NO_SKETCH` if the handle has no sketch, `SHARED` if its sketch is shared, and `WRONG_KIND` if it is of another kind.
 /// - `WeightOverflow` if the total would exceed 2^64 - 1.
 /// - `NoMemory` if the string is not tracked and cannot be copied, or the table cannot grow for it.
 #[unsafe(no_mangle)]
@@ -34,7 +34,7 @@ pub extern "C" fn ds_frequent_items_string_update(
     item: &[u8],
     weight: u64,
 ) -> i32
-    ensures utf8 { IsUtf8 item.now → OnFrequentStrings handle.old.value handle.new.value result (λ s.
+    ensures utf8 { IsUtf8 item.now → ChangesFrequentStrings handle.old.value handle.new.value result (λ s.
         HoldsFrequentStrings handle.new.value (λ t. UpdatesString s item.now weight t result)) }
     ensures invalid_utf8 { ¬ (IsUtf8 item.now) → result ≡ refusal_number Fault.InvalidUtf8 }
     ensures refused { OnRefused result (handle.new.value ≡ handle.old.value) }
@@ -48,7 +48,7 @@ pub extern "C" fn ds_frequent_items_string_update(
 ///
 /// Returns the first of these errors, and then changes nothing:
 ///
-/// - `NO_SKETCH` if the handle has no sketch, and `WRONG_KIND` if its sketch is of another kind.
+/// - `NO_SKETCH` if the handle has no sketch, `SHARED` if its sketch is shared, and `WRONG_KIND` if it is of another kind.
 /// - `WeightOverflow` if the total would exceed 2^64 - 1.
 /// - `NoMemory` if the table cannot grow.
 #[unsafe(no_mangle)]
@@ -58,7 +58,7 @@ pub extern "C" fn ds_frequent_items_u64_update(
     item: u64,
     weight: u64,
 ) -> i32
-    ensures call { OnFrequentU64 handle.old.value handle.new.value result (λ s.
+    ensures call { ChangesFrequentU64 handle.old.value handle.new.value result (λ s.
         HoldsFrequentU64 handle.new.value (λ t. Updates nat_eq s item weight t result)) }
     ensures refused { OnRefused result (handle.new.value ≡ handle.old.value) }
 {
@@ -69,7 +69,7 @@ pub extern "C" fn ds_frequent_items_u64_update(
 ///
 /// Returns the first of these errors, and then changes nothing:
 ///
-/// - `NO_SKETCH` if the handle has no sketch, and `WRONG_KIND` if its sketch is of another kind.
+/// - `NO_SKETCH` if the handle has no sketch, `SHARED` if its sketch is shared, and `WRONG_KIND` if it is of another kind.
 /// - `WeightOverflow` if the total would exceed 2^64 - 1.
 /// - `NoMemory` if the table cannot grow.
 #[unsafe(no_mangle)]
@@ -79,7 +79,7 @@ pub extern "C" fn ds_frequent_items_i64_update(
     item: i64,
     weight: u64,
 ) -> i32
-    ensures call { OnFrequentI64 handle.old.value handle.new.value result (λ s.
+    ensures call { ChangesFrequentI64 handle.old.value handle.new.value result (λ s.
         HoldsFrequentI64 handle.new.value (λ t. Updates int_eq s item weight t result)) }
     ensures refused { OnRefused result (handle.new.value ≡ handle.old.value) }
 {
@@ -148,14 +148,13 @@ pub extern "C" fn ds_frequent_items_i64_bounds(
     frequent::bounds(alloc, handle, &item, bounds)
 }
 
-/// Writes the tracked strings whose bound exceeds both the threshold and the error, in rows of descending estimates.
-/// The strings are written one after another to the front of `bytes`, and their bounds to the front of `bounds`. String
-/// i is the bytes from offset i up to offset i + 1. The first offset is 0, and there is one more offset than rows.
-/// `count` is the number of rows, and `num_bytes` is the number of bytes of all strings. The rest of the buffers stays
-/// as it was.
+/// Writes the tracked strings whose bound exceeds both the threshold and the error, in rows of descending estimates, at most
+/// `limit` rows. The strings are written one after another to the front of `bytes`, and their bounds to the front of `bounds`.
+/// String i is the bytes from offset i up to offset i + 1. The first offset is 0, and there is one more offset than rows. `count` is
+/// the number of rows, and `num_bytes` is the number of bytes of their strings. The rest of the buffers stays as it was.
 ///
-/// With `no_false_negatives` the upper bound is compared. Then each string whose true weight exceeds both is listed.
-/// Otherwise the lower bound is compared. Then no other string is listed.
+/// With `no_false_negatives` the upper bound is compared. Then each string whose true weight exceeds both is listed, unless there are
+/// more than `limit`. Otherwise the lower bound is compared. Then no other string is listed.
 ///
 /// Returns the first of these errors, and then changes nothing:
 ///
@@ -169,6 +168,7 @@ pub extern "C" fn ds_frequent_items_string_rows(
     handle: &mut SketchHandle,
     no_false_negatives: bool,
     threshold: u64,
+    limit: usize,
     bytes: &mut [u8],
     offsets: &mut [u64],
     bounds: &mut [ItemBounds],
@@ -181,19 +181,19 @@ pub extern "C" fn ds_frequent_items_string_rows(
     ensures uncounted { result ≢ ok → result ≢ no_room
         → (count.new ≡ count.old) × (num_bytes.new ≡ num_bytes.old) }
     ensures rows { ReadsFrequentStrings handle.old.value handle.new.value result (λ s.
-        WritesStringRows (error_type no_false_negatives) threshold s
+        WritesStringRows (error_type no_false_negatives) threshold limit s
         (record { bytes = bytes.old; offsets = offsets.old; bounds = bounds.old })
         (record { bytes = bytes.new; offsets = offsets.new; bounds = bounds.new }) count.new num_bytes.new result) }
 {
-    reading_kind!(alloc, handle, FrequentItemsSketch<String>, sketch => write_rows(sketch, no_false_negatives, threshold, bytes, offsets, bounds, count, num_bytes))
+    reading_kind!(alloc, handle, FrequentItemsSketch<String>, sketch => write_rows(sketch, no_false_negatives, threshold, limit, bytes, offsets, bounds, count, num_bytes))
 }
 
-/// Writes the tracked numbers whose bound exceeds both the threshold and the error, in rows of descending estimates. A
-/// row is a number at the front of `items`, and its bounds at the same index of `bounds`. `count` is the number of
+/// Writes the tracked numbers whose bound exceeds both the threshold and the error, in rows of descending estimates, at most
+/// `limit` rows. A row is a number at the front of `items`, and its bounds at the same index of `bounds`. `count` is the number of
 /// rows. The rest of both buffers stays as it was.
 ///
-/// With `no_false_negatives` the upper bound is compared. Then each number whose true weight exceeds both is listed.
-/// Otherwise the lower bound is compared. Then no other number is listed.
+/// With `no_false_negatives` the upper bound is compared. Then each number whose true weight exceeds both is listed, unless there are
+/// more than `limit`. Otherwise the lower bound is compared. Then no other number is listed.
 ///
 /// Returns the first of these errors, and then changes nothing:
 ///
@@ -207,6 +207,7 @@ pub extern "C" fn ds_frequent_items_u64_rows(
     handle: &mut SketchHandle,
     no_false_negatives: bool,
     threshold: u64,
+    limit: usize,
     items: &mut [u64],
     bounds: &mut [ItemBounds],
     count: &mut usize,
@@ -215,7 +216,7 @@ pub extern "C" fn ds_frequent_items_u64_rows(
     ensures untouched { OnRefused result ((items.new ≡ items.old) × (bounds.new ≡ bounds.old)) }
     ensures uncounted { result ≢ ok → result ≢ no_room → count.new ≡ count.old }
     ensures rows { ReadsFrequentU64 handle.old.value handle.new.value result (λ s.
-        WritesRows nat_eq (error_type no_false_negatives) threshold s items.old items.new bounds.old bounds.new count.new
+        WritesRows nat_eq (error_type no_false_negatives) threshold s limit items.old items.new bounds.old bounds.new count.new
         result) }
 {
     frequent::rows(
@@ -223,18 +224,19 @@ pub extern "C" fn ds_frequent_items_u64_rows(
         handle,
         no_false_negatives,
         threshold,
+        limit,
         items,
         bounds,
         count,
     )
 }
 
-/// Writes the tracked numbers whose bound exceeds both the threshold and the error, in rows of descending estimates. A
-/// row is a number at the front of `items`, and its bounds at the same index of `bounds`. `count` is the number of
+/// Writes the tracked numbers whose bound exceeds both the threshold and the error, in rows of descending estimates, at most
+/// `limit` rows. A row is a number at the front of `items`, and its bounds at the same index of `bounds`. `count` is the number of
 /// rows. The rest of both buffers stays as it was.
 ///
-/// With `no_false_negatives` the upper bound is compared. Then each number whose true weight exceeds both is listed.
-/// Otherwise the lower bound is compared. Then no other number is listed.
+/// With `no_false_negatives` the upper bound is compared. Then each number whose true weight exceeds both is listed, unless there are
+/// more than `limit`. Otherwise the lower bound is compared. Then no other number is listed.
 ///
 /// Returns the first of these errors, and then changes nothing:
 ///
@@ -248,6 +250,7 @@ pub extern "C" fn ds_frequent_items_i64_rows(
     handle: &mut SketchHandle,
     no_false_negatives: bool,
     threshold: u64,
+    limit: usize,
     items: &mut [i64],
     bounds: &mut [ItemBounds],
     count: &mut usize,
@@ -256,7 +259,7 @@ pub extern "C" fn ds_frequent_items_i64_rows(
     ensures untouched { OnRefused result ((items.new ≡ items.old) × (bounds.new ≡ bounds.old)) }
     ensures uncounted { result ≢ ok → result ≢ no_room → count.new ≡ count.old }
     ensures rows { ReadsFrequentI64 handle.old.value handle.new.value result (λ s.
-        WritesRows int_eq (error_type no_false_negatives) threshold s items.old items.new bounds.old bounds.new count.new
+        WritesRows int_eq (error_type no_false_negatives) threshold s limit items.old items.new bounds.old bounds.new count.new
         result) }
 {
     frequent::rows(
@@ -264,6 +267,7 @@ pub extern "C" fn ds_frequent_items_i64_rows(
         handle,
         no_false_negatives,
         threshold,
+        limit,
         items,
         bounds,
         count,

@@ -1,5 +1,5 @@
 //! Reports on frequent items of any type, as rows in the caller's buffers.
-ghost use Rattle.std.specs.Prelude.{◌≡◌, ◌<◌, ◌≤◌, length, map};
+ghost use Rattle.std.specs.Prelude.{◌≡◌, ◌<◌, ◌≤◌, length, map, take};
 ghost use Rattle.datasketches_c.specs.FrequentRows.{LeavesRows, StandAtFront, WritesRows, bounds_in, error_type};
 ghost use Rattle.datasketches_c.specs.Numbers.{ok, no_room};
 
@@ -7,21 +7,32 @@ use crate::status_code::{NO_ROOM, OK, on_done};
 use sketch_frequencies::{EqualClone, ErrorType, FrequentItemsSketch, ItemBounds, Row};
 use std::hash::Hash;
 
-/// Writes a report's rows to the front of both buffers, and the number of rows to `count`. If a buffer is too short,
-/// only `count` is written.
+/// Writes the first `limit` rows of a report to the front of both buffers, and their number to `count`. If a buffer is too short, only
+/// `count` is written.
 pub(crate) fn write_rows<T: EqualClone + Hash + Copy + Drop>(
     sketch: &FrequentItemsSketch<T>,
     no_false_negatives: bool,
     threshold: u64,
+    limit: usize,
     items: &mut [T],
     bounds: &mut [ItemBounds],
     count: &mut usize,
 ) -> i32
-    ensures rows { WritesRows T.eq (error_type no_false_negatives) threshold sketch.now items.old items.new
+    ensures rows { WritesRows T.eq (error_type no_false_negatives) threshold sketch.now limit items.old items.new
         bounds.old bounds.new count.new result }
     ensures left { LeavesRows items.old items.new bounds.old bounds.new count.old count.new result }
 {
-    on_done!(sketch.frequent_items_with_threshold(error_type_of(no_false_negatives), threshold), rows => copy_rows(&rows, items, bounds, count))
+    on_done!(sketch.frequent_items_with_threshold(error_type_of(no_false_negatives), threshold), rows => copy_rows(first_rows(&rows, limit), items, bounds, count))
+}
+
+/// Returns the first `limit` rows, or all if there are fewer.
+pub(crate) fn first_rows<T>(rows: &[Row<T>], limit: usize) -> &[Row<T>]
+    ensures { result.now ≡ take limit rows.now }
+{
+    if rows.len() <= limit {
+        return rows;
+    }
+    &rows[..limit]
 }
 
 /// Returns the error type of a report.

@@ -8,7 +8,7 @@ ghost use Rattle.datasketches_c.specs.FrequentStrings.{UpdatesString};
 ghost use Rattle.datasketches_c.specs.Numbers.{OnDone, OnRefused, ok, no_room, refusal_number};
 ghost use Rattle.datasketches_c.specs.Strings.{offsets_from};
 
-use crate::frequent_rows::{copy_bounds, error_type_of};
+use crate::frequent_rows::{copy_bounds, error_type_of, first_rows};
 use crate::status_code::{NO_ROOM, OK, on_done, refusal_number};
 use sketch_base::Fault;
 use sketch_frequencies::{FrequentItemsSketch, ItemBounds, Row};
@@ -99,30 +99,32 @@ fn copy_rows(
     OK
 }
 
-/// Writes a report's rows to the front of the buffers, the number of rows to `count`, and the number of bytes to
+/// Writes the first `limit` rows of a report to the front of the buffers, their number to `count`, and the number of bytes to
 /// `num_bytes`. If a buffer is too short, only both numbers are written.
 pub(crate) fn write_rows(
     sketch: &FrequentItemsSketch<String>,
     no_false_negatives: bool,
     threshold: u64,
+    limit: usize,
     bytes: &mut [u8],
     offsets: &mut [u64],
     bounds: &mut [ItemBounds],
     count: &mut usize,
     num_bytes: &mut usize,
 ) -> i32
-    ensures rows { WritesStringRows (error_type no_false_negatives) threshold sketch.now
+    ensures rows { WritesStringRows (error_type no_false_negatives) threshold limit sketch.now
         (record { bytes = bytes.old; offsets = offsets.old; bounds = bounds.old })
         (record { bytes = bytes.new; offsets = offsets.new; bounds = bounds.new }) count.new num_bytes.new result }
     ensures left { LeavesStringRows (record { bytes = bytes.old; offsets = offsets.old; bounds = bounds.old })
         (record { bytes = bytes.new; offsets = offsets.new; bounds = bounds.new }) count.old count.new num_bytes.old num_bytes.new result }
 {
     on_done!(sketch.frequent_items_with_threshold(error_type_of(no_false_negatives), threshold), rows => {
-            let Some(length) = num_bytes_of(&rows) else {
+            let first = first_rows(&rows, limit);
+            let Some(length) = num_bytes_of(first) else {
                 return refusal_number(Fault::NoMemory);
             };
-            *count = rows.len();
+            *count = first.len();
             *num_bytes = length;
-            copy_rows(&rows, length, bytes, offsets, bounds)
+            copy_rows(first, length, bytes, offsets, bounds)
         })
 }

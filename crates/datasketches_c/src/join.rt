@@ -1,6 +1,6 @@
 //! Calls that combine the sketches of two handles.
 ghost use Rattle.std.specs.Prelude.{◌≡◌, ℤ};
-ghost use Rattle.datasketches_c.specs.Kinds.{OnKind, HoldsKind};
+ghost use Rattle.datasketches_c.specs.Kinds.{ChangesKind, OnKind, HoldsKind};
 ghost use Rattle.datasketches_c.specs.Numbers.{OnRefused};
 ghost use Rattle.datasketches_c.specs.Sharing.{reads};
 
@@ -43,7 +43,7 @@ pub(crate) fn join<K: Joins<W>, W: Copy>(
 ) -> i32
     ensures other { other.new.value ≡ other.old.value }
     ensures refused { OnRefused result (handle.new.value ≡ handle.old.value) }
-    ensures call { OnKind K.part handle.old.value handle.new.value result (λ a.
+    ensures call { ChangesKind K.part handle.old.value handle.new.value result (λ a.
         OnKind (reads K.part) other.old.value other.new.value result (λ b.
         HoldsKind K.part handle.new.value (λ c. K.joins way a b c result))) }
 {

@@ -319,8 +319,8 @@ impl Kind for FrequentItemsSketch<String> {
 /// Does `$work` on the sketch of a handle, and gives the result of `$work`. The sketch is taken out of the handle, and
 /// put back after the work.
 ///
-/// Returns from the function with `NO_SKETCH` if the handle has no sketch, and with `WRONG_KIND` if its sketch is not
-/// of the kind. Then the handle keeps what it has.
+/// Returns from the function with `NO_SKETCH` if the handle has no sketch, `SHARED` if its sketch is shared, and `WRONG_KIND` if it
+/// is not of the kind. Then the handle keeps what it has.
 macro_rules! on_kind {
     ($alloc:expr, $handle:expr, $kind:ty, $sketch:ident => $work:expr) => {{
         let Some(mut boxed) = $handle.take($alloc) else {
@@ -333,8 +333,9 @@ macro_rules! on_kind {
                 answer
             }
             None => {
+                let refusal = boxed.refusal_of_change();
                 $handle.give(boxed);
-                $crate::status_code::WRONG_KIND
+                refusal
             }
         }
     }};
@@ -345,7 +346,7 @@ pub(crate) use on_kind;
 /// Does `$work` on the sketch of a handle, which it may read, and gives the result of `$work`. The sketch may be shared. It is
 /// taken out of the handle, and put back after the work.
 ///
-/// Returns from the function as `on_kind` does.
+/// Returns from the function with `NO_SKETCH` if the handle has no sketch, and with `WRONG_KIND` if it is not of the kind.
 macro_rules! reading_kind {
     ($alloc:expr, $handle:expr, $kind:ty, $sketch:ident => $work:expr) => {{
         let Some(boxed) = $handle.take($alloc) else {

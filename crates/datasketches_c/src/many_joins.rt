@@ -2,9 +2,11 @@
 ghost use Rattle.std.specs.Option.{option_map};
 ghost use Rattle.std.specs.Ordering.{int_eq};
 ghost use Rattle.std.specs.Prelude.{◌≡◌, ℤ, List, map, nat_eq};
+ghost use Rattle.sketch_frequencies.specs.ManyMerges.{total_of_all};
+ghost use Rattle.sketch_frequencies.specs.State.{TotalHasRoom};
 ghost use Rattle.datasketches_c.specs.FrequentStrings.{strings_eq};
 ghost use Rattle.datasketches_c.specs.ManyHandles.{OnEachKind, OrNoMemory};
-ghost use Rattle.datasketches_c.specs.ManyJoins.{IsMerged, IsUnited, MergesAllInto};
+ghost use Rattle.datasketches_c.specs.ManyJoins.{IsMerged, IsUnited, MergesAllInto, MergesAllNumbers};
 ghost use Rattle.datasketches_c.specs.Numbers.{OnRefused, ok};
 ghost use Rattle.datasketches_c.specs.Sharing.{reads};
 
@@ -92,12 +94,14 @@ fn merge_frequent<T: EqualClone + Hash + Drop>(
 ) -> i32
     ensures merges { MergesAllInto T.eq sketch.old (map (λ other. other.now) others.now) sketch.new result }
     ensures refused { OnRefused result (sketch.new ≡ sketch.old) }
+    ensures infallible { T.clones_never_fail → sketch.old.size ≡ sketch.old.max_size
+        → TotalHasRoom sketch.old (total_of_all (map (λ other. other.now) others.now)) → result ≡ ok }
 {
     on_done!(sketch.merge_all(others))
 }
 
 impl JoinsMany for FrequentItemsSketch<i64> {
-    ghost joins_many = { MergesAllInto int_eq };
+    ghost joins_many = { MergesAllNumbers int_eq };
 
     fn join_with_many(&mut self, others: &[&FrequentItemsSketch<i64>]) -> i32 {
         merge_frequent(self, others)
@@ -105,7 +109,7 @@ impl JoinsMany for FrequentItemsSketch<i64> {
 }
 
 impl JoinsMany for FrequentItemsSketch<u64> {
-    ghost joins_many = { MergesAllInto nat_eq };
+    ghost joins_many = { MergesAllNumbers nat_eq };
 
     fn join_with_many(&mut self, others: &[&FrequentItemsSketch<u64>]) -> i32 {
         merge_frequent(self, others)

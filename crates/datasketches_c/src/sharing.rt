@@ -1,14 +1,14 @@
 //! Calls that share a sketch among handles, as for threads that read it at once.
 ghost use Rattle.std.specs.Prelude.{◌≡◌, ◌⊎◌, true, false, IfOk, IfErr, IsOk, not};
 ghost use Rattle.std.specs.Arc.{arc_value};
-ghost use Rattle.datasketches_c.specs.Numbers.{OnDone, OnRefused, ok, no, yes, no_sketch, wrong_kind, refusal_number};
+ghost use Rattle.datasketches_c.specs.Numbers.{OnDone, OnRefused, ok, no, yes, no_sketch, not_shared, wrong_kind, refusal_number};
 ghost use Rattle.datasketches_c.specs.Sharing.{is_shared, unshared, HoldsShared, IsFreezeRefusal, IsShareOf, IsOwnOf, IsShareRefusal};
 ghost use Rattle.datasketches_c.specs.declared.any_sketch.AnySketch.TheVariants.{Moved};
 
 use crate::any_sketch::{AnySketch, Held};
 use crate::handle::SketchHandle;
 use crate::kind::Kind;
-use crate::status_code::{NO, NO_SKETCH, OK, WRONG_KIND, YES, refusal_number};
+use crate::status_code::{NO, NO_SKETCH, NOT_SHARED, OK, WRONG_KIND, YES, refusal_number};
 use sketch_base::Fault;
 use std::alloc::Global;
 use std::sync::Arc;
@@ -83,12 +83,12 @@ fn share<K: Kind>(shared: &Arc<K>) -> Result<AnySketch, i32>
     }
 }
 
-/// Returns one more share of a sketch of any kind. Returns `WRONG_KIND` if it is not shared.
+/// Returns one more share of a sketch of any kind. Returns `NOT_SHARED` if it is not shared.
 fn share_any(sketch: &AnySketch) -> Result<AnySketch, i32>
     ensures ok { IfOk result (λ any. (unshared any ≡ unshared sketch.now) × (is_shared any ≡ true)) }
     ensures shared { IsOk result → is_shared sketch.now ≡ true }
     ensures err { IfErr result (λ e.
-        ((e ≡ wrong_kind) × (is_shared sketch.now ≡ false))
+        ((e ≡ not_shared) × (is_shared sketch.now ≡ false))
         ⊎ ((e ≡ refusal_number Fault.NoMemory) × (is_shared sketch.now ≡ true))) }
 {
     match sketch {
@@ -98,14 +98,14 @@ fn share_any(sketch: &AnySketch) -> Result<AnySketch, i32>
         AnySketch::CountI64(Held::Shared(shared)) => share(shared),
         AnySketch::CountU64(Held::Shared(shared)) => share(shared),
         AnySketch::Filter(Held::Shared(shared)) => share(shared),
-        _ => Err(WRONG_KIND),
+        _ => Err(NOT_SHARED),
     }
 }
 
 /// Freezes the handle's sketch, of any kind: handles can share it, and no call changes it until `ds_thaw`. Does nothing to a
 /// sketch that is shared.
 ///
-/// The calls that read a sketch take a shared one, and those that change it return `WRONG_KIND`.
+/// The calls that read a sketch take a shared one, and those that change it return `SHARED`.
 ///
 /// Returns the first of these errors, and then changes nothing:
 ///
@@ -131,7 +131,7 @@ pub extern "C" fn ds_freeze(alloc: Global, handle: &mut SketchHandle) -> i32
 ///
 /// Returns the first of these errors, and then changes nothing:
 ///
-/// - `NO_SKETCH` if `shared` has no sketch, and `WRONG_KIND` if its sketch is not shared.
+/// - `NO_SKETCH` if `shared` has no sketch, and `NOT_SHARED` if its sketch is not shared.
 /// - `NoMemory` if an allocation fails.
 #[unsafe(no_mangle)]
 pub extern "C" fn ds_share(

@@ -1,12 +1,13 @@
 //! Sizes from error targets.
-ghost use Rattle.std.specs.Prelude.{◌≡◌, ℕ, ◌*◌, ◌<◌, ◌≤◌, None};
+ghost use Rattle.std.specs.Prelude.{◌≡◌, ℕ, ◌*◌, ◌^◌, ◌<◌, ◌≤◌, None};
 ghost use Rattle.sketch_bloom.specs.Sizes.{IsLn2TimesWithin, AreEnoughBits, AreEnoughBitsRounded};
 ghost use Rattle.sketch_countmin.specs.Sizes.{IsETimesWithin, IsWithinPowerOfE};
 ghost use Rattle.sketch_frequencies.specs.Sizes.{size_fault};
 ghost use Rattle.sketch_frequencies.specs.SuggestedSizes.{usual_budget};
+ghost use Rattle.datasketches_c.specs.FilterSizes.{KeepsHashesApart};
 ghost use Rattle.datasketches_c.specs.Numbers.{OnDone, OnRefused, ok, refusal_number};
 
-use crate::status_code::{OK, on_done};
+use crate::status_code::{OK, on_done, refusal_number};
 use sketch_base::Fault;
 use sketch_frequencies::suggest_max_map_size;
 
@@ -116,4 +117,45 @@ pub extern "C" fn ds_bloom_suggest_num_hashes(
     ensures refused { OnRefused result (num_hashes.new ≡ num_hashes.old) }
 {
     write_down!(sketch_bloom::suggest_num_hashes(num_bits, num_items) => num_hashes)
+}
+
+/// Returns the square root of a number, rounded up.
+fn root_rounded_up(n: u128) -> u128
+    ensures enough { n ≤ result * result }
+    ensures least { (m : ℕ) → n ≤ m * m → result ≤ m }
+    ensures bound { result ≤ 2 ^ 64 }
+{
+    let root = n.isqrt();
+    if root * root < n {
+        return root + 1;
+    }
+    root
+}
+
+/// Writes the minimum number of bits for a filter that a program makes for a number of items: 4 times the square root of `num_items`
+/// times `questions`, rounded up. It exceeds the number of `ds_bloom_suggest_num_bits` for few items or a low rate.
+///
+/// An item's positions are two hashes modulo the number of bits. In a filter of few bits they repeat those of an inserted item so often
+/// that its false-positive rate is above 1/`questions`. The rate with at least this number is not proved. As measured, it is at most
+/// 1.3/`questions`.
+///
+/// Returns `BadNumBits` if the number would exceed 137438953152. Then nothing is written.
+#[unsafe(no_mangle)]
+pub extern "C" fn ds_bloom_min_num_bits(num_items: u64, questions: u64, num_bits: &mut u64) -> i32
+    ensures done { OnDone result ((result ≡ ok) × KeepsHashesApart num_items questions num_bits.new
+        × ((m : ℕ) → KeepsHashesApart num_items questions m → num_bits.new ≤ m)) }
+    ensures too_many { OnRefused result ((result ≡ refusal_number Fault.BadNumBits)
+        × ((m : ℕ) → KeepsHashesApart num_items questions m → 137438953152 < m)) }
+    ensures refused { OnRefused result (num_bits.new ≡ num_bits.old) }
+{
+    let product = num_items as u128 * questions as u128;
+    if product >= 1 << 124 {
+        return refusal_number(Fault::BadNumBits);
+    }
+    let least = root_rounded_up(16 * product);
+    if least > 137438953152 {
+        return refusal_number(Fault::BadNumBits);
+    }
+    *num_bits = least as u64;
+    OK
 }

@@ -28,6 +28,12 @@ pub const BAD_FRACTION: i32 = -4;
 /// The kind of many items is not known. The header for C uses the number for null pointers, too.
 pub const BAD_ARGUMENT: i32 = -5;
 
+/// The sketch is shared, and the call changes it. -7 is `DS_NO_RANDOM` of the header for C.
+pub const SHARED: i32 = -8;
+
+/// The sketch is not shared, and the call takes shared ones alone.
+pub const NOT_SHARED: i32 = -9;
+
 /// Returns the number of a fault: -11 or less, or -6 for `BadOffsets`.
 pub(crate) fn refusal_number(fault: Fault) -> i32
     ensures { result ≡ refusal_number fault }

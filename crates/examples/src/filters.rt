@@ -128,9 +128,7 @@ pub fn contained_in_union(alloc: Global) -> Result<bool, Error> {
     let mut all = BloomFilterBuilder::with_size(959, 7).build(alloc)?;
     let mut new = BloomFilterBuilder::with_size(959, 7).build(alloc)?;
     new.insert("apple");
-    if all.is_compatible(&new) {
-        all |= &new;
-    }
+    all.union(&new)?;
     Ok(all.contains(&"apple"))
 }
 

@@ -1,9 +1,11 @@
 -- The records of CSV in two lists of bytes, of which the first ends a record.
-use Rattle.std.proofs.Common.{◌≡◌, ℕ, ◌<◌, true, false, not, cond, List, [], ◌∷◌, ◌++◌, length, map, refl, sym, ◌∙◌, ap, subst, arith, append_assoc, append-nil, length-append}
+use Rattle.std.proofs.Common.{◌≡◌, ℕ, zero, suc, ◌<◌, true, false, not, cond, List, [], ◌∷◌, ◌++◌, length, map, take, drop, refl, sym, ◌∙◌, ap, subst, arith, append_assoc, append-nil, length-append}
 use Rattle.std.specs.List.{onto_first}
 use Rattle.std.specs.Str.Lines.{lines_of_parts, strip_carriage_return}
 use Rattle.std.proofs.lemmas.Bool.{eqb-true}
-use Rattle.sketch_base.specs.Csv.{after_byte, cuts, csv_records, raw_csv_records, with_feeds, record_parts, ends_field, in_quotes, is_feed, split_unquoted, EndsRecord, place_after}
+use Rattle.std.proofs.lemmas.List.{take-append-drop}
+use Rattle.sketch_base.specs.Csv.{after_byte, cuts, csv_records, raw_csv_records, with_feeds, record_parts, ends_field, in_quotes, is_feed, split_unquoted, EndsRecord, IsBehindLastEnd, place_after}
+use Rattle.sketch_base.specs.Split.{SplitsAt}
 use Rattle.sketch_base.specs.declared.place.Place.{Place}
 use Rattle.sketch_base.specs.declared.place.Place.TheVariants.{Start, Bare, Quoted, Closed}
 use Rattle.sketch_base.proofs.CsvRecords.{feeds_cons, some_parts}
@@ -75,3 +77,19 @@ module _ (delimiter : ℕ) where
       ∙ (ap (raw_csv_records delimiter) (append_assoc front (10 ∷ []) ys)
       ∙ (raws_joined front out ys
       ∙ ap (λ l. l ++ raw_csv_records delimiter ys) (sym (ap (raw_csv_records delimiter) parts ∙ (raws_joined front out [] ∙ append-nil (map (λ u. u ++ 10 ∷ []) (record_parts delimiter front)))))))
+
+  -- bytes followed by others, split at an index
+  split_whole : (bytes more : List ℕ) (at : ℕ) → bytes ++ more ≡ take at bytes ++ (drop at bytes ++ more)
+  split_whole bytes more at = ap (λ l. l ++ more) (sym (take-append-drop at bytes)) ∙ append_assoc (take at bytes) (drop at bytes) more
+
+  -- whatever comes after bytes, its records are those before the last end of a record and those after it
+  pub csv_split : (bytes : List ℕ) (at : ℕ) → IsBehindLastEnd delimiter Start bytes at → SplitsAt (csv_records delimiter) bytes at
+  csv_split bytes zero last more = refl
+  csv_split bytes (suc n) last more =
+      ap (csv_records delimiter) (split_whole bytes more (suc n)) ∙ csv_both (take (suc n) bytes) (drop (suc n) bytes ++ more) (last.0 (omega arith))
+
+  -- the same with their ends
+  pub raw_csv_split : (bytes : List ℕ) (at : ℕ) → IsBehindLastEnd delimiter Start bytes at → SplitsAt (raw_csv_records delimiter) bytes at
+  raw_csv_split bytes zero last more = refl
+  raw_csv_split bytes (suc n) last more =
+      ap (raw_csv_records delimiter) (split_whole bytes more (suc n)) ∙ raw_csv_both (take (suc n) bytes) (drop (suc n) bytes ++ more) (last.0 (omega arith))

@@ -1,8 +1,10 @@
 //! The records of CSV.
 ghost use Rattle.std.specs.Prelude.{◌≡◌, ◌==◌, ◌≤◌, ℕ, true, IfSome, length, take};
 ghost use Rattle.std.specs.Str.Lines.{strip_carriage_return};
-ghost use Rattle.sketch_base.specs.Csv.{IsBehindLastEnd, IsFirstEnd, IsFirstCut, IsStill, TakesRecord, after_bytes, cuts, place_after};
+ghost use Rattle.sketch_base.specs.Csv.{IsBehindLastEnd, IsFirstEnd, IsFirstCut, IsStill, TakesRecord, after_bytes, csv_records, cuts, place_after, raw_csv_records};
 ghost use Rattle.sketch_base.specs.Records.{IsEndOf};
+ghost use Rattle.sketch_base.specs.Split.{SplitsAt};
+ghost use Rattle.sketch_base.specs.declared.place.Place.TheVariants.{Start};
 
 use crate::byte_set::{ByteSet, OneByte, first_member};
 use crate::place::{Place, QUOTE};
@@ -83,6 +85,8 @@ fn next_end(delimiter: u8, place: Place, bytes: &[u8]) -> usize
 pub fn finished_csv_records(delimiter: u8, place: Place, bytes: &[u8]) -> (usize, Place)
     ensures bound { result.0 ≤ length bytes.now }
     ensures last { IsBehindLastEnd delimiter place bytes.now result.0 }
+    ensures records { place ≡ Start → SplitsAt (csv_records delimiter) bytes.now result.0 }
+    ensures raw { place ≡ Start → SplitsAt (raw_csv_records delimiter) bytes.now result.0 }
     ensures place { result.1 ≡ place_after delimiter place bytes.now }
 {
     let mut done = 0;

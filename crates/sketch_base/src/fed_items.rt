@@ -11,6 +11,7 @@ use std::hash::Hasher;
 /// An item given by the bytes that its `Hash` feeds.
 ///
 /// A caller who has these bytes, and not a value of the type, counts or looks up the same item.
+/// [`bytes_of_items`](crate::laws::bytes_of_items) states the bytes of numbers and strings.
 ///
 /// # Examples
 ///
@@ -45,7 +46,7 @@ impl<'a> Item for FedBytes<'a> {
     }
 }
 
-/// Items in order, each given by the bytes that its `Hash` feeds.
+/// Items in order, each given by the bytes that its `Hash` feeds, as [`FedBytes`].
 ///
 /// # Examples
 ///

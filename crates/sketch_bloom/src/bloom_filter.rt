@@ -11,7 +11,6 @@ ghost use Rattle.sketch_bloom.specs.State.{IsFilterState, IsCompatible, capacity
 
 mod batches;
 mod images;
-mod operators;
 
 use crate::bits::Bits;
 use crate::hashes::hashes_of;
@@ -236,6 +235,22 @@ impl BloomFilter {
     /// # Errors
     ///
     /// `Mismatch` if the filters differ in shape or seed. The filter is then unchanged.
+    ///
+    /// # Examples
+    ///
+    /// ```
+    /// use sketch_base::Error;
+    /// use sketch_bloom::BloomFilterBuilder;
+    /// use std::alloc::Global;
+    ///
+    /// fn contained_in_union(alloc: Global) -> Result<bool, Error> {
+    ///     let mut all = BloomFilterBuilder::with_size(959, 7).build(alloc)?;
+    ///     let mut new = BloomFilterBuilder::with_size(959, 7).build(alloc)?;
+    ///     new.insert("apple");
+    ///     all.union(&new)?;
+    ///     Ok(all.contains(&"apple"))
+    /// }
+    /// ```
     pub fn union(&mut self, other: &BloomFilter) -> Result<(), Error>
         ensures ok { OnOk result (self.new ≡ united self.old other.now) }
         ensures state { IsFilterState self.new }

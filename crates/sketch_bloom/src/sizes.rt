@@ -114,6 +114,10 @@ fn log_in_64ths(n: u64) -> u32
 /// The false-positive rate is not proved. Under ideal hashes it is about 1/`questions` with the hashes of
 /// [`suggest_num_hashes`] (Bloom 1970; for double hashing Kirsch & Mitzenmacher 2008).
 ///
+/// In a filter of few bits the two hashes of an item repeat, modulo the number of bits, those of an inserted one. So the rate is
+/// higher for few items or a low rate: at 1/1000 about 4/1000 for 2 items. With at least `4 * sqrt(num_items * questions)` bits
+/// it is at most 1.3/`questions`, as measured.
+///
 /// # Errors
 ///
 /// `BadNumBits` in these cases:

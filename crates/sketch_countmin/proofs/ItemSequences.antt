@@ -98,10 +98,11 @@ module _ {A : Type 0} (bytes : A → List ℕ) where
 
   -- the total has no room for the last item
   pub seen_stop : (old mid new : CountState) (seen : List A) (item : A) (greatest : ℕ) → CountsAll old (map bytes seen) mid → mid.total ≤ greatest → (mid.total + 1 ≤ greatest → false ≡ true) → new ≡ mid
-      → CountsAll old (take (greatest - old.total) (map bytes (seen ++ item ∷ []))) new × (greatest < old.total + length (map bytes (seen ++ item ∷ [])))
+      → CountsAll old (take (greatest - old.total) (map bytes (seen ++ item ∷ []))) new × (old.total + length (map bytes (seen ++ item ∷ [])) ≡ greatest + 1)
   seen_stop old mid new seen item greatest so fits full same =
-      counted_stop old mid new (map bytes (seen ++ item ∷ [])) (bytes item ∷ []) [] (bytes item) greatest
-      (record { before = map bytes seen; parts = map-append bytes seen (item ∷ []); counted = so }) refl fits full same
+      let stop = counted_stop old mid new (map bytes (seen ++ item ∷ [])) (bytes item ∷ []) [] (bytes item) greatest
+      (record { before = map bytes seen; parts = map-append bytes seen (item ∷ []); counted = so }) refl fits full same in
+      (stop.0, omega (arith, so.total, fits, stop.1, ap length (map-append bytes seen (item ∷ [])), length-append (map bytes seen) (bytes item ∷ [])))
 
 -- ---- an item and those after it, by its index
 

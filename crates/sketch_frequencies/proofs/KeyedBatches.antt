@@ -1,6 +1,6 @@
 -- Many updates, one after another, each of the item that a key names.
-use Rattle.std.proofs.Common.{◌≡◌, ℕ, ◌+◌, ◌<◌, ◌≤◌, Bool, false, List, [], ◌∷◌, ◌++◌, length, map, take, drop, get_or, set, append_assoc, refl, sym, ap, ◌∙◌, subst, arith, length-drop}
-use Rattle.std.proofs.lemmas.Bool.{ltb-true}
+use Rattle.std.proofs.Common.{◌≡◌, ℕ, ◌+◌, ◌<◌, ◌≤◌, Bool, true, false, List, [], ◌∷◌, ◌++◌, length, map, take, drop, get_or, set, append_assoc, refl, sym, ap, ◌∙◌, subst, arith, length-drop}
+use Rattle.std.proofs.lemmas.Bool.{false≢true, ltb-true, true_from_ne_false}
 use Rattle.std.proofs.lemmas.List.{append-nil, map-append, get_or-drop, drop_more, take_more, take_more_set}
 use Rattle.std.specs.List.{AllZip}
 use Rattle.std.specs.Prelude.{IsTrue, filter, nat_lt}
@@ -9,9 +9,9 @@ use Rattle.sketch_base.specs.declared.fault.Fault.TheVariants.{WeightOverflow}
 use Rattle.counter_table.specs.Tables.{is_tracked_by_key}
 use Rattle.sketch_frequencies.specs.Batches.{UpdatesAll}
 use Rattle.sketch_frequencies.specs.History.FrequentHistory.{Update}
-use Rattle.sketch_frequencies.specs.KeyedBatches.{AreNamed, AreNamedWithWeights, UpdatesKeys, StopsAtKey, UpdatesWeighedKeys}
+use Rattle.sketch_frequencies.specs.KeyedBatches.{AreNamed, AreNamedWithWeights, UpdatesKeys, StopsAtKey, StopsAtLastKey, UpdatesWeighedKeys}
 use Rattle.sketch_frequencies.specs.Stands.{Extends, ExtendsBudget}
-use Rattle.sketch_frequencies.specs.State.{FrequentState, Overflows, TotalHasRoom}
+use Rattle.sketch_frequencies.specs.State.{FrequentState, Overflows, TotalHasRoom, must_grow}
 use Rattle.sketch_frequencies.specs.Steps.{StepsByKey}
 use Rattle.sketch_frequencies.specs.WeightedBatches.{UpdatesWeighed}
 use Rattle.sketch_frequencies.proofs.Batches.{updates_none, updates_more}
@@ -43,6 +43,12 @@ pushed R (a ∷ xs) x [] all = absurd all
 pushed R (a ∷ xs) x (y ∷ ys) all =
     let p = pushed R xs x ys all.1 in
     record { front = y ∷ p.front; last = p.last; is = ap (λ l. y ∷ l) p.is; fronts = (all.0, p.fronts); lasts = p.lasts }
+
+-- ---- a failed update, which changed nothing
+
+-- if it needs no memory, the table must double
+pub due_to_double : {T : Type 0} (mid new : FrequentState T) → new ≡ mid → (TotalHasRoom mid 1 → must_grow mid ≡ false → false ≡ true) → TotalHasRoom new 1 → must_grow new ≡ true
+due_to_double mid new same free = rw same (λ room. true_from_ne_false (must_grow mid) (λ f. false≢true (free room f)))
 
 -- ---- updates of weight 1
 
@@ -115,16 +121,19 @@ module _ {T : Type 0} (eq : T → T → Bool) where
 
     -- the update by the last key failed
     pub seen_until : (old mid new : FrequentState T) (seen : List K) (key : K) (e : ErrorValue) → UpdatesKeys eq old (map names seen) mid → new ≡ mid →
-        (Overflows mid 1 → e ≡ invalid_argument WeightOverflow) → (TotalHasRoom mid 1 → (e ≡ no_memory) × (is_tracked_by_key (names key) mid.counters ≡ false)) → StopsAtKey eq old (map names (seen ++ key ∷ [])) e new
-    seen_until old mid new seen key e so same overflow memory = rw same (record {
-      before = map names seen;
-      refused = names key;
-      behind = [];
-      parts = map-append names seen (key ∷ []);
-      added = so;
-      overflow = overflow;
-      memory = memory;
-    })
+        (Overflows mid 1 → e ≡ invalid_argument WeightOverflow) → (TotalHasRoom mid 1 → (e ≡ no_memory) × (is_tracked_by_key (names key) mid.counters ≡ false)) → StopsAtLastKey eq old (map names (seen ++ key ∷ [])) e new
+    seen_until old mid new seen key e so same overflow memory = rw same (
+      (record {
+        before = map names seen;
+        refused = names key;
+        behind = [];
+        parts = map-append names seen (key ∷ []);
+        added = so;
+        overflow = overflow;
+        memory = memory;
+      }),
+      refl,
+    )
 
   -- ---- updates with weights
 

@@ -1,5 +1,5 @@
 -- Many updates in one call, each of the item that a key names. A key is the test whether it names an item.
-use Rattle.std.specs.Prelude.{◌≡◌, ℕ, Bool, false, List, ◌∷◌, ◌++◌, IsTrue, Result, MatchResult}
+use Rattle.std.specs.Prelude.{◌≡◌, ℕ, Bool, false, List, [], ◌∷◌, ◌++◌, IsTrue, Result, MatchResult}
 use Rattle.std.specs.List.{AllZip}
 use Rattle.sketch_base.specs.Errors.{ErrorValue, invalid_argument, no_memory}
 use Rattle.sketch_base.specs.declared.fault.Fault.TheVariants.{WeightOverflow}
@@ -33,9 +33,13 @@ module _ {T : Type 0} (eq : T → T → Bool) where
     pub overflow : Overflows new 1 → e ≡ invalid_argument WeightOverflow
     pub memory : TotalHasRoom new 1 → (e ≡ no_memory) × (is_tracked_by_key refused new.counters ≡ false)
 
-  -- the items of all keys that an iterator gave were added, or the update by one failed
+  -- the update by the last of these keys failed, and the items of all before it were added
+  abbrev pub StopsAtLastKey : FrequentState T → List (T → Bool) → ErrorValue → FrequentState T → Type 0
+  StopsAtLastKey old keys e new = (stop : StopsAtKey old keys e new) × (stop.behind ≡ [])
+
+  -- the items of all keys that an iterator gave were added, or the update by the last one failed
   abbrev pub UpdatesSeen : FrequentState T → List (T → Bool) → Result (Unit {0}) ErrorValue → FrequentState T → Type 0
-  UpdatesSeen old keys result new = MatchResult result (λ _. UpdatesKeys old keys new) (λ e. StopsAtKey old keys e new)
+  UpdatesSeen old keys result new = MatchResult result (λ _. UpdatesKeys old keys new) (λ e. StopsAtLastKey old keys e new)
 
   -- the weight of each pair was added at the item that its key names, in order
   pub record UpdatesWeighedKeys (old : FrequentState T) (pairs : List ((T → Bool) × ℕ)) (new : FrequentState T) : Type 0 where

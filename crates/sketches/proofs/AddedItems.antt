@@ -17,7 +17,7 @@ use Rattle.sketch_frequencies.specs.History.FrequentHistory.{Update}
 use Rattle.sketch_frequencies.specs.KeyedBatches.{AreNamed, StopsAtKey, UpdatesKeys}
 use Rattle.sketch_frequencies.specs.Stands.{Extends, ExtendsBudget}
 use Rattle.sketch_frequencies.specs.State.{Overflows, TotalHasRoom}
-use Rattle.sketch_frequencies.specs.Steps.{StepsByKey}
+use Rattle.sketch_frequencies.specs.Steps.{StepsByKey, StepsEqual}
 use Rattle.sketches.specs.Added.{Sketch, AddsStrings}
 use Rattle.sketches.specs.AddingLaws.{strings_none, strings_both, fails_more, fails_after}
 use Rattle.sketches.specs.Failures.{FailsAdding}
@@ -28,12 +28,18 @@ use Rattle.sketches.specs.declared.selection.Selection.{Selection}
 
 -- ---- one string, and many in one call
 
+-- a step at an item that a string names is one at an item equal to it
+pub step_equal : (old new : Sketch) (bytes : List ℕ) (w : ℕ) (step : StepsByKey string_eq old (names_string bytes) w new) → StepsEqual string_eq old step.item w new
+step_equal old new bytes w step = record { item = step.item; named = (bytes_decides (string_bytes step.item) (string_bytes step.item)).1 refl; step = step.step }
+
 pub one_added : (old new : Sketch) (bytes : List ℕ) → StepsByKey string_eq old (names_string bytes) 1 new → ((x : String Global) → IsTrue (names_string bytes x) → Extends string_eq old new (λ h. Update h x 1))
     → ((x : String Global) → IsTrue (names_string bytes x) → ExtendsBudget string_eq old new (λ h. Update h x 1)) → AddsStrings old (bytes ∷ []) new
 one_added old new bytes step stands budget = record {
   items = step.item ∷ [];
   are = ap (λ (l : List ℕ). l ∷ []) (sym ((bytes_decides bytes (string_bytes step.item)).0 step.named));
+  steps = (new, step_equal old new bytes 1 step, refl);
   total = step.step.total;
+  key = step.step.key;
   stands = stands step.item step.named;
   budget = budget step.item step.named;
 }
@@ -57,6 +63,11 @@ total_along : (old new : Sketch) (items : List (String Global)) → StepsEqualAl
 total_along old new [] same = ap (λ (s : Sketch). s.total) same ∙ omega arith
 total_along old new (x ∷ xs) (mid, one, rest) = omega (arith, one.step.total, total_along mid new xs rest)
 
+-- the key stays
+key_along : (old new : Sketch) (items : List (String Global)) → StepsEqualAlong string_eq old items new → new.key ≡ old.key
+key_along old new [] same = ap (λ (s : Sketch). s.key) same
+key_along old new (x ∷ xs) (mid, one, rest) = key_along mid new xs rest ∙ one.step.key
+
 pub keys_added : (old new : Sketch) (strings : List (List ℕ)) → UpdatesKeys string_eq old (map names_string strings) new → AddsStrings old strings new
 keys_added old new strings keys =
     let updates = keys.updates keys.some.0 keys.some.1 in
@@ -64,7 +75,9 @@ keys_added old new strings keys =
     record {
       items = keys.some.0;
       are = are;
+      steps = updates.steps;
       total = omega (arith, total_along old new keys.some.0 updates.steps, length-map keys.some.0 string_bytes, ap (λ (l : List (List ℕ)). length l) are);
+      key = key_along old new keys.some.0 updates.steps;
       stands = updates.stands;
       budget = updates.budget;
     }

@@ -1,6 +1,6 @@
 -- A sink that begins with the records of an input.
 use Rattle.std.proofs.Common.{◌≡◌, inl, inr, ⊎_elim, ℕ, List, [], ◌++◌, Option, None, Some, IfSome, subst}
-use Rattle.sketches.specs.Reading.{AreWholeRecords, FailsInput, HasLongRecord, TakesInput}
+use Rattle.sketches.specs.Reading.{AreFirstRecords, AreWholeRecords, FailsInput, HasLongRecord, TakesInput}
 use Rattle.sketches.specs.declared.failure.Failure.{Failure}
 use Rattle.sketches.specs.declared.failure.Failure.TheVariants.{LineTooLong}
 use Rattle.sketch_base.specs.declared.records.Records.{Records}
@@ -17,15 +17,22 @@ module _ {S : Type 0} (splits : S → Records) (takes : S → List ℕ → S →
     both old begun new [] read (whole_none (splits old)) begins taken,
   )
 
-  module _ (fails : S → List ℕ → Failure → Type 0) (later : (r s : S) (xs ys : List ℕ) (e : Failure) → AreWholeRecords (splits r) xs → takes r xs s → fails s ys e → fails r (xs ++ ys) e) where
-    known : (input : Option (List ℕ)) (e : Failure) → IfSome input (λ bytes. fails begun bytes e) → IfSome input (λ bytes. fails old bytes e)
-    known None e f = tt
-    known (Some bytes) e f = later old begun [] bytes e (whole_none (splits old)) begins f
+  module _ (fails : S → List ℕ → S → Failure → Type 0) (later : (r s t : S) (xs ys : List ℕ) (e : Failure) → AreWholeRecords (splits r) xs → takes r xs s → fails s ys t e → fails r (xs ++ ys) t e)
+      (both : (r s t : S) (xs ys : List ℕ) → AreWholeRecords (splits r) xs → takes r xs s → takes s ys t → takes r (xs ++ ys) t) where
+    known : (input : Option (List ℕ)) (new : S) (e : Failure) → IfSome input (λ bytes. fails begun bytes new e) → IfSome input (λ bytes. fails old bytes new e)
+    known None new e f = tt
+    known (Some bytes) new e f = later old begun new [] bytes e (whole_none (splits old)) begins f
 
-    pub begun_failed : (limit : ℕ) (input : Option (List ℕ)) (e : Failure) → FailsInput (splits begun) fails limit input begun e → FailsInput (splits old) fails limit input old e
-    begun_failed limit input e failed = ⊎_elim
-        (λ memory. inl memory)
-        (λ other. ⊎_elim
-        (λ long. inr (inl (subst (λ (f : Records). (e ≡ LineTooLong) × IfSome input (HasLongRecord f limit)) same long)))
-        (λ f. inr (inr (record { some = f.some; known = known input e f.known }))) other)
+    first : (input : Option (List ℕ)) (new : S) → IfSome input (λ bytes. (read : List ℕ) × AreFirstRecords (splits begun) bytes read × takes begun read new) → IfSome input (λ bytes. (read : List ℕ) × AreFirstRecords (splits old) bytes read × takes old read new)
+    first None new f = tt
+    first (Some bytes) new (read, (rest, parts, whole), taken) =
+        (read, (rest, parts, λ some. subst (λ (f : Records). AreWholeRecords f read) same (whole some)), both old begun new [] read (whole_none (splits old)) begins taken)
+
+    pub begun_failed : (limit : ℕ) (input : Option (List ℕ)) (new : S) (e : Failure) → FailsInput (splits begun) takes fails limit input begun new e → FailsInput (splits old) takes fails limit input old new e
+    begun_failed limit input new e failed = ⊎_elim
+        (λ stops. inl (
+          ⊎_elim (λ memory. inl memory) (λ long. inr (subst (λ (f : Records). (e ≡ LineTooLong) × IfSome input (HasLongRecord f limit)) same long)) stops.0,
+          first input new stops.1,
+        ))
+        (λ f. inr (record { some = f.some; known = known input new e f.known }))
         failed

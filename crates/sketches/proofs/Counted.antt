@@ -27,8 +27,8 @@ Counts old bytes new =
     (AddsLines old.0.weighing old.0.sketch bytes new.0.sketch × (new.0.weighing ≡ old.0.weighing))
     × GrowsBy old.0.not_utf8 (not_utf8_in (records_of old.0.weighing bytes)) new.0.not_utf8
 
-abbrev pub FailsCounting : Counter → List ℕ → Failure → Type 0
-FailsCounting old bytes failure = FailsLines old.0.weighing old.0.sketch bytes failure
+abbrev pub FailsCounting : Counter → List ℕ → Counter → Failure → Type 0
+FailsCounting old bytes new failure = FailsLines old.0.weighing old.0.sketch bytes failure
 
 -- the items of each list were added, and each line with an item has a weight
 abbrev pub AddsEach : Weighing → (old : Sketch) → List (List ℕ) → (new : Sketch) → Type 0
@@ -81,8 +81,8 @@ few_of_each p (bytes ∷ inputs) [] fronts = absurd fronts
 few_of_each p (bytes ∷ inputs) (r ∷ read) fronts =
     omega (arith, few_first p bytes r fronts.0, few_of_each p inputs read fronts.1, total_both (weighed_of p r) (flat_map (weighed_of p) read), total_both (weighed_of p bytes) (flat_map (weighed_of p) inputs))
 
-too_many : (old : Counter) (inputs : List (List ℕ)) → old.0.sketch.total ≡ 0 → FailsAmong (splits_of old.0.weighing) Counts FailsCounting inputs old TooManyItems → 2 ^ 64 ≤ total_of (flat_map (weighed_of old.0.weighing) inputs)
-too_many old inputs new f =
+too_many : (old after : Counter) (inputs : List (List ℕ)) → old.0.sketch.total ≡ 0 → FailsAmong (splits_of old.0.weighing) Counts FailsCounting inputs old after TooManyItems → 2 ^ 64 ≤ total_of (flat_map (weighed_of old.0.weighing) inputs)
+too_many old after inputs new f =
     let p : Weighing = old.0.weighing in
     let (added, same) = each_counted old f.mid f.read f.taken in
     let last : 2 ^ 64 ≤ f.mid.0.sketch.total + total_of (weighed_of p f.input) = subst (λ (q : Weighing). 2 ^ 64 ≤ f.mid.0.sketch.total + total_of (weighed_of q f.input)) same f.reason in
@@ -91,8 +91,8 @@ too_many old inputs new f =
 
 -- ---- a line without a weight
 
-bad_weight : (old : Counter) (inputs : List (List ℕ)) (found : BadWeight) → FailsAmong (splits_of old.0.weighing) Counts FailsCounting inputs old (failures.BadWeight found) → 0 < length (flat_map (unweighed_of old.0.weighing) inputs)
-bad_weight old inputs found f =
+bad_weight : (old after : Counter) (inputs : List (List ℕ)) (found : BadWeight) → FailsAmong (splits_of old.0.weighing) Counts FailsCounting inputs old after (failures.BadWeight found) → 0 < length (flat_map (unweighed_of old.0.weighing) inputs)
+bad_weight old after inputs found f =
     let p : Weighing = old.0.weighing in
     let (added, same) = each_counted old f.mid f.read f.taken in
     let here : 0 < length (unweighed_of p f.input) = subst (λ (q : Weighing). 0 < length (unweighed_of q f.input)) same f.reason in
@@ -101,18 +101,18 @@ bad_weight old inputs found f =
 
 -- ---- a failure
 
-taking_failed : (options : Options) (was : Option (List (List ℕ))) (old : Counter) (e : Failure) → old.0.sketch.total ≡ 0 → old.0.weighing ≡ options.weighing → FailsTakingInputs (splits_of old.0.weighing) Counts FailsCounting was old e → FailsTop options was e
-taking_failed options was old Memory new same f = tt
-taking_failed options was old LineTooLong new same f = absurd f.some.2
-taking_failed options None old TooManyItems new same f = tt
-taking_failed options (Some inputs) old TooManyItems new same f = subst (λ (p : Weighing). 2 ^ 64 ≤ total_of (flat_map (weighed_of p) inputs)) same (too_many old inputs new f.known)
-taking_failed options None old (failures.BadWeight found) new same f = tt
-taking_failed options (Some inputs) old (failures.BadWeight found) new same f = subst (λ (p : Weighing). 0 < length (flat_map (unweighed_of p) inputs)) same (bad_weight old inputs found f.known)
-taking_failed options was old BadSize new same f = absurd f.some.2
-taking_failed options was old (Write error) new same f = tt
+taking_failed : (options : Options) (was : Option (List (List ℕ))) (output : Type 0) (old after : Counter) (e : Failure) → old.0.sketch.total ≡ 0 → old.0.weighing ≡ options.weighing → FailsTakingInputs (splits_of old.0.weighing) Counts FailsCounting was old after e → FailsTop options was output e
+taking_failed options was output old after Memory new same f = tt
+taking_failed options was output old after LineTooLong new same f = absurd f.some.2
+taking_failed options None output old after TooManyItems new same f = tt
+taking_failed options (Some inputs) output old after TooManyItems new same f = subst (λ (p : Weighing). 2 ^ 64 ≤ total_of (flat_map (weighed_of p) inputs)) same (too_many old after inputs new f.known)
+taking_failed options None output old after (failures.BadWeight found) new same f = tt
+taking_failed options (Some inputs) output old after (failures.BadWeight found) new same f = subst (λ (p : Weighing). 0 < length (flat_map (unweighed_of p) inputs)) same (bad_weight old after inputs found f.known)
+taking_failed options was output old after BadSize new same f = absurd f.some.2
+taking_failed options was output old after (Write error) new same f = absurd f.some.2
 
-pub count_failed : (options : Options) (was : Option (List (List ℕ))) (old : Counter) (e : Failure) → old.0.sketch.total ≡ 0 → old.0.weighing ≡ options.weighing → FailsInputs (splits_of old.0.weighing) Counts FailsCounting (options.max_line + 1) was old e → FailsTop options was e
-count_failed options was old e new same failed = ⊎_elim
-    (λ memory. rw memory tt)
-    (λ other. ⊎_elim (λ long. rw long.0 (subst (λ (p : Weighing). IfSome was (HaveLongRecord (splits_of p) (options.max_line + 1))) same long.1)) (λ taking. taking_failed options was old e new same taking) other)
+pub count_failed : (options : Options) (was : Option (List (List ℕ))) (output : Type 0) (old after : Counter) (e : Failure) → old.0.sketch.total ≡ 0 → old.0.weighing ≡ options.weighing → FailsInputs (splits_of old.0.weighing) Counts FailsCounting (options.max_line + 1) was old after e → FailsTop options was output e
+count_failed options was output old after e new same failed = ⊎_elim
+    (λ stops. ⊎_elim (λ memory. rw memory tt) (λ long. rw long.0 (subst (λ (p : Weighing). IfSome was (HaveLongRecord (splits_of p) (options.max_line + 1))) same long.1)) stops.0)
+    (λ taking. taking_failed options was output old after e new same taking)
     failed

@@ -3,6 +3,7 @@ use Rattle.std.proofs.Common.{◌≡◌, ⊎_elim, inl, inr, ℕ, ◌+◌, ◌^�
 use Rattle.std.proofs.lemmas.Bool.{eq-eqb, false≢true}
 use Rattle.std.proofs.lemmas.Int.{ints}
 use Rattle.std.proofs.lemmas.List.Concat.{flat_map-append}
+use Rattle.std.proofs.lemmas.List.Elements.{All-nil}
 use Rattle.std.proofs.lemmas.List.Sums.{sum_by-cons}
 use Rattle.std.proofs.lemmas.Slice.Eq.{bytes_eq-Decides}
 use Rattle.std.specs.Io.KnownBytes.{Appends}
@@ -17,13 +18,14 @@ use Rattle.sketch_countmin.specs.State.{CountState, IsMinCell, item_cell}
 use Rattle.sketch_countmin.proofs.Estimates.{bucket_below}
 use Rattle.sketches.specs.AddingLaws.{records_both}
 use Rattle.sketches.specs.Failures.{FailsWriting}
-use Rattle.sketches.specs.Inputs.{FailsAmong, FailsInputs, FailsTakingInputs, HaveLongRecord, TakesEach, TakesInputs}
-use Rattle.sketches.specs.KeyWeightLaws.{all_lines, no_lines}
-use Rattle.sketches.specs.KeyWeights.{CountsLines, CountsWeighed, IsEmptyTable, IsWeightOf, Row, WritesEstimates, WritesWeights, bucket_weight, counted, parts_in, total_line, unweighed_in, unweighed_line, unweighed_lines, usable_seed, weighed_in, weighed_line, weighed_lines}
+use Rattle.sketches.specs.Inputs.{AreRead, FailsAmong, FailsInputs, FailsTakingInputs, HaveLongRecord, TakesEach, TakesInputs}
+use Rattle.sketches.specs.KeyWeightLaws.{all_lines, no_lines, some_whole}
+use Rattle.sketches.specs.KeyWeights.{CountsLines, CountsWeighed, IsEmptyTable, IsWeightOf, Row, WritesEstimates, WritesSomeEstimates, WritesSomeWeights, WritesWeights, bucket_weight, counted, parts_in, total_line, unweighed_in, unweighed_line, unweighed_lines, usable_seed, weighed_in, weighed_line, weighed_lines}
 use Rattle.sketches.specs.Reading.{AreFirstRecords, FailsInput, TakesInput}
 use Rattle.sketch_base.specs.Records.{records_by, splits_by}
 use Rattle.sketches.specs.Unseen.{hashed}
-use Rattle.sketches.specs.Appending.{appends_both}
+use Rattle.sketches.specs.Appending.{appends_both, front_after, front_more}
+use Rattle.sketches.specs.Outputs.{WritesFront}
 use Rattle.sketches.specs.WeighFailures.{ComesLate, FailsLines, FailsWeigh}
 use Rattle.sketches.specs.Weighed.{Weighed, total_of}
 use Rattle.sketches.specs.WeighingLaws.{total_both}
@@ -139,8 +141,8 @@ Weigher = ItemWeigher × Unit {0}
 abbrev pub Weighs : Weigher → List ℕ → Weigher → Type 0
 Weighs old bytes new = CountsLines old.0.chosen old.0.sketch (records_by old.0.chosen.item bytes) new.0.sketch × (new.0.chosen ≡ old.0.chosen)
 
-abbrev pub FailsWeighs : Weigher → List ℕ → Failure → Type 0
-FailsWeighs old bytes failure = FailsLines old.0.chosen old.0.sketch (records_by old.0.chosen.item bytes) failure
+abbrev pub FailsWeighs : Weigher → List ℕ → Weigher → Failure → Type 0
+FailsWeighs old bytes new failure = FailsLines old.0.chosen old.0.sketch (records_by old.0.chosen.item bytes) failure
 
 abbrev WeighsAll : WeighedRecord → (old : CountState) → List (List ℕ) → Weigher → Type 0
 WeighsAll p old read new = CountsLines p old (flat_map (records_by p.item) read) new.0.sketch × (new.0.chosen ≡ p)
@@ -164,8 +166,101 @@ module _ {W : Type 0} (contents : W → Option (List ℕ)) where
       WritesEstimates old.0.escaped old.0.sketch (parts_in old.0.part bytes) (contents old.1) (contents new.1)
       × (new.0.sketch ≡ old.0.sketch) × (new.0.part ≡ old.0.part) × (new.0.escaped ≡ old.0.escaped)
 
-  abbrev pub FailsKeys : KeyWeights × W → List ℕ → Failure → Type 0
-  FailsKeys old bytes failure = FailsWriting failure
+  abbrev pub FailsKeys : (has_failed : W → Bool) → KeyWeights × W → List ℕ → KeyWeights × W → Failure → Type 0
+  FailsKeys has_failed old bytes new failure =
+      FailsWriting (has_failed new.1) failure × WritesSomeEstimates old.0.escaped old.0.sketch (parts_in old.0.part bytes) (contents old.1) (contents new.1)
+
+  -- what was read of the inputs, and its weights in the table
+  record HasWeighed (options : WeighOptions) (inputs : List (List ℕ)) (complete : Bool) (made : CountState) (weighed : Weigher) : Type 0 where
+    read : List (List ℕ)
+    are : AreRead (splits_by options.chosen.item) complete inputs read
+    adds : CountsWeighed made (weighed_in options.chosen read) weighed.0.sketch
+    each : unweighed_in options.chosen read ≡ []
+
+  has_weighed : (options : WeighOptions) (inputs : List (List ℕ)) (complete : Bool) (made : CountState) (weigher weighed : Weigher) → weigher.0.sketch ≡ made → weigher.0.chosen ≡ options.chosen
+      → TakesInputs (splits_by options.chosen.item) Weighs (Some inputs) complete weigher weighed → HasWeighed options inputs complete made weighed
+  has_weighed options inputs complete made weigher weighed begin part (read, are, each) =
+      let counts : CountsLines options.chosen made (flat_map (records_by options.chosen.item) read) weighed.0.sketch =
+      subst (λ (p : WeighedRecord). CountsLines p made (flat_map (records_by p.item) read) weighed.0.sketch) part (subst (λ (s : CountState). CountsLines weigher.0.chosen s (flat_map (records_by weigher.0.chosen.item) read) weighed.0.sketch) begin (each_weighed weigher weighed read each).0) in
+      record { read = read; are = are; adds = counts.0; each = counts.1 }
+
+  total_is : (made : CountState) (items : Weighed) (weighed : CountState) (total : ℕ) → made.total ≡ 0 → CountsWeighed made items weighed → pos total ≡ pos weighed.total → total ≡ total_of items
+  total_is made items weighed total none adds sum = omega (arith, ints, sum, adds.total, none)
+
+  -- the front of the weights of the first keys was written
+  some_of_keys : (options : WeighOptions) (inputs : List (List ℕ)) (keys read_keys : List ℕ) (complete : Bool) (made : CountState) (weigher weighed : Weigher) (total : ℕ) (held mid holds : Option (List ℕ))
+      → IsEmptyTable options.parts options.questions options.seed made → weigher.0.sketch ≡ made → weigher.0.chosen ≡ options.chosen → TakesInputs (splits_by options.chosen.item) Weighs (Some inputs) complete weigher weighed
+      → pos total ≡ pos weighed.0.sketch.total → Appends held mid (total_line options.header total) → AreFirstRecords (splits_by options.keys_part) keys read_keys → WritesSomeEstimates options.escaped weighed.0.sketch (parts_in options.keys_part read_keys) mid holds
+      → WritesSomeWeights options inputs keys held holds
+  some_of_keys options inputs keys read_keys complete made weigher weighed total held mid holds empty begin part weighs sum wrote front some =
+      let so = has_weighed options inputs complete made weigher weighed begin part weighs in
+      let items : Weighed = weighed_in options.chosen so.read in
+      let all : total ≡ total_of items = total_is made items weighed.0.sketch total (ap (λ (s : CountState). s.total) empty.is) so.adds sum in
+      record {
+        complete = complete;
+        read = so.read;
+        are = so.are;
+        each = so.each;
+        hashes = made.hashes;
+        buckets = made.buckets;
+        table = empty.sizes;
+        read_keys = read_keys;
+        front = front;
+        rows = some.rows;
+        later = some.later;
+        keys_are = some.parts ∙ ap (λ l. l ++ some.later) (sym some.keys_are);
+        weights = are_weights made weighed.0.sketch (usable_seed options.seed) items some.rows empty.some_buckets empty.stands so.adds some.estimates;
+        wrote = front_after held mid holds _ _ (subst (λ (n : ℕ). Appends held mid (total_line options.header n)) all wrote) some.wrote;
+      }
+
+  -- the line of the total, or its front, and no keys
+  pub total_written : (options : WeighOptions) (was : Option (List (List ℕ))) (bytes : Option (List ℕ)) (complete : Bool) (made : CountState) (weigher weighed : Weigher) (total : ℕ) (held holds : Option (List ℕ))
+      → IsEmptyTable options.parts options.questions options.seed made → weigher.0.sketch ≡ made → weigher.0.chosen ≡ options.chosen → TakesInputs (splits_by options.chosen.item) Weighs was complete weigher weighed
+      → pos total ≡ pos weighed.0.sketch.total → WritesFront held holds (total_line options.header total)
+      → IfSome was (λ inputs. IfSome bytes (λ keys. WritesSomeWeights options inputs keys held holds))
+  total_written options None bytes complete made weigher weighed total held holds empty begin part weighs sum front = tt
+  total_written options (Some inputs) None complete made weigher weighed total held holds empty begin part weighs sum front = tt
+  total_written options (Some inputs) (Some keys) complete made weigher weighed total held holds empty begin part weighs sum front =
+      let so = has_weighed options inputs complete made weigher weighed begin part weighs in
+      let items : Weighed = weighed_in options.chosen so.read in
+      let all : total ≡ total_of items = total_is made items weighed.0.sketch total (ap (λ (s : CountState). s.total) empty.is) so.adds sum in
+      record {
+        complete = complete;
+        read = so.read;
+        are = so.are;
+        each = so.each;
+        hashes = made.hashes;
+        buckets = made.buckets;
+        table = empty.sizes;
+        read_keys = keys;
+        front = ([], sym (append-nil keys), λ some. absurd (omega arith));
+        rows = [];
+        later = parts_in options.keys_part keys;
+        keys_are = refl;
+        weights = are_weights made weighed.0.sketch (usable_seed options.seed) items [] empty.some_buckets empty.stands so.adds (All-nil (λ (row : Row). IsMinCell weighed.0.sketch (hashed row.1) (pos row.0)));
+        wrote = front_more held holds _ [] (subst (λ (n : ℕ). WritesFront held holds (total_line options.header n)) all front);
+      }
+
+  -- a failure while the keys are read
+  pub some_weights : (has_failed : W → Bool) (options : WeighOptions) (was : Option (List (List ℕ))) (bytes : Option (List ℕ)) (complete : Bool) (made : CountState) (weigher weighed : Weigher) (total : ℕ) (held : Option (List ℕ)) (old new : KeyWeights × W) (e : Failure)
+      → IsEmptyTable options.parts options.questions options.seed made → weigher.0.sketch ≡ made → weigher.0.chosen ≡ options.chosen → TakesInputs (splits_by options.chosen.item) Weighs was complete weigher weighed
+      → pos total ≡ pos weighed.0.sketch.total → Appends held (contents old.1) (total_line options.header total) → old.0.sketch ≡ weighed.0.sketch → old.0.part ≡ options.keys_part → old.0.escaped ≡ options.escaped
+      → FailsInput (splits_by options.keys_part) WritesKeys (FailsKeys has_failed) (options.max_line + 1) bytes old new e
+      → IfSome was (λ inputs. IfSome bytes (λ keys. WritesSomeWeights options inputs keys held (contents new.1)))
+  some_weights has_failed options None bytes complete made weigher weighed total held old new e empty begin part weighs sum wrote sketch keys_part escaped failed = tt
+  some_weights has_failed options (Some inputs) None complete made weigher weighed total held old new e empty begin part weighs sum wrote sketch keys_part escaped failed = tt
+  some_weights has_failed options (Some inputs) (Some keys) complete made weigher weighed total held old new e empty begin part weighs sum wrote sketch keys_part escaped failed =
+      let of_options : (read : List ℕ) → WritesSomeEstimates old.0.escaped old.0.sketch (parts_in old.0.part read) (contents old.1) (contents new.1) → WritesSomeEstimates options.escaped weighed.0.sketch (parts_in options.keys_part read) (contents old.1) (contents new.1) =
+      λ read some. subst (λ (p : RecordPart). WritesSomeEstimates options.escaped weighed.0.sketch (parts_in p read) (contents old.1) (contents new.1)) keys_part
+      (subst (λ (s : CountState). WritesSomeEstimates options.escaped s (parts_in old.0.part read) (contents old.1) (contents new.1)) sketch
+      (subst (λ (b : Bool). WritesSomeEstimates b old.0.sketch (parts_in old.0.part read) (contents old.1) (contents new.1)) escaped some)) in
+      ⊎_elim
+      (λ stops.
+      let (read, front, taken) = stops.1 in
+      some_of_keys options inputs keys read complete made weigher weighed total held (contents old.1) (contents new.1) empty begin part weighs sum wrote front (of_options read (some_whole old.0.escaped old.0.sketch (parts_in old.0.part read) (contents old.1) (contents new.1) taken.0)))
+      (λ taking.
+      some_of_keys options inputs keys keys complete made weigher weighed total held (contents old.1) (contents new.1) empty begin part weighs sum wrote ([], sym (append-nil keys), λ some. absurd (omega arith)) (of_options keys taking.known.1))
+      failed
 
   pub weights_written : {E : Type 0} (options : WeighOptions) (was : Option (List (List ℕ))) (bytes : Option (List ℕ)) (complete : Bool) (failure : Option E) (made : CountState) (weigher weighed : Weigher) (total : ℕ) (held : Option (List ℕ)) (old new : KeyWeights × W)
       → IsEmptyTable options.parts options.questions options.seed made → weigher.0.sketch ≡ made → weigher.0.chosen ≡ options.chosen → TakesInputs (splits_by options.chosen.item) Weighs was complete weigher weighed
@@ -242,8 +337,8 @@ module _ (p : WeighedRecord) where
       ap (unweighed_lines p) (records_among earlier later input)
       ∙ (flat_map-append (unweighed_line p) (flat_map records earlier) (records input ++ flat_map records later) ∙ ap (λ l. unweighed_in p earlier ++ l) (flat_map-append (unweighed_line p) (records input) (flat_map records later)))
 
-too_many : (old : Weigher) (inputs : List (List ℕ)) → old.0.sketch.total ≡ 0 → FailsAmong (splits_by old.0.chosen.item) Weighs FailsWeighs inputs old TooManyItems → 2 ^ 64 ≤ total_of (weighed_in old.0.chosen inputs)
-too_many old inputs new f =
+too_many : (old after : Weigher) (inputs : List (List ℕ)) → old.0.sketch.total ≡ 0 → FailsAmong (splits_by old.0.chosen.item) Weighs FailsWeighs inputs old after TooManyItems → 2 ^ 64 ≤ total_of (weighed_in old.0.chosen inputs)
+too_many old after inputs new f =
     let p : WeighedRecord = old.0.chosen in
     let (added, same) = each_weighed old f.mid f.read f.taken in
     let here : Weighed = weighed_lines p (records_by p.item f.input) in
@@ -251,8 +346,8 @@ too_many old inputs new f =
     let all = ap (λ (l : Weighed). total_of l) (ap (weighed_in p) f.parts ∙ weighed_among p f.earlier f.later f.input) in
     omega (arith, last, added.0.total, new, few_of_each p f.earlier f.read f.fronts, all, total_both (weighed_in p f.earlier) (here ++ weighed_in p f.later), total_both here (weighed_in p f.later))
 
-without_one : (old : Weigher) (inputs : List (List ℕ)) (found : BadWeightValue) → FailsAmong (splits_by old.0.chosen.item) Weighs FailsWeighs inputs old (BadWeight found) → 0 < length (unweighed_in old.0.chosen inputs)
-without_one old inputs found f =
+without_one : (old after : Weigher) (inputs : List (List ℕ)) (found : BadWeightValue) → FailsAmong (splits_by old.0.chosen.item) Weighs FailsWeighs inputs old after (BadWeight found) → 0 < length (unweighed_in old.0.chosen inputs)
+without_one old after inputs found f =
     let p : WeighedRecord = old.0.chosen in
     let (added, same) = each_weighed old f.mid f.read f.taken in
     let here : List (List ℕ) = unweighed_lines p (records_by p.item f.input) in
@@ -260,37 +355,38 @@ without_one old inputs found f =
     let all = ap (λ (l : List (List ℕ)). length l) (ap (unweighed_in p) f.parts ∙ unweighed_among p f.earlier f.later f.input) in
     omega (arith, some, all, length-append (unweighed_in p f.earlier) (here ++ unweighed_in p f.later), length-append here (unweighed_in p f.later))
 
-taking_failed : (options : WeighOptions) (was : Option (List (List ℕ))) (keys : Option (List ℕ)) (old : Weigher) (e : Failure) → old.0.sketch.total ≡ 0 → old.0.chosen ≡ options.chosen → FailsTakingInputs (splits_by old.0.chosen.item) Weighs FailsWeighs was old e → FailsWeigh options was keys e
-taking_failed options was keys old Memory new same f = tt
-taking_failed options was keys old LineTooLong new same f = absurd f.some.2
-taking_failed options None keys old TooManyItems new same f = tt
-taking_failed options (Some inputs) keys old TooManyItems new same f = subst (λ (p : WeighedRecord). 2 ^ 64 ≤ total_of (weighed_in p inputs)) same (too_many old inputs new f.known)
-taking_failed options None keys old (BadWeight found) new same f = tt
-taking_failed options (Some inputs) keys old (BadWeight found) new same f = subst (λ (p : WeighedRecord). 0 < length (unweighed_in p inputs)) same (without_one old inputs found f.known)
-taking_failed options was keys old BadSize new same f = absurd f.some.2
-taking_failed options was keys old (Write error) new same f = tt
+taking_failed : (options : WeighOptions) (was : Option (List (List ℕ))) (keys : Option (List ℕ)) (has_failed : Bool) (old after : Weigher) (e : Failure) → old.0.sketch.total ≡ 0 → old.0.chosen ≡ options.chosen → FailsTakingInputs (splits_by old.0.chosen.item) Weighs FailsWeighs was old after e → FailsWeigh options was keys has_failed e
+taking_failed options was keys has_failed old after Memory new same f = tt
+taking_failed options was keys has_failed old after LineTooLong new same f = absurd f.some.2
+taking_failed options None keys has_failed old after TooManyItems new same f = tt
+taking_failed options (Some inputs) keys has_failed old after TooManyItems new same f = subst (λ (p : WeighedRecord). 2 ^ 64 ≤ total_of (weighed_in p inputs)) same (too_many old after inputs new f.known)
+taking_failed options None keys has_failed old after (BadWeight found) new same f = tt
+taking_failed options (Some inputs) keys has_failed old after (BadWeight found) new same f = subst (λ (p : WeighedRecord). 0 < length (unweighed_in p inputs)) same (without_one old after inputs found f.known)
+taking_failed options was keys has_failed old after BadSize new same f = absurd f.some.2
+taking_failed options was keys has_failed old after (Write error) new same f = absurd f.some.2
 
-pub weigh_failed : (options : WeighOptions) (was : Option (List (List ℕ))) (keys : Option (List ℕ)) (old : Weigher) (e : Failure) → old.0.sketch.total ≡ 0 → old.0.chosen ≡ options.chosen → FailsInputs (splits_by old.0.chosen.item) Weighs FailsWeighs (options.max_line + 1) was old e → FailsWeigh options was keys e
-weigh_failed options was keys old e new same failed = ⊎_elim
-    (λ memory. rw memory tt)
-    (λ other. ⊎_elim (λ long. rw long.0 (inl (subst (λ (p : WeighedRecord). IfSome was (HaveLongRecord (splits_by p.item) (options.max_line + 1))) same long.1))) (λ taking. taking_failed options was keys old e new same taking) other)
+pub weigh_failed : (options : WeighOptions) (was : Option (List (List ℕ))) (keys : Option (List ℕ)) (has_failed : Bool) (old after : Weigher) (e : Failure) → old.0.sketch.total ≡ 0 → old.0.chosen ≡ options.chosen → FailsInputs (splits_by old.0.chosen.item) Weighs FailsWeighs (options.max_line + 1) was old after e → FailsWeigh options was keys has_failed e
+weigh_failed options was keys has_failed old after e new same failed = ⊎_elim
+    (λ stops. ⊎_elim (λ memory. rw memory tt) (λ long. rw long.0 (inl (subst (λ (p : WeighedRecord). IfSome was (HaveLongRecord (splits_by p.item) (options.max_line + 1))) same long.1))) stops.0)
+    (λ taking. taking_failed options was keys has_failed old after e new same taking)
     failed
 
 -- a failure while the keys are read
-pub record IsLateFailure (options : WeighOptions) (was : Option (List (List ℕ))) (keys : Option (List ℕ)) (e : Failure) : Type 0 where
-  pub fails : FailsWeigh options was keys e
+pub record IsLateFailure (options : WeighOptions) (was : Option (List (List ℕ))) (keys : Option (List ℕ)) (has_failed : Bool) (e : Failure) : Type 0 where
+  pub fails : FailsWeigh options was keys has_failed e
   pub late : ComesLate e
 
-pub writing_failed : (options : WeighOptions) (was : Option (List (List ℕ))) (keys : Option (List ℕ)) (e : Failure) → FailsWriting e → IsLateFailure options was keys e
-writing_failed options was keys Memory f = record { fails = tt; late = tt }
-writing_failed options was keys LineTooLong f = absurd f
-writing_failed options was keys TooManyItems f = absurd f
-writing_failed options was keys BadSize f = absurd f
-writing_failed options was keys (BadWeight found) f = absurd f
-writing_failed options was keys (Write error) f = record { fails = tt; late = tt }
+pub writing_failed : (options : WeighOptions) (was : Option (List (List ℕ))) (keys : Option (List ℕ)) (has_failed : Bool) (e : Failure) → FailsWriting has_failed e → IsLateFailure options was keys has_failed e
+writing_failed options was keys has_failed Memory f = record { fails = tt; late = tt }
+writing_failed options was keys has_failed LineTooLong f = absurd f
+writing_failed options was keys has_failed TooManyItems f = absurd f
+writing_failed options was keys has_failed BadSize f = absurd f
+writing_failed options was keys has_failed (BadWeight found) f = absurd f
+writing_failed options was keys has_failed (Write error) f = record { fails = f; late = tt }
 
-pub keys_failed : {W : Type 0} (contents : W → Option (List ℕ)) (options : WeighOptions) (was : Option (List (List ℕ))) (keys : Option (List ℕ)) (old : KeyWeights × W) (e : Failure) → FailsInput (splits_by options.keys_part) (FailsKeys contents) (options.max_line + 1) keys old e → IsLateFailure options was keys e
-keys_failed contents options was keys old e failed = ⊎_elim
-    (λ memory. rw memory (record { fails = tt; late = tt }))
-    (λ other. ⊎_elim (λ long. rw long.0 (record { fails = inr long.1; late = tt })) (λ taking. writing_failed options was keys e taking.some.2) other)
+pub keys_failed : {W : Type 0} (contents : W → Option (List ℕ)) (has_failed : W → Bool) (options : WeighOptions) (was : Option (List (List ℕ))) (keys : Option (List ℕ)) (old new : KeyWeights × W) (e : Failure)
+    → FailsInput (splits_by options.keys_part) (WritesKeys contents) (FailsKeys contents has_failed) (options.max_line + 1) keys old new e → IsLateFailure options was keys (has_failed new.1) e
+keys_failed contents has_failed options was keys old new e failed = ⊎_elim
+    (λ stops. ⊎_elim (λ memory. rw memory (record { fails = tt; late = tt })) (λ long. rw long.0 (record { fails = inr long.1; late = tt })) stops.0)
+    (λ taking. writing_failed options was keys (has_failed new.1) e taking.some.2.0)
     failed

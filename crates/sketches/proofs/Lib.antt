@@ -9,11 +9,13 @@ pub mod JoinedInputs
 pub mod ItemWeights
 pub mod KeyWeights
 pub mod Merged
+pub mod OutputFronts
 pub mod RawSplits
 pub mod ReadInputs
 pub mod ReadLines
 pub mod Reported
 pub mod Results
+pub mod RowOrder
 pub mod Saved
 pub mod TakenBatches
 pub mod Utf8Strings

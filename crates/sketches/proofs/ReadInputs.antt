@@ -2,7 +2,7 @@
 use Rattle.std.proofs.Common.{◌≡◌, inl, inr, ⊎_elim, ℕ, Bool, true, List, [], ◌∷◌, ◌++◌, Option, None, Some, IfSome, append_assoc, append-nil, refl, sym, ◌∙◌, ap, subst, arith}
 use Rattle.sketch_frequencies.proofs.KeyedBatches.{all_zip_push}
 use Rattle.sketches.specs.Reading.{AreFirstRecords, FailsInput, HasLongRecord, TakesInput}
-use Rattle.sketches.specs.Inputs.{AreRead, FailsAmong, FailsInputs, HaveLongRecord, OpensNext, TakesEach, TakesInputs}
+use Rattle.sketches.specs.Inputs.{AreRead, FailsAmong, FailsInputs, HaveLongRecord, OpensNext, TakesEach, TakesFirst, TakesInputs}
 use Rattle.sketches.specs.declared.failure.Failure.{Failure}
 use Rattle.sketch_base.specs.declared.records.Records.{Records}
 
@@ -74,6 +74,27 @@ module _ (records : Records) {S : Type 0} (takes : S → List ℕ → S → Type
 
   -- ---- a failure at one of the inputs
 
+  -- reading stops between two inputs
+  pub inputs_stopped : (complete : Bool) (was is : Option (List (List ℕ))) (old mid : S) → HasTakenSome complete was is old mid → IfSome was (λ inputs. TakesFirst records takes inputs old mid)
+  inputs_stopped complete None is old mid so = tt
+  inputs_stopped complete (Some inputs) is old mid (left, here, so) =
+      record { first = so.done; later = left; parts = so.parts; read = so.read; fronts = so.are.fronts; taken = so.taken }
+
+  stopped_among : {R : Type 0} (remaining : R → Option (List ℕ)) (complete : Bool) (was is is' : Option (List (List ℕ))) (old mid new : S) (next : Option R) (reader : R)
+      → HasTakenSome complete was is old mid → OpensNext remaining is is' next → next ≡ Some reader → IfSome (remaining reader) (λ bytes. (got : List ℕ) × AreFirstRecords records bytes got × takes mid got new) → IfSome was (λ inputs. TakesFirst records takes inputs old new)
+  stopped_among remaining complete None is is' old mid new next reader so opens e stops = tt
+  stopped_among remaining complete (Some inputs) is is' old mid new next reader (left, here, so) opens e stops =
+      let (bytes, later, parts, known, after) = rw (here, e) at opens in
+      let (got, front, taken) = rw known at stops in
+      record {
+        first = so.done ++ bytes ∷ [];
+        later = later;
+        parts = so.parts ∙ (ap (λ l. so.done ++ l) parts ∙ sym (append_assoc so.done (bytes ∷ []) later));
+        read = so.read ++ got ∷ [];
+        fronts = all_zip_push (AreFirstRecords records) so.done so.read bytes got so.are.fronts front;
+        taken = each_more old mid new so.read got so.taken taken;
+      }
+
   long_among : {R : Type 0} (remaining : R → Option (List ℕ)) (limit : ℕ) (complete : Bool) (was is is' : Option (List (List ℕ))) (old mid : S) (next : Option R) (reader : R)
       → HasTakenSome complete was is old mid → OpensNext remaining is is' next → next ≡ Some reader → IfSome (remaining reader) (HasLongRecord records limit) → IfSome was (HaveLongRecord records limit)
   long_among remaining limit complete None is is' old mid next reader so opens e long = tt
@@ -81,11 +102,11 @@ module _ (records : Records) {S : Type 0} (takes : S → List ℕ → S → Type
       let (bytes, later, parts, known, after) = rw (here, e) at opens in
       record { earlier = so.done; input = bytes; later = later; parts = so.parts ∙ ap (λ l. so.done ++ l) parts; long = rw known at long }
 
-  module _ (fails : S → List ℕ → Failure → Type 0) where
-    fails_among : {R : Type 0} (remaining : R → Option (List ℕ)) (complete : Bool) (was is is' : Option (List (List ℕ))) (old mid : S) (next : Option R) (reader : R) (e : Failure)
-        → HasTakenSome complete was is old mid → OpensNext remaining is is' next → next ≡ Some reader → IfSome (remaining reader) (λ bytes. fails mid bytes e) → IfSome was (λ inputs. FailsAmong records takes fails inputs old e)
-    fails_among remaining complete None is is' old mid next reader e so opens is_next known = tt
-    fails_among remaining complete (Some inputs) is is' old mid next reader e (left, here, so) opens is_next reason =
+  module _ (fails : S → List ℕ → S → Failure → Type 0) where
+    fails_among : {R : Type 0} (remaining : R → Option (List ℕ)) (complete : Bool) (was is is' : Option (List (List ℕ))) (old mid new : S) (next : Option R) (reader : R) (e : Failure)
+        → HasTakenSome complete was is old mid → OpensNext remaining is is' next → next ≡ Some reader → IfSome (remaining reader) (λ bytes. fails mid bytes new e) → IfSome was (λ inputs. FailsAmong records takes fails inputs old new e)
+    fails_among remaining complete None is is' old mid new next reader e so opens is_next known = tt
+    fails_among remaining complete (Some inputs) is is' old mid new next reader e (left, here, so) opens is_next reason =
         let (bytes, later, parts, known, after) = rw (here, is_next) at opens in
         record {
           earlier = so.done;
@@ -99,12 +120,13 @@ module _ (records : Records) {S : Type 0} (takes : S → List ℕ → S → Type
           reason = rw known at reason;
         }
 
-    pub inputs_failed : {R : Type 0} (remaining : R → Option (List ℕ)) (limit : ℕ) (complete : Bool) (was is is' : Option (List (List ℕ))) (old mid : S) (next : Option R) (reader : R) (e : Failure)
-        → HasTakenSome complete was is old mid → OpensNext remaining is is' next → next ≡ Some reader → FailsInput records fails limit (remaining reader) mid e → FailsInputs records takes fails limit was old e
-    inputs_failed remaining limit complete was is is' old mid next reader e so opens is_next failed =
-        ⊎_elim (λ memory. inl memory)
-        (λ other. ⊎_elim
-        (λ long. inr (inl (long.0, long_among remaining limit complete was is is' old mid next reader so opens is_next long.1)))
-        (λ taking. inr (inr (record { some = taking.some; known = fails_among remaining complete was is is' old mid next reader e so opens is_next taking.known })))
-        other)
+    pub inputs_failed : {R : Type 0} (remaining : R → Option (List ℕ)) (limit : ℕ) (complete : Bool) (was is is' : Option (List (List ℕ))) (old mid new : S) (next : Option R) (reader : R) (e : Failure)
+        → HasTakenSome complete was is old mid → OpensNext remaining is is' next → next ≡ Some reader → FailsInput records takes fails limit (remaining reader) mid new e → FailsInputs records takes fails limit was old new e
+    inputs_failed remaining limit complete was is is' old mid new next reader e so opens is_next failed =
+        ⊎_elim
+        (λ stops. inl (
+          ⊎_elim (λ memory. inl memory) (λ long. inr (long.0, long_among remaining limit complete was is is' old mid next reader so opens is_next long.1)) stops.0,
+          stopped_among remaining complete was is is' old mid new next reader so opens is_next stops.1,
+        ))
+        (λ taking. inr (record { some = taking.some; known = fails_among remaining complete was is is' old mid new next reader e so opens is_next taking.known }))
         failed

@@ -9,7 +9,7 @@ use Rattle.std.proofs.lemmas.List.Elements.{All-append}
 use Rattle.std.proofs.Math.Seq.{take-add}
 use Rattle.sketch_base.specs.Split.{IsBehindLast, separates}
 use Rattle.sketch_base.specs.declared.separator.Separator.TheVariants.{LineFeed}
-use Rattle.sketches.specs.Reading.{AreWholeLines, AreWholeRecords, FailsTaking, FailsWithin, HasLongRecord, IsBehindEnd, IsInOne, IsInOneLine, TakesInput, TakesRecords, place_of}
+use Rattle.sketches.specs.Reading.{AreFirstRecords, AreWholeLines, AreWholeRecords, FailsTaking, FailsWithin, HasLongRecord, IsBehindEnd, IsInOne, IsInOneLine, TakesInput, TakesRecords, place_of}
 use Rattle.sketches.specs.declared.failure.Failure.{Failure}
 use Rattle.sketch_base.specs.declared.records.Records.{Records}
 use Rattle.sketch_base.specs.declared.records.Records.TheVariants.{Lines, Csv}
@@ -175,6 +175,12 @@ module _ (records : Records) {S : Type 0} (takes : S → List ℕ → S → Type
     taken_last E (Some bytes) None old mid new all held same h e end more = absurd h
     taken_last E (Some bytes) (Some left) old mid new all held same h e end more = taken_all bytes left held old mid new same (subst (λ l. HasTakenKnown bytes left old mid l) e h) end more
 
+  -- reading stops
+  pub taken_stopped : (was is : Option (List ℕ)) (old new : S) (held : List ℕ) → HasTaken was is old new held → IfSome was (λ bytes. (read : List ℕ) × AreFirstRecords records bytes read × takes old read new)
+  taken_stopped None is old new held h = tt
+  taken_stopped (Some bytes) None old new held h = absurd h
+  taken_stopped (Some bytes) (Some left) old new held h = (h.read, (held ++ left, h.parts, λ some. h.whole), h.taken)
+
   -- a line is too long
   pub too_long : (was is : Option (List ℕ)) (old new : S) (held : List ℕ) (limit : ℕ) → HasTaken was is old new held → limit ≤ length held → IsInOne records Start held → IfSome was (HasLongRecord records limit)
   too_long None is old new held limit h le line = tt
@@ -183,32 +189,32 @@ module _ (records : Records) {S : Type 0} (takes : S → List ℕ → S → Type
 
   -- ---- a failure while lines are taken
 
-  module _ (splits : S → Records) (fails : S → List ℕ → Failure → Type 0) (later : (r s : S) (xs ys : List ℕ) (e : Failure) → AreWholeRecords (splits r) xs → takes r xs s → fails s ys e → fails r (xs ++ ys) e) where
-    after : (r s : S) (xs ys : List ℕ) (e : Failure) → splits r ≡ records → AreWholeRecords records xs → takes r xs s → fails s ys e → fails r (xs ++ ys) e
-    after r s xs ys e same whole = later r s xs ys e (subst (λ (f : Records). AreWholeRecords f xs) (sym same) whole)
+  module _ (splits : S → Records) (fails : S → List ℕ → S → Failure → Type 0) (later : (r s t : S) (xs ys : List ℕ) (e : Failure) → AreWholeRecords (splits r) xs → takes r xs s → fails s ys t e → fails r (xs ++ ys) t e) where
+    after : (r s t : S) (xs ys : List ℕ) (e : Failure) → splits r ≡ records → AreWholeRecords records xs → takes r xs s → fails s ys t e → fails r (xs ++ ys) t e
+    after r s t xs ys e same whole = later r s t xs ys e (subst (λ (f : Records). AreWholeRecords f xs) (sym same) whole)
 
     -- of the last line
-    pub fails_last : (was is : Option (List ℕ)) (old mid : S) (all held : List ℕ) (e : Failure) → splits old ≡ records → HasTaken was is old mid all → all ≡ held → IsAtEnd is → fails mid held e → FailsTaking records fails was old e
-    fails_last None is old mid all held e kind h same end f = record { some = (mid, held, f); known = tt }
-    fails_last (Some bytes) None old mid all held e kind h same end f = absurd h
-    fails_last (Some bytes) (Some left) old mid all held e kind h same end f = record {
+    pub fails_last : (was is : Option (List ℕ)) (old mid new : S) (all held : List ℕ) (e : Failure) → splits old ≡ records → HasTaken was is old mid all → all ≡ held → IsAtEnd is → fails mid held new e → FailsTaking records fails was old new e
+    fails_last None is old mid new all held e kind h same end f = record { some = (mid, held, f); known = tt }
+    fails_last (Some bytes) None old mid new all held e kind h same end f = absurd h
+    fails_last (Some bytes) (Some left) old mid new all held e kind h same end f = record {
       some = (mid, held, f);
       known =
-          subst (λ l. fails old l e) (sym (h.parts ∙ ap (λ l. h.read ++ l) (ap (λ l. all ++ l) end ∙ (append-nil all ∙ same))))
-          (after old mid h.read held e kind h.whole h.taken f);
+          subst (λ l. fails old l new e) (sym (h.parts ∙ ap (λ l. h.read ++ l) (ap (λ l. all ++ l) end ∙ (append-nil all ∙ same))))
+          (after old mid new h.read held e kind h.whole h.taken f);
     }
 
-    module _ (sooner : (r : S) (xs ys : List ℕ) (e : Failure) → AreWholeRecords (splits r) xs → fails r xs e → fails r (xs ++ ys) e) where
+    module _ (sooner : (r t : S) (xs ys : List ℕ) (e : Failure) → AreWholeRecords (splits r) xs → fails r xs t e → fails r (xs ++ ys) t e) where
       -- of whole lines
-      pub fails_lines : (was is : Option (List ℕ)) (old mid : S) (all : List ℕ) (e : Failure) → splits old ≡ records → splits mid ≡ records → HasTaken was is old mid all → FailsWithin records fails mid all e → FailsTaking records fails was old e
-      fails_lines None is old mid all e kind same h f = record { some = (mid, f.taken, f.reason); known = tt }
-      fails_lines (Some bytes) None old mid all e kind same h f = absurd h
-      fails_lines (Some bytes) (Some left) old mid all e kind same h f = record {
+      pub fails_lines : (was is : Option (List ℕ)) (old mid new : S) (all : List ℕ) (e : Failure) → splits old ≡ records → splits mid ≡ records → HasTaken was is old mid all → FailsWithin records fails mid all new e → FailsTaking records fails was old new e
+      fails_lines None is old mid new all e kind same h f = record { some = (mid, f.taken, f.reason); known = tt }
+      fails_lines (Some bytes) None old mid new all e kind same h f = absurd h
+      fails_lines (Some bytes) (Some left) old mid new all e kind same h f = record {
         some = (mid, f.taken, f.reason);
         known =
-            subst (λ l. fails old l e) (sym (h.parts ∙ ap (λ l. h.read ++ l) (ap (λ l. l ++ left) f.parts ∙ append_assoc f.taken f.rest left)))
-            (after old mid h.read (f.taken ++ (f.rest ++ left)) e kind h.whole h.taken
-            (sooner mid f.taken (f.rest ++ left) e (subst (λ (g : Records). AreWholeRecords g f.taken) (sym same) f.whole) f.reason));
+            subst (λ l. fails old l new e) (sym (h.parts ∙ ap (λ l. h.read ++ l) (ap (λ l. l ++ left) f.parts ∙ append_assoc f.taken f.rest left)))
+            (after old mid new h.read (f.taken ++ (f.rest ++ left)) e kind h.whole h.taken
+            (sooner mid new f.taken (f.rest ++ left) e (subst (λ (g : Records). AreWholeRecords g f.taken) (sym same) f.whole) f.reason));
       }
 
   -- ---- records of the buffer
@@ -257,9 +263,9 @@ lines_some records takes old new items buffer held at end place next first some 
       place_is = next_is ∙ (place_behind records place bytes at some last ∙ ap (place_of records Start) (sym behind));
     }
 
-pub fails_some : (records : Records) {S : Type 0} (fails : S → List ℕ → Failure → Type 0) (old : S) (items : List ℕ) (held at end : ℕ) (place : Place) (e : Failure) → held ≤ end → 0 < at → at ≤ end - held → end ≤ length items
-    → place ≡ place_of records Start (take held items) → IsBehindEnd records place (take (end - held) (drop held items)) at → fails old (take (held + at) (take end items)) e → FailsWithin records fails old (take end items) e
-fails_some records fails old items held at end place e first some le within is last f =
+pub fails_some : (records : Records) {S : Type 0} (fails : S → List ℕ → S → Failure → Type 0) (old new : S) (items : List ℕ) (held at end : ℕ) (place : Place) (e : Failure) → held ≤ end → 0 < at → at ≤ end - held → end ≤ length items
+    → place ≡ place_of records Start (take held items) → IsBehindEnd records place (take (end - held) (drop held items)) at → fails old (take (held + at) (take end items)) new e → FailsWithin records fails old (take end items) new e
+fails_some records fails old new items held at end place e first some le within is last f =
     let reach : held + at ≤ end = omega (arith, first, le) in
     let bytes : List ℕ = take (end - held) (drop held items) in
     let bound : at ≤ length bytes = omega (arith, le, length-take (end - held) (drop held items), length-drop held items, within, first) in

@@ -13,20 +13,20 @@ use Rattle.std.specs.Option.{IfSome}
 use Rattle.std.specs.Str.{bytes_eq}
 use Rattle.std.specs.String.{string_bytes, string_eq}
 use Rattle.std.specs.declared.string.String.{String}
-use Rattle.counter_table.specs.Tables.{count_of}
 use Rattle.sketch_frequencies.specs.History.{FrequentHistory, true_weight, total_weight, min_sample, min_size, budget_size}
 use Rattle.sketch_frequencies.specs.History.FrequentHistory.{New, Update}
-use Rattle.sketch_frequencies.specs.Rows.{Descends, MissesNone, Shows, ShowsExactly}
+use Rattle.sketch_frequencies.specs.Rows.{MissesNone, Shows, ShowsExactly}
 use Rattle.sketch_frequencies.specs.Stands.{Encloses as Represents, KeepsTailBudget, StandsFor}
-use Rattle.sketch_frequencies.specs.State.{capacity, max_sample_size}
+use Rattle.sketch_frequencies.specs.State.{capacity, empty_state, max_sample_size}
 use Rattle.sketch_frequencies.specs.SuggestedSizes.{usual_budget}
 use Rattle.sketch_frequencies.specs.WeightedBatches.{all_weighed}
 use Rattle.sketch_frequencies.specs.declared.error_type.ErrorType.TheVariants.{NoFalseNegatives}
 use Rattle.sketch_frequencies.proofs.SuggestedSizes.{error_by_budget}
 use Rattle.sketches.specs.Added.{Sketch, AddsWeighed}
-use Rattle.sketches.specs.Images.{HasItems, KeepsItems, Merges, ReportsItems, WritesMerge, all_items}
+use Rattle.sketches.specs.Images.{HasItems, IsMergeReport, IsMergedError, KeepsItems, Merges, ReportsItems, StopsMerge, WritesMerge, all_items}
 use Rattle.sketches.specs.Inputs.{AreRead}
-use Rattle.sketches.specs.Reports.{Row, Encloses, HasAll, IsListed, Reports, ShowsTop, WritesReport, report_text}
+use Rattle.sketches.specs.Outputs.{WritesFront}
+use Rattle.sketches.specs.Reports.{Counts, Row, Encloses, HasAll, IsBefore, IsErrorOf, IsListed, IsReport, Precedes, Reports, ShowsTop, WritesReport, WritesReportFront, report_text}
 use Rattle.sketches.specs.Thresholds.{IsAbove}
 use Rattle.sketches.specs.Weighed.{Weighed, splits_of, total_of, weight_of, weighed_of}
 use Rattle.sketches.specs.declared.layout.Layout.{Layout}
@@ -124,6 +124,13 @@ distinct_of_first (suc n) (row ∷ rows) d = (distinct_from n row rows d.0, dist
 
 -- ---- a report
 
+-- a row that comes before an item with a number comes before it with a lower one
+before_less : (weight number : ℕ) (item : List ℕ) (row : Row) → weight ≤ number → IsBefore number item row → IsBefore weight item row
+before_less weight number item row at_most before = ⊎_elim
+    (λ less. inl (omega (arith, at_most, less)))
+    (λ tie. ⊎_elim (λ less. inl less) (λ more. inr (omega (arith, at_most, more, tie.0), tie.1)) (cases_lt weight row.upper_bound))
+    before
+
 module _ (items : List (String Global × ℕ)) (m : ℕ) (s : Sketch) (h : FrequentHistory (String Global)) (so : Represents string_eq s h)
     (weight : (x : String Global) → true_weight string_eq h x ≡ weight_of (map named items) (string_bytes x))
     (total : total_weight h ≡ total_of (map named items)) (table : m ≤ min_size h) (sample : max_sample_size m ≤ min_sample h) (threshold : Threshold) (floor : ℕ) (floor_is : (n : ℕ) → IsAbove threshold (total_of (map named items)) n ↔ (floor < n)) where
@@ -133,18 +140,12 @@ module _ (items : List (String Global × ℕ)) (m : ℕ) (s : Sketch) (h : Frequ
     omega (arith, shows.upper_bound, so.at_most row.item, weight row.item),
   )
 
-  upper_is_estimate : (row : Row) → Shows string_eq NoFalseNegatives floor s row → row.estimate ≡ row.upper_bound
-  upper_is_estimate row shows = shows.estimate ∙ (ap (λ (b : Bool). cond b (count_of string_eq s.counters row.item + s.error) 0) shows.tracked ∙ sym shows.upper_bound)
-
-  descending : (n : ℕ) (rows : List Row) → ShowsExactly string_eq NoFalseNegatives floor s rows → Descends rows → AllPairs (λ (earlier later : Row). later.upper_bound ≤ earlier.upper_bound) (take n rows)
-  descending n rows exact d i j none less within =
+  ordered : (n : ℕ) (rows : List Row) → AllPairs Precedes rows → AllPairs Precedes (take n rows)
+  ordered n rows order i j none less within =
       let len : length (take n rows) ≡ min n (length rows) = length-take n rows in
       let a : get_or (take n rows) i none ≡ get_or rows i none = get_or-take n rows i none (omega (arith, len)) in
       let b : get_or (take n rows) j none ≡ get_or rows j none = get_or-take n rows j none (omega (arith, len)) in
-      let order : (get_or rows j none).estimate ≤ (get_or rows i none).estimate = d i j none less (omega (arith, len)) in
-      let earlier = upper_is_estimate (get_or rows i none) (exact.shown i none (omega (arith, len))) in
-      let later = upper_is_estimate (get_or rows j none) (exact.shown j none (omega (arith, len))) in
-      rw (a, b) (omega (arith, order, earlier, later))
+      rw (a, b) (order i j none less (omega (arith, len)))
 
   row_occurs : (row : Row) → Shows string_eq NoFalseNegatives floor s row → 0 < row.lower_bound
   row_occurs row shows = omega (arith, ltb-true _ _ shows.passing, shows.lower_bound)
@@ -152,17 +153,15 @@ module _ (items : List (String Global × ℕ)) (m : ℕ) (s : Sketch) (h : Frequ
   row_above : (row : Row) → Shows string_eq NoFalseNegatives floor s row → IsAbove threshold (total_of (map named items)) row.upper_bound
   row_above row shows = (floor_is row.upper_bound).1 (omega (arith, ltb-true _ _ shows.passing, shows.upper_bound))
 
-  lighter : (x : String Global) (row row' above above' : Row) → row' ≡ row → above' ≡ above → string_bytes x ≡ string_bytes row.item → row'.estimate ≤ above.estimate → Shows string_eq NoFalseNegatives floor s row → Shows string_eq NoFalseNegatives floor s above
-      → weight_of (map named items) (string_bytes x) ≤ above'.upper_bound
-  lighter x row row' above above' e f bytes order shown shown_above =
-      let a : row'.estimate ≡ row.estimate = ap (λ (r : Row). r.estimate) e in
-      let b : above'.upper_bound ≡ above.upper_bound = ap (λ (r : Row). r.upper_bound) f in
-      let c : weight_of (map named items) (string_bytes x) ≡ weight_of (map named items) (string_bytes row.item) = ap (weight_of (map named items)) bytes in
-      omega (arith, order, a, b, c, (row_encloses row shown).1, upper_is_estimate row shown, upper_is_estimate above shown_above)
+  -- a row that comes before another one comes before its item
+  lighter : (x : String Global) (row above : Row) → string_bytes x ≡ string_bytes row.item → Precedes above row → Shows string_eq NoFalseNegatives floor s row → IsBefore (weight_of (map named items) (string_bytes x)) (string_bytes x) above
+  lighter x row above bytes order shown =
+      subst (λ (t : List ℕ). IsBefore (weight_of (map named items) t) t above) (sym bytes)
+      (before_less (weight_of (map named items) (string_bytes row.item)) row.upper_bound (string_bytes row.item) above (row_encloses row shown).1 order)
 
-  listed_or_lighter : (top n : ℕ) (rows : List Row) → n ≡ min top (length rows) → ShowsExactly string_eq NoFalseNegatives floor s rows → Descends rows → (x : String Global) → list_any (λ (row : Row). string_eq x row.item) rows ≡ true
-      → IsListed (take n rows) (string_bytes x) ⊎ ((length (take n rows) ≡ top) × All (λ (row : Row). weight_of (map named items) (string_bytes x) ≤ row.upper_bound) (take n rows))
-  listed_or_lighter top n rows is exact descends x any =
+  listed_or_lighter : (top n : ℕ) (rows : List Row) → n ≡ min top (length rows) → ShowsExactly string_eq NoFalseNegatives floor s rows → AllPairs Precedes rows → (x : String Global) → list_any (λ (row : Row). string_eq x row.item) rows ≡ true
+      → IsListed (take n rows) (string_bytes x) ⊎ ((length (take n rows) ≡ top) × All (IsBefore (weight_of (map named items) (string_bytes x)) (string_bytes x)) (take n rows))
+  listed_or_lighter top n rows is exact order x any =
       let (k, row, less, here, same) = Any-from_list_any (λ (row : Row). string_eq x row.item) rows any in
       let len : length (take n rows) ≡ min n (length rows) = length-take n rows in
       ⊎_elim
@@ -174,10 +173,9 @@ module _ (items : List (String Global × ℕ)) (m : ℕ) (s : Sketch) (h : Frequ
             let at : get_or (take n rows) j none ≡ get_or rows j none = get_or-take n rows j none (omega (arith, len)) in
             let whole : get_or rows j none ≡ get_or rows j row = get_or_default rows j none row (omega (arith, len)) in
             let shown_row : Shows string_eq NoFalseNegatives floor s row = subst (Shows string_eq NoFalseNegatives floor s) here (exact.shown k row less) in
-            let shown_at : Shows string_eq NoFalseNegatives floor s (get_or rows j row) = exact.shown j row (omega (arith, len)) in
-            let order : (get_or rows k row).estimate ≤ (get_or rows j row).estimate = descends j k row (omega (arith, len)) less in
+            let ahead : Precedes (get_or rows j row) row = subst (Precedes (get_or rows j row)) here (order j k row (omega (arith, len)) less) in
             let bytes : string_bytes x ≡ string_bytes row.item = (bytes_decides (string_bytes x) (string_bytes row.item)).0 same in
-            lighter x row (get_or rows k row) (get_or rows j row) (get_or (take n rows) j none) here (at ∙ whole) bytes order shown_row shown_at,
+            subst (IsBefore (weight_of (map named items) (string_bytes x)) (string_bytes x)) (sym (at ∙ whole)) (lighter x row (get_or rows j row) bytes ahead shown_row),
       ))
       (cases_lt k n)
 
@@ -198,41 +196,44 @@ module _ (items : List (String Global × ℕ)) (m : ℕ) (s : Sketch) (h : Frequ
             r.cover x here (all (string_bytes x) here);
       })
 
-  pub reports : KeepsTailBudget string_eq s h → (top n : ℕ) (rows : List Row) → n ≡ min top (length rows) → ShowsExactly string_eq NoFalseNegatives floor s rows → Descends rows → MissesNone string_eq floor s rows → Reports (map named items) m threshold top s.error (take n rows)
-  reports keeps top n rows is exact descends misses = record {
+  pub reports : KeepsTailBudget string_eq s h → (top n : ℕ) (rows : List Row) → n ≡ min top (length rows) → ShowsExactly string_eq NoFalseNegatives floor s rows → AllPairs Precedes rows → MissesNone string_eq floor s rows → Reports (map named items) m threshold top s.error (take n rows)
+  reports keeps top n rows is exact order misses = record {
     few = let len : length (take n rows) ≡ min n (length rows) = length-take n rows in omega (arith, len, is);
     enclosed = All-take (Encloses (map named items)) n rows (λ k d less. row_encloses _ (exact.shown k d less));
     width = All-take (λ (row : Row). row.upper_bound ≡ row.lower_bound + s.error) n rows (λ k d less. omega (arith, (exact.shown k d less).upper_bound, (exact.shown k d less).lower_bound));
     above = All-take (λ (row : Row). IsAbove threshold (total_of (map named items)) row.upper_bound) n rows (λ k d less. row_above _ (exact.shown k d less));
     once = distinct_of_first n rows exact.once;
     occurring = All-take (λ (row : Row). 0 < row.lower_bound) n rows (λ k d less. row_occurs _ (exact.shown k d less));
-    descends = descending n rows exact descends;
+    order = ordered n rows order;
     missing = λ item more above.
         let (x, is_item) = occurring items item (omega (arith, more)) in
         let heavy : max floor s.error < true_weight string_eq h x = (let c : weight_of (map named items) (string_bytes x) ≡ weight_of (map named items) item = ap (weight_of (map named items)) is_item in omega (arith, more, (floor_is (weight_of (map named items) item)).0 above, c, weight x)) in
-        subst (λ (t : List ℕ). IsListed (take n rows) t ⊎ ((length (take n rows) ≡ top) × All (λ (row : Row). weight_of (map named items) t ≤ row.upper_bound) (take n rows))) is_item
-        (listed_or_lighter top n rows is exact descends x (misses _ so x heavy));
+        subst (λ (t : List ℕ). IsListed (take n rows) t ⊎ ((length (take n rows) ≡ top) × All (IsBefore (weight_of (map named items) t) t) (take n rows))) is_item
+        (listed_or_lighter top n rows is exact order x (misses _ so x heavy));
     share = error_share keeps;
     exact = error_exact;
   }
 
+-- the rows of a sketch of items
+pub reported_rows : (size : ℕ) (items : Weighed) (layout : Layout) (threshold : Threshold) (top : ℕ) (s : Sketch) (text : List ℕ) → HasItems size items s → ShowsTop s layout threshold top text
+    → (rows : List Row) × (text ≡ report_text layout s.error (total_of items) rows) × Reports items size threshold top s.error rows
+reported_rows size items layout threshold top s text has shows =
+    let so : Represents string_eq s has.history = has.stands.encloses in
+    let n : ℕ = min top (length shows.rows) in
+    let total : s.total ≡ total_of items = so.total ∙ has.total in (
+      take n shows.rows,
+      shows.written ∙ ap (λ (t : ℕ). report_text layout s.error t (take n shows.rows)) total,
+      subst (λ (t : Weighed). Reports t size threshold top s.error (take n shows.rows)) has.are
+          (reports has.strings size s has.history so (λ x. has.weights x ∙ ap (λ (l : Weighed). weight_of l (string_bytes x)) (sym has.are)) (has.total ∙ ap total_of (sym has.are)) has.table has.sample threshold shows.floor
+          (subst (λ (t : ℕ). (n : ℕ) → IsAbove threshold t n ↔ (shows.floor < n)) (total ∙ ap total_of (sym has.are)) shows.above)
+          has.budget top n shows.rows refl shows.exact shows.order shows.misses),
+    )
+
 -- a report on a sketch of items
 pub reported_items : (size : ℕ) (items : Weighed) (layout : Layout) (threshold : Threshold) (top : ℕ) (s : Sketch) (text : List ℕ) → HasItems size items s → ShowsTop s layout threshold top text → ReportsItems size items layout threshold top text
 reported_items size items layout threshold top s text has shows =
-    let so : Represents string_eq s has.history = has.stands.encloses in
-    let n : ℕ = min top (length shows.rows) in
-    let total : s.total ≡ total_of items = so.total ∙ has.total in
-    record {
-      error = s.error;
-      exactly = shows.exactly;
-      rows = take n shows.rows;
-      written = shows.written ∙ ap (λ (t : ℕ). report_text layout s.error t (take n shows.rows)) total;
-      reports =
-          subst (λ (t : Weighed). Reports t size threshold top s.error (take n shows.rows)) has.are
-          (reports has.strings size s has.history so (λ x. has.weights x ∙ ap (λ (l : Weighed). weight_of l (string_bytes x)) (sym has.are)) (has.total ∙ ap total_of (sym has.are)) has.table has.sample threshold shows.floor
-          (subst (λ (t : ℕ). (n : ℕ) → IsAbove threshold t n ↔ (shows.floor < n)) (total ∙ ap total_of (sym has.are)) shows.above)
-          has.budget top n shows.rows refl shows.exact shows.descends shows.misses);
-    }
+    let r = reported_rows size items layout threshold top s text has shows in
+    record { error = s.error; exactly = shows.exactly; rows = r.0; written = r.1; reports = r.2 }
 
 -- a sketch has the items that were added to a new one
 pub added_items : (m : ℕ) (start s : Sketch) (items : Weighed) → StandsFor string_eq start (New m (max_sample_size m)) → KeepsTailBudget string_eq start (New m (max_sample_size m)) → AddsWeighed start items s → HasItems m items s
@@ -250,27 +251,47 @@ added_items m start s items new keeps added =
       sample = omega (arith, sample_of zero added.items);
     }
 
-pub reported : (options : Options) (inputs : Option (List (List ℕ))) (summary : Summary) (held holds : Option (List ℕ)) (start s : Sketch) (text : List ℕ)
-    → StandsFor string_eq start (New options.size (max_sample_size options.size)) → KeepsTailBudget string_eq start (New options.size (max_sample_size options.size))
-    → CountsInputs options.weighing inputs summary.complete start s 0 summary.not_utf8 → summary.not_utf8 ≤ 2 ^ 64 - 1 → ShowsTop s options.layout options.threshold options.rows text → Appends held holds text → WritesReport options inputs summary held holds
-reported options None summary held holds start s text new keeps counted fits shows wrote = tt
-reported options (Some all) summary held holds start s text new keeps (read, are, added, grown) fits shows wrote =
+-- the report of what was counted
+made_report : (options : Options) (all : List (List ℕ)) (summary : Summary) (start s : Sketch) (text : List ℕ)
+    → StandsFor string_eq start (New options.size (max_sample_size options.size)) → KeepsTailBudget string_eq start (New options.size (max_sample_size options.size)) → start ≡ empty_state options.size (max_sample_size options.size) options.key
+    → CountsInputs options.weighing (Some all) summary.complete start s 0 summary.not_utf8 → summary.not_utf8 ≤ 2 ^ 64 - 1 → ShowsTop s options.layout options.threshold options.rows text → IsReport options all summary text
+made_report options all summary start s text new keeps empty (read, are, added, grown) fits shows =
     let items : Weighed = flat_map (weighed_of options.weighing) read in
-    let r = reported_items options.size items options.layout options.threshold options.rows s text (added_items options.size start s items new keeps added.0) shows in
-    (read, r.error, r.rows, are, omega (arith, grown, fits), added.1, subst (Appends held holds) r.written wrote, r.reports, r.exactly)
+    let r = reported_rows options.size items options.layout options.threshold options.rows s text (added_items options.size start s items new keeps added.0) shows in
+    (read, s, r.0, are, omega (arith, grown, fits), added.1, subst (λ (t : Sketch). AddsWeighed t items s) empty added.0, r.1, r.2, shows.exactly)
+
+pub reported : (options : Options) (inputs : Option (List (List ℕ))) (summary : Summary) (held holds : Option (List ℕ)) (start s : Sketch) (text : List ℕ)
+    → StandsFor string_eq start (New options.size (max_sample_size options.size)) → KeepsTailBudget string_eq start (New options.size (max_sample_size options.size)) → start ≡ empty_state options.size (max_sample_size options.size) options.key
+    → CountsInputs options.weighing inputs summary.complete start s 0 summary.not_utf8 → summary.not_utf8 ≤ 2 ^ 64 - 1 → ShowsTop s options.layout options.threshold options.rows text → Appends held holds text → WritesReport options inputs summary held holds
+reported options None summary held holds start s text new keeps empty counted fits shows wrote = tt
+reported options (Some all) summary held holds start s text new keeps empty counted fits shows wrote = (text, made_report options all summary start s text new keeps empty counted fits shows, wrote)
+
+pub reported_front : (options : Options) (inputs : Option (List (List ℕ))) (summary : Summary) (held holds : Option (List ℕ)) (start s : Sketch) (text : List ℕ)
+    → StandsFor string_eq start (New options.size (max_sample_size options.size)) → KeepsTailBudget string_eq start (New options.size (max_sample_size options.size)) → start ≡ empty_state options.size (max_sample_size options.size) options.key
+    → CountsInputs options.weighing inputs summary.complete start s 0 summary.not_utf8 → summary.not_utf8 ≤ 2 ^ 64 - 1 → ShowsTop s options.layout options.threshold options.rows text → WritesFront held holds text → WritesReportFront options inputs held holds
+reported_front options None summary held holds start s text new keeps empty counted fits shows wrote = tt
+reported_front options (Some all) summary held holds start s text new keeps empty counted fits shows wrote = (summary, text, made_report options all summary start s text new keeps empty counted fits shows, wrote)
+
+-- the error of what was counted
+pub error_of : (options : Options) (inputs : Option (List (List ℕ))) (complete : Bool) (start s : Sketch) (error before after : ℕ) → start ≡ empty_state options.size (max_sample_size options.size) options.key
+    → CountsInputs options.weighing inputs complete start s before after → error ≡ s.error → IsErrorOf options inputs complete error
+error_of options None complete start s error before after empty counted is = tt
+error_of options (Some all) complete start s error before after empty (read, are, added, grown) is =
+    (read, s, are, subst (λ (t : Sketch). AddsWeighed t (flat_map (weighed_of options.weighing) read) s) empty added.0, is)
 
 -- a report on a merged sketch
-pub merge_reported : (options : MergeOptions) (was : Option (List (List ℕ))) (s : Sketch) (held holds : Option (List ℕ)) (text : List ℕ)
-    → IfSome was (λ all. Merges options.images.max_bytes all s) → ShowsTop s options.layout options.threshold options.rows text → Appends held holds text → IfSome was (λ all. WritesMerge options all held holds)
-merge_reported options None s held holds text merges shows wrote = tt
-merge_reported options (Some all) s held holds text merges shows wrote = record {
+made_merge : (options : MergeOptions) (all : List (List ℕ)) (s : Sketch) (text : List ℕ) → Merges options.images.max_bytes all s → ShowsTop s options.layout options.threshold options.rows text → IsMergeReport options all text
+made_merge options all s text merges shows = record {
   sketch = s;
   merges = merges;
-  text = text;
-  wrote = wrote;
   shows = shows;
   items = λ size lists are. reported_items size (all_items lists) options.layout options.threshold options.rows s text (merges.items size lists are) shows;
 }
+
+pub merge_reported : (options : MergeOptions) (was : Option (List (List ℕ))) (s : Sketch) (held holds : Option (List ℕ)) (text : List ℕ)
+    → IfSome was (λ all. Merges options.images.max_bytes all s) → ShowsTop s options.layout options.threshold options.rows text → Appends held holds text → IfSome was (λ all. WritesMerge options all held holds)
+merge_reported options None s held holds text merges shows wrote = tt
+merge_reported options (Some all) s held holds text merges shows wrote = (text, made_merge options all s text merges shows, wrote)
 
 -- ---- a sketch that is kept
 
@@ -282,10 +303,22 @@ pub merge_kept : (limit : ℕ) (was : Option (List (List ℕ))) (kept : Option S
 merge_kept limit None kept s merges is = tt
 merge_kept limit (Some all) kept s merges is = same_kept (Merges limit all) kept s is merges
 
+pub merge_error : (options : MergeOptions) (was : Option (List (List ℕ))) (s : Sketch) (error : ℕ) → IfSome was (λ all. Merges options.images.max_bytes all s) → error ≡ s.error → IfSome was (λ all. IsMergedError options all error)
+merge_error options None s error merges is = tt
+merge_error options (Some all) s error merges is = (s, merges, is)
+
+-- a write of the report on a merged sketch failed
+pub merge_stopped : (options : MergeOptions) (was : Option (List (List ℕ))) (s : Sketch) (kept : Option Sketch) (has_failed : Bool) (held holds : Option (List ℕ)) (text : List ℕ)
+    → IfSome was (λ all. Merges options.images.max_bytes all s) → s.key ≡ options.images.key → IfSome kept (λ t. t ≡ s) → ShowsTop s options.layout options.threshold options.rows text → has_failed ≡ true → WritesFront held holds text
+    → IfSome was (λ all. StopsMerge options all kept has_failed held holds)
+merge_stopped options None s kept has_failed held holds text merges key is shows failed wrote = tt
+merge_stopped options (Some all) s kept has_failed held holds text merges key is shows failed wrote =
+    (failed, (text, made_merge options all s text merges shows, wrote), same_kept (λ t. Merges options.images.max_bytes all t × (t.key ≡ options.images.key)) kept s is (merges, key))
+
 pub items_kept : (options : Options) (inputs : Option (List (List ℕ))) (complete : Bool) (kept : Option Sketch) (start s : Sketch)
-    → StandsFor string_eq start (New options.size (max_sample_size options.size)) → KeepsTailBudget string_eq start (New options.size (max_sample_size options.size))
+    → StandsFor string_eq start (New options.size (max_sample_size options.size)) → KeepsTailBudget string_eq start (New options.size (max_sample_size options.size)) → start ≡ empty_state options.size (max_sample_size options.size) options.key
     → (before after : ℕ) → CountsInputs options.weighing inputs complete start s before after → IfSome kept (λ t. t ≡ s) → KeepsItems options inputs complete kept
-items_kept options None complete kept start s new keeps before after counted is = tt
-items_kept options (Some all) complete kept start s new keeps before after (read, are, added, grown) is =
-    same_kept (λ t. (read : List (List ℕ)) × AreRead (splits_of options.weighing) complete all read × HasItems options.size (flat_map (weighed_of options.weighing) read) t) kept s is
-    (read, are, added_items options.size start s (flat_map (weighed_of options.weighing) read) new keeps added.0)
+items_kept options None complete kept start s new keeps empty before after counted is = tt
+items_kept options (Some all) complete kept start s new keeps empty before after (read, are, added, grown) is =
+    same_kept (λ t. (read : List (List ℕ)) × AreRead (splits_of options.weighing) complete all read × HasItems options.size (flat_map (weighed_of options.weighing) read) t × Counts options read t × (t.key ≡ options.key)) kept s is
+    (read, are, added_items options.size start s (flat_map (weighed_of options.weighing) read) new keeps added.0, subst (λ (t : Sketch). AddsWeighed t (flat_map (weighed_of options.weighing) read) s) empty added.0, added.0.key ∙ ap (λ (t : Sketch). t.key) empty)

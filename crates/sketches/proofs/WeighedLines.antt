@@ -15,24 +15,24 @@ use Rattle.std.specs.declared.string.String.{String}
 use Rattle.counter_table.specs.StringKeys.{names_string}
 use Rattle.sketch_base.specs.Errors.{ErrorValue, invalid_argument, no_memory}
 use Rattle.sketch_base.specs.declared.fault.Fault.TheVariants.{WeightOverflow}
-use Rattle.sketch_frequencies.specs.Batches.{all_updated}
+use Rattle.sketch_frequencies.specs.Batches.{StepsEqualAlong, all_updated}
 use Rattle.sketch_frequencies.specs.History.{FrequentHistory}
 use Rattle.sketch_frequencies.specs.History.FrequentHistory.{Update}
 use Rattle.sketch_frequencies.specs.Stands.{Extends, ExtendsBudget, StandsFor, KeepsTailBudget}
 use Rattle.sketch_frequencies.specs.State.{Overflows, TotalHasRoom}
 use Rattle.sketch_frequencies.specs.Steps.{StepsByKey}
-use Rattle.sketch_frequencies.specs.WeightedBatches.{all_weighed}
+use Rattle.sketch_frequencies.specs.WeightedBatches.{StepsEqualWeighed, all_weighed}
 use Rattle.sketches.specs.Added.{Sketch, AddsLine, AddsLines, AddsStrings, AddsWeighed}
 use Rattle.sketches.specs.Failures.{FailsAdding, FailsLine, FailsLines, FailsWeighing, IsBadWeight}
 use Rattle.sketches.specs.Faults.{failure_of}
 use Rattle.sketches.specs.Items.{items_of, items_of_raw_line}
 use Rattle.sketch_base.specs.Decimals.{number_in}
 use Rattle.sketch_base.specs.Records.{part_of}
-use Rattle.sketches.specs.Weighed.{Weighed, csv_items, field_weight, once, records_of, total_of, unweighed_of, unweighed_of_line, weighed_of, weighed_of_line, with_weight, without_weight}
-use Rattle.sketches.specs.Weights.{weight_in}
+use Rattle.sketches.specs.Weighed.{Weighed, csv_items, csv_weight, field_weight, line_weight, once, records_of, total_of, unweighed_of, unweighed_of_line, weighed_of, weighed_of_line, with_weight, without_weight}
 use Rattle.sketches.specs.declared.weighing.CsvPart.{CsvPart}
 use Rattle.sketch_base.specs.Csv.{field_at, text_of_field}
 use Rattle.std.specs.Option.{option_and_then}
+use Rattle.sketches.proofs.AddedItems.{step_equal}
 use Rattle.sketches.specs.WeighingLaws.{weighed_none, weighed_both, weighing_fails_more, weighing_fails_after}
 use Rattle.sketches.specs.declared.failure.Failure.{Failure}
 use Rattle.sketches.specs.declared.failure.Failure.TheVariants.{Memory, LineTooLong, TooManyItems, BadSize, Write}
@@ -59,11 +59,17 @@ pub total_once : (strings : List (List ℕ)) → total_of (once strings) ≡ len
 total_once [] = refl
 total_once (x ∷ xs) = omega (arith, total_once xs, sum_by-cons (λ (pair : List ℕ × ℕ). pair.1) (x, 1) (once xs))
 
+once_steps : (old new : Sketch) (items : List (String Global)) → StepsEqualAlong string_eq old items new → StepsEqualWeighed string_eq old (map of_one items) new
+once_steps old new [] same = same
+once_steps old new (x ∷ xs) (mid, one, rest) = (mid, one, once_steps mid new xs rest)
+
 strings_weighed : (old new : Sketch) (strings : List (List ℕ)) → AddsStrings old strings new → AddsWeighed old (once strings) new
 strings_weighed old new strings s = record {
   items = map of_one s.items;
   are = once_named s.items ∙ ap once s.are;
+  steps = once_steps old new s.items s.steps;
   total = omega (arith, s.total, total_once strings);
+  key = s.key;
   stands = λ h k. subst (λ (g : FrequentHistory (String Global)). StandsFor string_eq new g) (sym (once_updated h s.items)) (s.stands h k);
   budget = λ h k q. subst (λ (g : FrequentHistory (String Global)). KeepsTailBudget string_eq new g) (sym (once_updated h s.items)) (s.budget h k q);
 }
@@ -157,7 +163,9 @@ add_some old new bytes weight some step stands budget =
     subst (λ (b : Bool). AddsWeighed old (cond b ((bytes, weight) ∷ []) []) new) (sym some) (record {
       items = (step.item, weight) ∷ [];
       are = ap (λ (l : List ℕ). (l, weight) ∷ []) (sym ((bytes_decides bytes (string_bytes step.item)).0 step.named));
+      steps = (new, step_equal old new bytes weight step, refl);
       total = omega (arith, step.step.total, one);
+      key = step.step.key;
       stands = stands step.item step.named;
       budget = budget step.item step.named;
     })
@@ -183,9 +191,9 @@ item_failed old item weight unweighed e overflow memory = ⊎_elim
     (λ full. rw (overflow full) (omega (arith, full, total_with item weight)))
     (cases_lt (old.total + weight) (2 ^ 64))
 
-module _ (part : WeighedPart) (line item : List ℕ) (weight : ℕ) (is : part_of part.item (utf8_lossy line) ≡ item ∷ []) (weighs : weight_in part.weight line ≡ Some weight) where
+module _ (part : WeighedPart) (line item : List ℕ) (weight : ℕ) (is : part_of part.item (utf8_lossy line) ≡ item ∷ []) (weighs : line_weight part line ≡ Some weight) where
   of_line : weighed_of_line (weighing.Field part) line ≡ with_weight (item ∷ []) (Some weight)
-  of_line = ap (λ (l : List (List ℕ)). with_weight l (weight_in part.weight line)) is ∙ ap (with_weight (item ∷ [])) weighs
+  of_line = ap (λ (l : List (List ℕ)). with_weight l (line_weight part line)) is ∙ ap (with_weight (item ∷ [])) weighs
 
   has_weight : unweighed_of_line (weighing.Field part) line ≡ []
   has_weight = ap (without_weight (part_of part.item (utf8_lossy line))) weighs
@@ -219,12 +227,12 @@ none_without (Some weight) = refl
 
 pub line_without_item : (part : WeighedPart) (old : Sketch) (line : List ℕ) → part_of part.item (utf8_lossy line) ≡ [] → AddsLine (weighing.Field part) old line old
 line_without_item part old line none = (
-  subst (λ (l : Weighed). AddsWeighed old l old) (sym (ap (λ (l : List (List ℕ)). with_weight l (weight_in part.weight line)) none ∙ none_with (weight_in part.weight line))) (weighed_none old),
-  ap (λ (l : List (List ℕ)). without_weight l (weight_in part.weight line)) none ∙ none_without (weight_in part.weight line),
+  subst (λ (l : Weighed). AddsWeighed old l old) (sym (ap (λ (l : List (List ℕ)). with_weight l (line_weight part line)) none ∙ none_with (line_weight part line))) (weighed_none old),
+  ap (λ (l : List (List ℕ)). without_weight l (line_weight part line)) none ∙ none_without (line_weight part line),
 )
 
 -- a line has an item and no weight
-pub line_without_weight : (part : WeighedPart) (old : Sketch) (line item : List ℕ) (e : Failure) → part_of part.item (utf8_lossy line) ≡ item ∷ [] → None ≡ weight_in part.weight line → IsBadWeight e → FailsLine (weighing.Field part) old line e
+pub line_without_weight : (part : WeighedPart) (old : Sketch) (line item : List ℕ) (e : Failure) → part_of part.item (utf8_lossy line) ≡ item ∷ [] → None ≡ line_weight part line → IsBadWeight e → FailsLine (weighing.Field part) old line e
 line_without_weight part old line item Memory is none fails = tt
 line_without_weight part old line item LineTooLong is none fails = absurd fails
 line_without_weight part old line item TooManyItems is none fails = absurd fails
@@ -240,9 +248,9 @@ module _ (part : CsvPart) (row field : List ℕ) (is : field_at part.delimiter p
   csv_item : csv_items part row ≡ utf8_lossy (text_of_field field) ∷ []
   csv_item = ap (λ (l : List (List ℕ)). map utf8_lossy (map text_of_field l)) is
 
-  module _ (weight : ℕ) (weighs : Some weight ≡ field_weight part.delimiter part.weight row) where
+  module _ (weight : ℕ) (weighs : Some weight ≡ csv_weight part row) where
     of_row : weighed_of_line (weighing.Csv part) row ≡ with_weight (utf8_lossy (text_of_field field) ∷ []) (Some weight)
-    of_row = ap (λ (l : List (List ℕ)). with_weight l (field_weight part.delimiter part.weight row)) csv_item ∙ ap (with_weight (utf8_lossy (text_of_field field) ∷ [])) (sym weighs)
+    of_row = ap (λ (l : List (List ℕ)). with_weight l (csv_weight part row)) csv_item ∙ ap (with_weight (utf8_lossy (text_of_field field) ∷ [])) (sym weighs)
 
     row_weighed : unweighed_of_line (weighing.Csv part) row ≡ []
     row_weighed = ap (without_weight (csv_items part row)) (sym weighs)
@@ -256,7 +264,7 @@ module _ (part : CsvPart) (row field : List ℕ) (is : field_at part.delimiter p
         (subst (λ (l : Weighed). FailsWeighing old l [] e) (sym of_row) f)
 
   -- a record has an item and no weight
-  pub row_without_weight : (old : Sketch) (e : Failure) → None ≡ field_weight part.delimiter part.weight row → IsBadWeight e → FailsLine (weighing.Csv part) old row e
+  pub row_without_weight : (old : Sketch) (e : Failure) → None ≡ csv_weight part row → IsBadWeight e → FailsLine (weighing.Csv part) old row e
   row_without_weight old Memory none fails = tt
   row_without_weight old LineTooLong none fails = absurd fails
   row_without_weight old TooManyItems none fails = absurd fails
@@ -270,8 +278,8 @@ module _ (part : CsvPart) (row field : List ℕ) (is : field_at part.delimiter p
 pub row_without_item : (part : CsvPart) (old : Sketch) (row : List ℕ) → field_at part.delimiter part.item row ≡ [] → AddsLine (weighing.Csv part) old row old
 row_without_item part old row none =
     let items : csv_items part row ≡ [] = ap (λ (l : List (List ℕ)). map utf8_lossy (map text_of_field l)) none in (
-      subst (λ (l : Weighed). AddsWeighed old l old) (sym (ap (λ (l : List (List ℕ)). with_weight l (field_weight part.delimiter part.weight row)) items ∙ none_with (field_weight part.delimiter part.weight row))) (weighed_none old),
-      ap (λ (l : List (List ℕ)). without_weight l (field_weight part.delimiter part.weight row)) items ∙ none_without (field_weight part.delimiter part.weight row),
+      subst (λ (l : Weighed). AddsWeighed old l old) (sym (ap (λ (l : List (List ℕ)). with_weight l (csv_weight part row)) items ∙ none_with (csv_weight part row))) (weighed_none old),
+      ap (λ (l : List (List ℕ)). without_weight l (csv_weight part row)) items ∙ none_without (csv_weight part row),
     )
 
 -- the weight in a field

@@ -10,7 +10,7 @@ use Rattle.sketch_base.specs.Split.{IsBehindLast, separates}
 use Rattle.sketch_base.specs.declared.separator.Separator.TheVariants.{LineFeed}
 use Rattle.sketch_base.proofs.CsvBoth.{csv_both}
 use Rattle.sketch_base.proofs.SplitEnds.{lines_split, none_behind_end}
-use Rattle.sketch_frequencies.specs.Batches.{all_updated}
+use Rattle.sketch_frequencies.specs.Batches.{StepsEqualAlong, all_updated}
 use Rattle.sketch_frequencies.specs.History.{FrequentHistory}
 use Rattle.sketch_frequencies.specs.History.FrequentHistory.{Update}
 use Rattle.sketch_frequencies.specs.Stands.{StandsFor, KeepsTailBudget}
@@ -27,14 +27,21 @@ updated_both : {T : Type 0} (h : FrequentHistory T) (xs ys : List T) → all_upd
 updated_both h [] ys = refl
 updated_both h (x ∷ xs) ys = updated_both (Update h x 1) xs ys
 
+-- the steps of items, and of those after them
+steps_both : (a b c : Sketch) (xs ys : List (String Global)) → StepsEqualAlong string_eq a xs b → StepsEqualAlong string_eq b ys c → StepsEqualAlong string_eq a (xs ++ ys) c
+steps_both a b c [] ys same more = subst (λ (s : Sketch). StepsEqualAlong string_eq s ys c) same more
+steps_both a b c (x ∷ xs) ys (mid, one, rest) more = (mid, one, steps_both mid b c xs ys rest more)
+
 pub strings_none : (a : Sketch) → AddsStrings a [] a
-strings_none a = record { items = []; are = refl; total = omega arith; stands = λ h s. s; budget = λ h s k. k }
+strings_none a = record { items = []; are = refl; steps = refl; total = omega arith; key = refl; stands = λ h s. s; budget = λ h s k. k }
 
 pub strings_both : (a b c : Sketch) (xs ys : List (List ℕ)) → AddsStrings a xs b → AddsStrings b ys c → AddsStrings a (xs ++ ys) c
 strings_both a b c xs ys s t = record {
   items = s.items ++ t.items;
   are = map-append string_bytes s.items t.items ∙ (ap (λ l. l ++ map string_bytes t.items) s.are ∙ ap (λ l. xs ++ l) t.are);
+  steps = steps_both a b c s.items t.items s.steps t.steps;
   total = omega (arith, s.total, t.total, length-append xs ys);
+  key = t.key ∙ s.key;
   stands = λ h k. subst (λ (g : FrequentHistory (String Global)). StandsFor string_eq c g) (sym (updated_both h s.items t.items)) (t.stands (all_updated h s.items) (s.stands h k));
   budget = λ h k q. subst (λ (g : FrequentHistory (String Global)). KeepsTailBudget string_eq c g) (sym (updated_both h s.items t.items)) (t.budget (all_updated h s.items) (s.stands h k) (s.budget h k q));
 }

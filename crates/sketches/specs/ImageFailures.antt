@@ -45,16 +45,16 @@ IsBadImage limit image (Write error) = ⊥
 abbrev pub IsRejected : ℕ → List ℕ → ImageFailure → Type 0
 IsRejected limit image failure = IsUnread limit image failure ⊎ IsBadImage limit image failure
 
--- why a merge of these images ends. A read, a write or an allocation can fail at any images
-abbrev pub EndsMerge : ℕ → List (List ℕ) → ImageFailure → Type 0
-EndsMerge limit images Memory = Unit {0}
-EndsMerge limit images NoImage = images ≡ []
-EndsMerge limit images (Read error) = Unit {0}
-EndsMerge limit images TooLong = Any (λ image. limit < length image) images
-EndsMerge limit images (Rejected fault) = Any (λ image. fault_within limit image ≡ Some fault) images
-EndsMerge limit images TrailingBytes = Any (λ image. prefix_bytes text_codec image < length image) images
-EndsMerge limit images TooManyItems = 2 ^ 64 ≤ sum_by total_in images
-EndsMerge limit images (Write error) = Unit {0}
+-- why a merge of these images ends. A read or an allocation can fail at any images. `output` holds if the output cannot be written
+abbrev pub EndsMerge : ℕ → List (List ℕ) → (output : Type 0) → ImageFailure → Type 0
+EndsMerge limit images output Memory = Unit {0}
+EndsMerge limit images output NoImage = images ≡ []
+EndsMerge limit images output (Read error) = Unit {0}
+EndsMerge limit images output TooLong = Any (λ image. limit < length image) images
+EndsMerge limit images output (Rejected fault) = Any (λ image. fault_within limit image ≡ Some fault) images
+EndsMerge limit images output TrailingBytes = Any (λ image. prefix_bytes text_codec image < length image) images
+EndsMerge limit images output TooManyItems = 2 ^ 64 ≤ sum_by total_in images
+EndsMerge limit images output (Write error) = output
 
 -- the output could not be written
 abbrev pub IsWriteFailure : ImageFailure → Type 0

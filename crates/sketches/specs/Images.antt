@@ -14,7 +14,8 @@ use Rattle.sketch_frequencies.specs.Stands.{StandsFor, KeepsTailBudget}
 use Rattle.sketch_frequencies.specs.State.{IsState, max_sample_size}
 use Rattle.sketches.specs.Added.{Sketch}
 use Rattle.sketches.specs.Inputs.{AreRead}
-use Rattle.sketches.specs.Reports.{Row, Reports, ShowsTop, report_text}
+use Rattle.sketches.specs.Outputs.{WritesFront}
+use Rattle.sketches.specs.Reports.{Counts, Row, Reports, ShowsTop, WritesReportFront, report_text}
 use Rattle.sketches.specs.Weighed.{Weighed, splits_of, total_of, weight_of, weighed_of}
 use Rattle.sketches.specs.declared.layout.Layout.{Layout}
 use Rattle.sketches.specs.declared.merge.MergeOptions.{MergeOptions}
@@ -87,17 +88,28 @@ pub record ReportsItems (size : ℕ) (items : Weighed) (layout : Layout) (thresh
   pub written : text ≡ report_text layout error (total_of items) rows
   pub reports : Reports items size threshold count error rows
 
--- The writer received the text of a report on the merged sketch. If each image is an image of a sketch of items, the report is on
--- all these items.
-pub record WritesMerge (options : MergeOptions) (images : List (List ℕ)) (held holds : Option (List ℕ)) : Type 0 where
+-- The text is a report on the merged sketch. If each image is an image of a sketch of items, the report is on all these items.
+pub record IsMergeReport (options : MergeOptions) (images : List (List ℕ)) (text : List ℕ) : Type 0 where
   pub sketch : Sketch
   pub merges : Merges options.images.max_bytes images sketch
-  pub text : List ℕ
-  pub wrote : Appends held holds text
   pub shows : ShowsTop sketch options.layout options.threshold options.rows text
   pub items :
       (size : ℕ) (lists : List Weighed) → AllZip (IsImageOfItems size) images lists →
       ReportsItems size (all_items lists) options.layout options.threshold options.rows text
+
+-- exact numbers are not to be had: the error is that of the merged sketch
+abbrev pub IsMergedError : MergeOptions → List (List ℕ) → ℕ → Type 0
+IsMergedError options images error = (s : Sketch) × Merges options.images.max_bytes images s × (error ≡ s.error)
+
+-- the output received a report on the merged sketch
+abbrev pub WritesMerge : MergeOptions → List (List ℕ) → (held holds : Option (List ℕ)) → Type 0
+WritesMerge options images held holds = (text : List ℕ) × IsMergeReport options images text × Appends held holds text
+
+-- A write has failed. The output received the front of a report on the merged sketch, which was kept before.
+abbrev pub StopsMerge : MergeOptions → List (List ℕ) → (kept : Option Sketch) → (has_failed : Bool) → (held holds : Option (List ℕ)) → Type 0
+StopsMerge options images kept has_failed held holds =
+    (has_failed ≡ true) × ((text : List ℕ) × IsMergeReport options images text × WritesFront held holds text)
+    × IfSome kept (λ s. Merges options.images.max_bytes images s × (s.key ≡ options.images.key))
 
 -- The writer received an image of the sketch, as `serialize` writes it. If the sketch has items, the bytes are an image of a sketch
 -- of these items.
@@ -107,8 +119,14 @@ pub record WritesImage (s : Sketch) (held holds : Option (List ℕ)) : Type 0 wh
   pub wrote : Appends held holds image
   pub items : (size : ℕ) (items : Weighed) → HasItems size items s → IsImageOfItems size image items
 
--- the sketch that was kept has the items of what was read of the inputs
+-- the sketch that was kept is that of a report: it has the items of what was read of the inputs, and its table hashes under the key of
+-- the run
 abbrev pub KeepsItems : Options → Option (List (List ℕ)) → Bool → Option Sketch → Type 0
 KeepsItems options inputs complete kept = IfSome inputs (λ all. IfSome kept (λ s.
     (read : List (List ℕ)) × AreRead (splits_of options.weighing) complete all read
-    × HasItems options.size (flat_map (weighed_of options.weighing) read) s))
+    × HasItems options.size (flat_map (weighed_of options.weighing) read) s × Counts options read s × (s.key ≡ options.key)))
+
+-- A write has failed. The output received the front of a report, and the sketch was kept before.
+abbrev pub StopsTop : Options → Option (List (List ℕ)) → (kept : Option Sketch) → (has_failed : Bool) → (held holds : Option (List ℕ)) → Type 0
+StopsTop options inputs kept has_failed held holds =
+    (has_failed ≡ true) × WritesReportFront options inputs held holds × ((complete : Bool) × KeepsItems options inputs complete kept)

@@ -36,9 +36,24 @@ module _ (records : Records) {S : Type 0} (takes : S → List ℕ → S → Type
   TakesInputs was complete old new = IfSome was (λ inputs.
       (read : List (List ℕ)) × AreRead records complete inputs read × TakesEach takes old read new)
 
-  module _ (fails : S → List ℕ → Failure → Type 0) where
+  -- the first records of the first of these inputs were taken
+  pub record TakesFirst (inputs : List (List ℕ)) (old new : S) : Type 0 where
+    pub first : List (List ℕ)
+    pub later : List (List ℕ)
+    pub parts : inputs ≡ first ++ later
+    pub read : List (List ℕ)
+    pub fronts : AllZip (AreFirstRecords records) first read
+    pub taken : TakesEach takes old read new
+
+  -- no memory, or a record of at least `limit` bytes, after the first records of inputs were taken
+  abbrev pub StopsInputs : ℕ → Option (List (List ℕ)) → (old new : S) → Failure → Type 0
+  StopsInputs limit was old new failure =
+      ((failure ≡ Memory) ⊎ ((failure ≡ LineTooLong) × IfSome was (HaveLongRecord records limit)))
+      × IfSome was (λ inputs. TakesFirst inputs old new)
+
+  module _ (fails : S → List ℕ → S → Failure → Type 0) where
     -- the failure may come while the records of an input are taken, after those of what was read of the inputs before
-    pub record FailsAmong (inputs : List (List ℕ)) (old : S) (failure : Failure) : Type 0 where
+    pub record FailsAmong (inputs : List (List ℕ)) (old new : S) (failure : Failure) : Type 0 where
       pub earlier : List (List ℕ)
       pub input : List ℕ
       pub later : List (List ℕ)
@@ -47,14 +62,13 @@ module _ (records : Records) {S : Type 0} (takes : S → List ℕ → S → Type
       pub fronts : AllZip (AreFirstRecords records) earlier read
       pub mid : S
       pub taken : TakesEach takes old read mid
-      pub reason : fails mid input failure
+      pub reason : fails mid input new failure
 
     -- the failure may come while records are taken, and while those of these inputs are, if they are known
-    pub record FailsTakingInputs (was : Option (List (List ℕ))) (old : S) (failure : Failure) : Type 0 where
-      pub some : (s : S) × (bytes : List ℕ) × fails s bytes failure
-      pub known : IfSome was (λ inputs. FailsAmong inputs old failure)
+    pub record FailsTakingInputs (was : Option (List (List ℕ))) (old new : S) (failure : Failure) : Type 0 where
+      pub some : (s : S) × (bytes : List ℕ) × fails s bytes new failure
+      pub known : IfSome was (λ inputs. FailsAmong inputs old new failure)
 
     -- no memory, a record of at least `limit` bytes, or a failure while records are taken
-    abbrev pub FailsInputs : ℕ → Option (List (List ℕ)) → S → Failure → Type 0
-    FailsInputs limit was old failure =
-        (failure ≡ Memory) ⊎ (((failure ≡ LineTooLong) × IfSome was (HaveLongRecord records limit)) ⊎ FailsTakingInputs was old failure)
+    abbrev pub FailsInputs : ℕ → Option (List (List ℕ)) → (old new : S) → Failure → Type 0
+    FailsInputs limit was old new failure = StopsInputs limit was old new failure ⊎ FailsTakingInputs was old new failure

@@ -1,5 +1,5 @@
 -- When each error of a run that joins records with keys comes.
-use Rattle.std.specs.Prelude.{◌+◌, ◌^◌, ◌≤◌, ℕ, List, length, Option, IfSome}
+use Rattle.std.specs.Prelude.{◌+◌, ◌^◌, ◌≤◌, ℕ, Bool, List, length, Option, IfSome}
 use Rattle.sketches.specs.Failures.{FailsFilter, FailsWrittenLines}
 use Rattle.sketches.specs.Reading.{HasLongRecord}
 use Rattle.sketches.specs.RecordParts.{raws_by}
@@ -30,10 +30,10 @@ FailsKeys options keys BadSize = FailsFilter options.size BadSize
 FailsKeys options keys failure = FailsKeyLines options.keys_part (options.max_line + 1) keys failure
 
 -- a read of the keys may fail; or a failure comes while keys are inserted, or while records are written
-abbrev pub FailsJoin : JoinOptions → Option (List ℕ) → Option (List (List ℕ)) → JoinFailure → Type 0
-FailsJoin options keys was (Unread error) = Unit {0}
-FailsJoin options keys was (Keys failure) = FailsKeys options keys failure
-FailsJoin options keys was (Lines failure) = FailsWrittenLines options.part (options.max_line + 1) was failure
+abbrev pub FailsJoin : JoinOptions → Option (List ℕ) → Option (List (List ℕ)) → (has_failed : Bool) → JoinFailure → Type 0
+FailsJoin options keys was has_failed (Unread error) = Unit {0}
+FailsJoin options keys was has_failed (Keys failure) = FailsKeys options keys failure
+FailsJoin options keys was has_failed (Lines failure) = FailsWrittenLines options.part (options.max_line + 1) was has_failed failure
 
 -- the file of keys could not be read whole, or a failure came while its keys were inserted
 abbrev pub IsOfKeys : JoinFailure → Type 0

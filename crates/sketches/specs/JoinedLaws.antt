@@ -2,7 +2,9 @@
 use Rattle.std.proofs.Common.{◌≡◌, ℕ, Bool, List, [], ◌++◌, Option, Some, refl, sym, ◌∙◌, ap, subst}
 use Rattle.std.proofs.lemmas.List.Concat.{flat_map-append}
 use Rattle.sketch_bloom.specs.State.{FilterState}
-use Rattle.sketches.specs.EndedText.{Prints, prints_none, prints_both}
+use Rattle.sketches.specs.Appending.{front_after, front_more, front_same}
+use Rattle.sketches.specs.EndedText.{Prints, is_unended_after, prints_none, prints_both, text_both, text_of}
+use Rattle.sketches.specs.Outputs.{WritesFront}
 use Rattle.sketches.specs.Joined.{joined_lines}
 use Rattle.sketches.specs.Reading.{AreWholeRecords}
 use Rattle.sketches.specs.RecordParts.{raws_by}
@@ -74,3 +76,25 @@ lines_both xs ys w p whole w' p' w'' p'' a b c held mid holds o o' o'' (text, sa
       same_part' ∙ same_part,
       same_wanted' ∙ same_wanted,
     )
+
+-- the front of what is written of whole records is that of what is written if records follow
+pub front_sooner : (xs ys : List ℕ) (w : Bool) (p : RecordPart) → AreWholeRecords (splits_by p) xs → (a : FilterState) (held holds : Option (List ℕ)) (o : Bool)
+    → WritesFront held holds (text_of o (joined_lines w p a (raws_by p xs))) → WritesFront held holds (text_of o (joined_lines w p a (raws_by p (xs ++ ys))))
+front_sooner xs ys w p whole a held holds o front =
+    let here : List (List ℕ) = joined_lines w p a (raws_by p xs) in
+    let there : List (List ℕ) = joined_lines w p a (raws_by p ys) in
+    let both : joined_lines w p a (raws_by p (xs ++ ys)) ≡ here ++ there = ap (joined_lines w p a) (raw_records_both (splits_by p) xs ys whole) ∙ joined_both w p a (raws_by p xs) (raws_by p ys) in
+    front_same held holds _ _ (sym (ap (text_of o) both ∙ text_both o here there)) (front_more held holds _ _ front)
+
+-- after whole records, the front of what is written of the records after them
+pub front_later : (xs ys : List ℕ) (w : Bool) (p : RecordPart) → AreWholeRecords (splits_by p) xs → (w' : Bool) (p' : RecordPart) (a b : FilterState) (held mid holds : Option (List ℕ)) (o o' : Bool)
+    → WritesLines w p a b held mid o o' xs p' w' → WritesFront mid holds (text_of o' (joined_lines w' p' b (raws_by p' ys))) → WritesFront held holds (text_of o (joined_lines w p a (raws_by p (xs ++ ys))))
+front_later xs ys w p whole w' p' a b held mid holds o o' ((text, unended), same, same_part, same_wanted) front =
+    let here : List (List ℕ) = joined_lines w p a (raws_by p xs) in
+    let there : List (List ℕ) = joined_lines w p a (raws_by p ys) in
+    let both : joined_lines w p a (raws_by p (xs ++ ys)) ≡ here ++ there = ap (joined_lines w p a) (raw_records_both (splits_by p) xs ys whole) ∙ joined_both w p a (raws_by p xs) (raws_by p ys) in
+    let more : joined_lines w' p' b (raws_by p' ys) ≡ there =
+    ap (λ (q : Bool). joined_lines q p' b (raws_by p' ys)) same_wanted
+    ∙ (ap (λ (q : RecordPart). joined_lines w q b (raws_by q ys)) same_part ∙ ap (λ (s : FilterState). joined_lines w p s (raws_by p ys)) same) in
+    let later : text_of o' (joined_lines w' p' b (raws_by p' ys)) ≡ text_of (is_unended_after o here) there = ap (λ (u : Bool). text_of u (joined_lines w' p' b (raws_by p' ys))) unended ∙ ap (text_of (is_unended_after o here)) more in
+    front_same held holds _ _ (sym (ap (text_of o) both ∙ text_both o here there)) (front_after held mid holds _ _ text (front_same mid holds _ _ later front))

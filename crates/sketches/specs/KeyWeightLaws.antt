@@ -1,5 +1,5 @@
 -- The laws of items with weights that are added one after another, and of estimates that are written.
-use Rattle.std.proofs.Common.{◌≡◌, ℕ, Bool, List, [], ◌∷◌, ◌++◌, map, Option, ℤ, append-nil, refl, sym, ◌∙◌, ap, subst, arith, length-append}
+use Rattle.std.proofs.Common.{◌≡◌, ℕ, Bool, List, [], ◌∷◌, ◌++◌, map, Option, Some, ℤ, append_assoc, append-nil, refl, sym, ◌∙◌, ap, subst, arith, length-append}
 use Rattle.std.proofs.lemmas.List.{map-append}
 use Rattle.std.proofs.lemmas.List.Concat.{flat_map-append}
 use Rattle.std.proofs.lemmas.List.Elements.{All-append, All-nil}
@@ -11,11 +11,12 @@ use Rattle.sketch_countmin.specs.History.CountHistory.{Update}
 use Rattle.sketch_countmin.specs.Stands.{StandsFor}
 use Rattle.sketch_countmin.specs.State.{CountState, IsMinCell}
 use Rattle.sketches.specs.AddingLaws.{records_both}
-use Rattle.sketches.specs.KeyWeights.{CountsLines, CountsWeighed, Row, WritesEstimates, counted, parts_in, row_line, unweighed_line, unweighed_lines, weighed_line, weighed_lines}
+use Rattle.sketches.specs.KeyWeights.{CountsLines, CountsWeighed, Row, WritesEstimates, WritesSomeEstimates, counted, parts_in, row_line, unweighed_line, unweighed_lines, weighed_line, weighed_lines}
+use Rattle.sketches.specs.Outputs.{WritesFront}
 use Rattle.sketches.specs.Reading.{AreWholeRecords}
 use Rattle.sketch_base.specs.Records.{part_in, records_by, splits_by}
 use Rattle.sketches.specs.Unseen.{hashed}
-use Rattle.sketches.specs.Appending.{appends_none, appends_both}
+use Rattle.sketches.specs.Appending.{appends_none, appends_both, front_after, front_all, front_none}
 use Rattle.sketches.specs.WeighFailures.{FailsCounting, FailsLines}
 use Rattle.sketches.specs.Weighed.{Weighed, total_of}
 use Rattle.sketches.specs.WeighingLaws.{total_both}
@@ -156,3 +157,77 @@ keys_both xs ys d e f a b c p q r whole held mid holds (first, same, same_part, 
   same_part' ∙ same_part,
   same_escaped' ∙ same_escaped,
 )
+
+-- ---- the front of estimates
+
+-- nothing was written
+pub some_none : (escaped : Bool) (s : CountState) (keys : List (List ℕ)) (held : Option (List ℕ)) → WritesSomeEstimates escaped s keys held held
+some_none escaped s keys held = record {
+  first = [];
+  later = keys;
+  parts = refl;
+  rows = [];
+  keys_are = refl;
+  estimates = All-nil (λ (row : Row). IsMinCell s (hashed row.1) (pos row.0));
+  wrote = front_none held [];
+}
+
+-- the front of the lines of these keys was written
+pub some_front : (escaped : Bool) (s : CountState) (keys : List (List ℕ)) (a b : Option (List ℕ)) (text : List ℕ) → WritesEstimates escaped s keys (Some []) (Some text) → WritesFront a b text → WritesSomeEstimates escaped s keys a b
+some_front escaped s keys a b text all front = record {
+  first = keys;
+  later = [];
+  parts = sym (append-nil keys);
+  rows = all.rows;
+  keys_are = all.keys_are;
+  estimates = all.estimates;
+  wrote = subst (WritesFront a b) all.wrote front;
+}
+
+-- all of the lines of these keys were written
+pub some_whole : (escaped : Bool) (s : CountState) (keys : List (List ℕ)) (a b : Option (List ℕ)) → WritesEstimates escaped s keys a b → WritesSomeEstimates escaped s keys a b
+some_whole escaped s keys a b all = record {
+  first = keys;
+  later = [];
+  parts = sym (append-nil keys);
+  rows = all.rows;
+  keys_are = all.keys_are;
+  estimates = all.estimates;
+  wrote = front_all a b _ all.wrote;
+}
+
+some_more : (escaped : Bool) (s : CountState) (keys more : List (List ℕ)) (a b : Option (List ℕ)) → WritesSomeEstimates escaped s keys a b → WritesSomeEstimates escaped s (keys ++ more) a b
+some_more escaped s keys more a b so = record {
+  first = so.first;
+  later = so.later ++ more;
+  parts = ap (λ l. l ++ more) so.parts ∙ append_assoc so.first so.later more;
+  rows = so.rows;
+  keys_are = so.keys_are;
+  estimates = so.estimates;
+  wrote = so.wrote;
+}
+
+pub some_after : (escaped : Bool) (s : CountState) (xs ys : List (List ℕ)) (a b c : Option (List ℕ)) → WritesEstimates escaped s xs a b → WritesSomeEstimates escaped s ys b c → WritesSomeEstimates escaped s (xs ++ ys) a c
+some_after escaped s xs ys a b c all so = record {
+  first = xs ++ so.first;
+  later = so.later;
+  parts = ap (λ l. xs ++ l) so.parts ∙ sym (append_assoc xs so.first so.later);
+  rows = all.rows ++ so.rows;
+  keys_are =
+      map-append (λ (row : Row). row.1) all.rows so.rows
+      ∙ (ap (λ l. l ++ map (λ (row : Row). row.1) so.rows) all.keys_are ∙ ap (λ l. xs ++ l) so.keys_are);
+  estimates = All-append (λ (row : Row). IsMinCell s (hashed row.1) (pos row.0)) all.rows so.rows all.estimates so.estimates;
+  wrote = subst (WritesFront a c) (sym (flat_map-append (row_line escaped) all.rows so.rows)) (front_after a b c _ _ all.wrote so.wrote);
+}
+
+pub some_sooner : (xs ys : List ℕ) (d : Bool) (a : CountState) (p : RecordPart) → AreWholeRecords (splits_by p) xs → (held holds : Option (List ℕ)) → WritesSomeEstimates d a (parts_in p xs) held holds → WritesSomeEstimates d a (parts_in p (xs ++ ys)) held holds
+some_sooner xs ys d a p whole held holds so =
+    subst (λ l. WritesSomeEstimates d a l held holds) (sym (parts_append p xs ys whole)) (some_more d a (parts_in p xs) (parts_in p ys) held holds so)
+
+pub some_later : (xs ys : List ℕ) (d e : Bool) (a b : CountState) (p q : RecordPart) → AreWholeRecords (splits_by p) xs → (held mid holds : Option (List ℕ)) → TakesKeys d e a b p q held mid xs → WritesSomeEstimates e b (parts_in q ys) mid holds → WritesSomeEstimates d a (parts_in p (xs ++ ys)) held holds
+some_later xs ys d e a b p q whole held mid holds (first, same, same_part, same_escaped) so =
+    subst (λ l. WritesSomeEstimates d a l held holds) (sym (parts_append p xs ys whole))
+    (some_after d a (parts_in p xs) (parts_in p ys) held mid holds first
+    (subst (λ (t : RecordPart). WritesSomeEstimates d a (parts_in t ys) mid holds) same_part
+    (subst (λ (t : CountState). WritesSomeEstimates d t (parts_in q ys) mid holds) same
+    (subst (λ (t : Bool). WritesSomeEstimates t b (parts_in q ys) mid holds) same_escaped so))))

@@ -12,6 +12,7 @@ use Rattle.sketch_countmin.specs.Sizes.{IsETimesWithin, IsWithinPowerOfE}
 use Rattle.sketch_countmin.specs.Stands.{Extends, StandsFor}
 use Rattle.sketch_countmin.specs.State.{CountState, IsMinCell, empty_state}
 use Rattle.sketches.specs.Inputs.{AreRead}
+use Rattle.sketches.specs.Outputs.{WritesFront}
 use Rattle.sketches.specs.Reading.{AreFirstRecords}
 use Rattle.sketch_base.specs.Decimals.{number_in}
 use Rattle.sketch_base.specs.Records.{part_in, records_by, splits_by}
@@ -119,8 +120,19 @@ pub record WritesEstimates (escaped : Bool) (s : CountState) (keys : List (List 
   pub estimates : All (λ row. IsMinCell s (hashed row.1) (pos row.0)) rows
   pub wrote : Appends held holds (flat_map (row_line escaped) rows)
 
+-- The same for the first of these keys, of whose lines the front was written.
+pub record WritesSomeEstimates (escaped : Bool) (s : CountState) (keys : List (List ℕ)) (held holds : Option (List ℕ)) : Type 0 where
+  pub first : List (List ℕ)
+  pub later : List (List ℕ)
+  pub parts : keys ≡ first ++ later
+  pub rows : List Row
+  pub keys_are : map (λ row. row.1) rows ≡ first
+  pub estimates : All (λ row. IsMinCell s (hashed row.1) (pos row.0)) rows
+  pub wrote : WritesFront held holds (flat_map (row_line escaped) rows)
+
 -- The number is at least the weight of the key, and at most the total of all weights. It is the least, over the rows, of the weight
--- of all items in the key's bucket. So it is exact if some row has no other item in that bucket.
+-- of all items in the key's bucket. So it is exact if some row has no other item in that bucket. `below` and `reached` fix the number;
+-- `enough` and `within` are laws that follow from them.
 pub record IsWeightOf (hashes buckets seed : ℕ) (items : Weighed) (row : Row) : Type 0 where
   pub enough : weight_of items row.1 ≤ row.0
   pub within : row.0 ≤ total_of items
@@ -144,4 +156,23 @@ pub record WritesWeights {E : Type 0} (options : WeighOptions) (inputs : List (L
   pub weights : All (IsWeightOf hashes buckets (usable_seed options.seed) (weighed_in options.chosen read)) rows
   pub wrote :
       Appends held holds
+      (total_line options.header (total_of (weighed_in options.chosen read)) ++ flat_map (row_line options.escaped) rows)
+
+-- The writer received the front of that. The front has lines of the first keys of the file.
+pub record WritesSomeWeights (options : WeighOptions) (inputs : List (List ℕ)) (keys : List ℕ) (held holds : Option (List ℕ)) : Type 0 where
+  pub complete : Bool
+  pub read : List (List ℕ)
+  pub are : AreRead (splits_by options.chosen.item) complete inputs read
+  pub each : unweighed_in options.chosen read ≡ []
+  pub hashes : ℕ
+  pub buckets : ℕ
+  pub table : IsTableFor options.parts options.questions hashes buckets
+  pub read_keys : List ℕ
+  pub front : AreFirstRecords (splits_by options.keys_part) keys read_keys
+  pub rows : List Row
+  pub later : List (List ℕ)
+  pub keys_are : parts_in options.keys_part read_keys ≡ map (λ row. row.1) rows ++ later
+  pub weights : All (IsWeightOf hashes buckets (usable_seed options.seed) (weighed_in options.chosen read)) rows
+  pub wrote :
+      WritesFront held holds
       (total_line options.header (total_of (weighed_in options.chosen read)) ++ flat_map (row_line options.escaped) rows)

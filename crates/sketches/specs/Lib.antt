@@ -19,6 +19,7 @@ pub mod Json
 pub mod KeyWeightLaws
 pub mod KeyWeights
 pub mod Keys
+pub mod Outputs
 pub mod RawLines
 pub mod Reading
 pub mod RecordParts

@@ -75,22 +75,28 @@ module _ (records : Records) {S : Type 0} (takes : S → List ℕ → S → Type
     pub rest : IsInOne records Start (take kept buffer)
     pub place_is : place ≡ place_of records Start (take kept buffer)
 
--- `fails old bytes failure`: the failure may come while the bytes of records are taken
-module _ (records : Records) {S : Type 0} (fails : S → List ℕ → Failure → Type 0) where
+-- `fails old bytes new failure`: the failure may come while the bytes of records are taken, and leaves the state `new`
+module _ (records : Records) {S : Type 0} (fails : S → List ℕ → S → Failure → Type 0) where
   -- the failure may come while the first of these bytes are taken, which are whole records
-  pub record FailsWithin (old : S) (bytes : List ℕ) (failure : Failure) : Type 0 where
+  pub record FailsWithin (old : S) (bytes : List ℕ) (new : S) (failure : Failure) : Type 0 where
     pub taken : List ℕ
     pub rest : List ℕ
     pub parts : bytes ≡ taken ++ rest
     pub whole : AreWholeRecords records taken
-    pub reason : fails old taken failure
+    pub reason : fails old taken new failure
 
   -- the failure may come while records are taken, and while those of this input are, if it is known
-  pub record FailsTaking (input : Option (List ℕ)) (old : S) (failure : Failure) : Type 0 where
-    pub some : (s : S) × (bytes : List ℕ) × fails s bytes failure
-    pub known : IfSome input (λ bytes. fails old bytes failure)
+  pub record FailsTaking (input : Option (List ℕ)) (old new : S) (failure : Failure) : Type 0 where
+    pub some : (s : S) × (bytes : List ℕ) × fails s bytes new failure
+    pub known : IfSome input (λ bytes. fails old bytes new failure)
 
-  -- no memory, a record of at least `limit` bytes, or a failure while records are taken
-  abbrev pub FailsInput : ℕ → Option (List ℕ) → S → Failure → Type 0
-  FailsInput limit input old failure =
-      (failure ≡ Memory) ⊎ (((failure ≡ LineTooLong) × IfSome input (HasLongRecord records limit)) ⊎ FailsTaking input old failure)
+module _ (records : Records) {S : Type 0} (takes : S → List ℕ → S → Type 0) where
+  -- no memory, or a record of at least `limit` bytes. The first records of the input were taken before
+  abbrev pub StopsInput : ℕ → Option (List ℕ) → (old new : S) → Failure → Type 0
+  StopsInput limit input old new failure =
+      ((failure ≡ Memory) ⊎ ((failure ≡ LineTooLong) × IfSome input (HasLongRecord records limit)))
+      × IfSome input (λ bytes. (read : List ℕ) × AreFirstRecords records bytes read × takes old read new)
+
+  -- this, or a failure while records are taken
+  abbrev pub FailsInput : (fails : S → List ℕ → S → Failure → Type 0) → ℕ → Option (List ℕ) → (old new : S) → Failure → Type 0
+  FailsInput fails limit input old new failure = StopsInput limit input old new failure ⊎ FailsTaking records fails input old new failure

@@ -1,5 +1,5 @@
 -- What is shown of an image.
-use Rattle.std.specs.Prelude.{◌≡◌, ◌≢◌, ◌⊎◌, ℕ, ℤ, pos, negsuc, ◌-◌, ◌*◌, ◌^◌, ◌<◌, ◌==◌, Bool, true, false, List, ◌++◌, length, Option, Some, codes}
+use Rattle.std.specs.Prelude.{◌≡◌, ◌≢◌, ◌⊎◌, ℕ, ℤ, pos, negsuc, ◌+◌, ◌-◌, ◌*◌, ◌^◌, ◌<◌, ◌≤◌, ◌==◌, Bool, true, false, List, ◌++◌, length, Option, Some, codes}
 use Rattle.std.specs.FinSet as set
 use Rattle.std.specs.Fmt.{decimal}
 use Rattle.std.specs.Io.KnownBytes.{Appends}
@@ -12,6 +12,7 @@ use Rattle.sketch_countmin.specs.State.{CountState}
 use Rattle.sketches.specs.Added.{Sketch}
 use Rattle.sketches.specs.ImageFailures.{IsBadImage, IsUnread, IsWriteFailure}
 use Rattle.sketches.specs.Images.{Loads}
+use Rattle.sketches.specs.Outputs.{WritesFront}
 use Rattle.sketches.specs.declared.images.ImageFailure.{ImageFailure}
 use Rattle.sketches.specs.declared.images.ImageFailure.TheVariants.{Memory, NoImage, Read, TooLong, Rejected, TrailingBytes, TooManyItems, Write}
 
@@ -50,18 +51,21 @@ is_of_filter image = byte_at image 2 == 21
 abbrev pub is_of_counts : List ℕ → Bool
 is_of_counts image = byte_at image 2 == 18
 
--- the bytes are an image of the Count-Min sketch of these lines and this seed, over this range of numbers, and nothing more
-abbrev pub StatesCounts : ℤ → (greatest seed : ℕ) → List ℕ → List ℕ → Type 0
-StatesCounts least greatest seed image text =
-    (s : CountState) × counts.IsImage least greatest seed image s × (counts.prefix_bytes image ≡ length image) × (text ≡ counts_text s)
+-- The bytes are an image of the Count-Min sketch of these lines and this seed, over this range of numbers of 8 bytes, and nothing more.
+-- Its numbers, and 8 bytes for each hash, take at most `limit` bytes.
+abbrev pub StatesCounts : ℤ → (greatest limit seed : ℕ) → List ℕ → List ℕ → Type 0
+StatesCounts least greatest limit seed image text =
+    (s : CountState) × counts.IsImage least greatest seed image s × (counts.prefix_bytes image ≡ length image)
+    × (s.hashes * s.buckets * 8 + 8 * s.hashes ≤ limit) × (text ≡ counts_text s)
 
--- the bytes are an image of the sketch or the filter of these lines, and nothing more. Numbers of a Count-Min sketch have 64 bits,
--- with or without a sign
+-- The bytes are an image of the sketch or the filter of these lines, and nothing more. What is read takes at most `limit` bytes. Numbers
+-- of a Count-Min sketch have 64 bits, with or without a sign.
 abbrev pub StatesAs : (filter counts : Bool) → (limit seed : ℕ) → List ℕ → List ℕ → Type 0
 StatesAs true _ limit seed image text =
-    (f : FilterState) × filters.IsImage image f × (filters.prefix_bytes image ≡ length image) × (text ≡ filter_text f)
+    (f : FilterState) × filters.IsImage image f × (filters.prefix_bytes image ≡ length image) × (8 * f.num_words ≤ limit)
+    × (text ≡ filter_text f)
 StatesAs false true limit seed image text =
-    StatesCounts (negsuc (2 ^ 63 - 1)) (2 ^ 63 - 1) seed image text ⊎ StatesCounts (pos 0) (2 ^ 64 - 1) seed image text
+    StatesCounts (negsuc (2 ^ 63 - 1)) (2 ^ 63 - 1) limit seed image text ⊎ StatesCounts (pos 0) (2 ^ 64 - 1) limit seed image text
 StatesAs false false limit seed image text = (s : Sketch) × Loads limit image s × (text ≡ items_text s)
 
 -- why the bytes are not an image of a filter. An allocation can fail at any image
@@ -100,8 +104,14 @@ abbrev pub ShowsImage : (limit seed : ℕ) → List ℕ → Option (List ℕ) �
 ShowsImage limit seed image held holds =
     (text : List ℕ) × StatesAs (is_of_filter image) (is_of_counts image) limit seed image text × Appends held holds text
 
--- why the image is not shown
-abbrev pub IsNotShown : (limit seed : ℕ) → List ℕ → ImageFailure → Type 0
-IsNotShown limit seed image failure =
+-- a write has failed, and the writer received the front of the lines of the image
+abbrev pub StopsShow : (limit seed : ℕ) → List ℕ → (has_failed : Bool) → (held holds : Option (List ℕ)) → Type 0
+StopsShow limit seed image has_failed held holds =
+    (has_failed ≡ true)
+    × ((text : List ℕ) × StatesAs (is_of_filter image) (is_of_counts image) limit seed image text × WritesFront held holds text)
+
+-- why the image is not shown, or not whole. `output` holds if the output cannot be written
+abbrev pub IsNotShown : (limit seed : ℕ) → List ℕ → (output : Type 0) → ImageFailure → Type 0
+IsNotShown limit seed image output failure =
     IsUnread limit image failure
-    ⊎ (IsBadAs (is_of_filter image) (is_of_counts image) limit seed image failure ⊎ IsWriteFailure failure)
+    ⊎ (IsBadAs (is_of_filter image) (is_of_counts image) limit seed image failure ⊎ (IsWriteFailure failure × output))

@@ -2,11 +2,13 @@
 use Rattle.std.specs.Prelude.{◌≡◌, ℕ, Bool, false, not, List, [], ◌∷◌, ◌++◌, map, Option, Contains, if◌then◌else◌}
 use Rattle.std.specs.Hash as fed
 use Rattle.std.specs.Io.KnownBytes.{Appends}
-use Rattle.std.specs.List.{flat_map, list_any}
+use Rattle.std.specs.List.{AllZip, flat_map, list_any}
 use Rattle.sketch_base.specs.Hashes.{fed_bytes}
 use Rattle.sketch_bloom.specs.State.{FilterState, all_inserted, contains_item}
 use Rattle.sketches.specs.EndedText.{text_of}
 use Rattle.sketches.specs.Inputs.{AreRead}
+use Rattle.sketches.specs.Outputs.{WritesFront}
+use Rattle.sketches.specs.Reading.{AreFirstRecords}
 use Rattle.sketches.specs.RecordParts.{raws_by}
 use Rattle.sketch_base.specs.Records.{part_in, records_by, splits_by}
 use Rattle.sketch_base.specs.declared.record_part.RecordPart.{RecordPart}
@@ -56,7 +58,8 @@ unseen_lines repeated part filter (raw ∷ later) =
     written_of repeated (is_seen filter (item_of part raw)) raw
     ++ unseen_lines repeated part (with_items filter (item_of part raw)) later
 
--- a record whose item is not seen is the first with its item
+-- A law of filters, which holds for any list of records: a record whose item is not seen is the first with its item. It does not say
+-- what a run writes.
 abbrev pub AreFirst : RecordPart → FilterState → List (List ℕ) → Type 0
 AreFirst part filter raws =
     (before after : List (List ℕ)) (raw item : List ℕ) → raws ≡ before ++ raw ∷ after →
@@ -65,10 +68,19 @@ AreFirst part filter raws =
 
 -- The writer received a header, and then the records of what was read of each input whose items were not seen before, or, with
 -- `repeated`, the others. One that its input ends without a line feed gets one before the next. The filter has taken the items of all
--- records that were read.
+-- records that were read. What the run did is `are`, `written` and `kept`; `first` is the law above for these records.
 pub record WritesUnseen (repeated : Bool) (part : RecordPart) (header : List ℕ) (filter filter' : FilterState) (inputs : List (List ℕ)) (complete : Bool) (held holds : Option (List ℕ)) : Type 0 where
   pub read : List (List ℕ)
   pub are : AreRead (splits_by part) complete inputs read
   pub written : Appends held holds (header ++ text_of false (unseen_lines repeated part filter (flat_map (raws_by part) read)))
   pub first : AreFirst part filter (flat_map (raws_by part) read)
   pub kept : filter' ≡ with_lines part filter (flat_map (raws_by part) read)
+
+-- The writer received the front of that, for what was read of the first of these inputs.
+pub record WritesSomeUnseen (repeated : Bool) (part : RecordPart) (header : List ℕ) (filter : FilterState) (inputs : List (List ℕ)) (held holds : Option (List ℕ)) : Type 0 where
+  pub first : List (List ℕ)
+  pub later : List (List ℕ)
+  pub parts : inputs ≡ first ++ later
+  pub read : List (List ℕ)
+  pub fronts : AllZip (AreFirstRecords (splits_by part)) first read
+  pub written : WritesFront held holds (header ++ text_of false (unseen_lines repeated part filter (flat_map (raws_by part) read)))

@@ -7,7 +7,9 @@ use Rattle.std.specs.List.{flat_map, onto_first, slice_split}
 use Rattle.std.specs.Prelude.{if◌then◌else◌}
 use Rattle.sketch_base.proofs.CsvBoth.{raw_csv_both}
 use Rattle.sketch_bloom.specs.State.{FilterState, all_inserted, inserted}
-use Rattle.sketches.specs.EndedText.{Prints, prints_none, prints_both}
+use Rattle.sketches.specs.Appending.{front_after, front_more, front_same}
+use Rattle.sketches.specs.EndedText.{Prints, is_unended_after, prints_none, prints_both, text_both, text_of}
+use Rattle.sketches.specs.Outputs.{WritesFront}
 use Rattle.sketches.specs.RawLines.{raw_lines, raw_lines_of_parts}
 use Rattle.sketches.specs.Reading.{AreWholeLines, AreWholeRecords}
 use Rattle.sketches.specs.RecordParts.{raw_records_in, raws_by}
@@ -123,6 +125,31 @@ takes_lines xs ys r p whole r' p' r'' p'' a b c held mid holds o o' o'' (filter,
       same_part' ∙ same_part,
       same_repeated' ∙ same_repeated,
     )
+
+-- the front of what is written of whole records is that of what is written if records follow
+pub front_sooner : (xs ys : List ℕ) (r : Bool) (p : RecordPart) → AreWholeRecords (splits_by p) xs → (a : FilterState) (held holds : Option (List ℕ)) (o : Bool)
+    → WritesFront held holds (text_of o (unseen_lines r p a (raws_by p xs))) → WritesFront held holds (text_of o (unseen_lines r p a (raws_by p (xs ++ ys))))
+front_sooner xs ys r p whole a held holds o front =
+    let here : List (List ℕ) = raws_by p xs in
+    let there : List (List ℕ) = raws_by p ys in
+    let both : unseen_lines r p a (raws_by p (xs ++ ys)) ≡ unseen_lines r p a here ++ unseen_lines r p (with_lines p a here) there =
+    ap (unseen_lines r p a) (raw_records_both (splits_by p) xs ys whole) ∙ unseen_both r p a here there in
+    front_same held holds _ _ (sym (ap (text_of o) both ∙ text_both o (unseen_lines r p a here) (unseen_lines r p (with_lines p a here) there))) (front_more held holds _ _ front)
+
+-- after whole records, the front of what is written of the records after them
+pub front_later : (xs ys : List ℕ) (r : Bool) (p : RecordPart) → AreWholeRecords (splits_by p) xs → (r' : Bool) (p' : RecordPart) (a b : FilterState) (held mid holds : Option (List ℕ)) (o o' : Bool)
+    → TakesUnseen r p a b held mid o o' xs p' r' → WritesFront mid holds (text_of o' (unseen_lines r' p' b (raws_by p' ys))) → WritesFront held holds (text_of o (unseen_lines r p a (raws_by p (xs ++ ys))))
+front_later xs ys r p whole r' p' a b held mid holds o o' (filter, (text, unended), same_part, same_repeated) front =
+    let here : List (List ℕ) = raws_by p xs in
+    let there : List (List ℕ) = raws_by p ys in
+    let both : unseen_lines r p a (raws_by p (xs ++ ys)) ≡ unseen_lines r p a here ++ unseen_lines r p (with_lines p a here) there =
+    ap (unseen_lines r p a) (raw_records_both (splits_by p) xs ys whole) ∙ unseen_both r p a here there in
+    let more : unseen_lines r' p' b (raws_by p' ys) ≡ unseen_lines r p (with_lines p a here) there =
+    ap (λ (q : Bool). unseen_lines q p' b (raws_by p' ys)) same_repeated ∙ (ap (λ (q : RecordPart). unseen_lines r q b (raws_by q ys)) same_part ∙ ap (λ (s : FilterState). unseen_lines r p s there) filter) in
+    let later : text_of o' (unseen_lines r' p' b (raws_by p' ys)) ≡ text_of (is_unended_after o (unseen_lines r p a here)) (unseen_lines r p (with_lines p a here) there) =
+    ap (λ (u : Bool). text_of u (unseen_lines r' p' b (raws_by p' ys))) unended ∙ ap (text_of (is_unended_after o (unseen_lines r p a here))) more in
+    front_same held holds _ _ (sym (ap (text_of o) both ∙ text_both o (unseen_lines r p a here) (unseen_lines r p (with_lines p a here) there)))
+    (front_after held mid holds _ _ text (front_same mid holds _ _ later front))
 
 -- ---- the same of records that are taken apart
 

@@ -8,10 +8,11 @@ use Rattle.sketch_base.specs.Csv.{field_text}
 use Rattle.sketches.specs.Items.{items_of_raw_line}
 use Rattle.sketch_base.specs.Decimals.{number_in}
 use Rattle.sketch_base.specs.Records.{part_of, records_in}
-use Rattle.sketches.specs.Weights.{weight_in}
+use Rattle.sketches.specs.Weights.{taken_weight, weight_in}
 use Rattle.sketch_base.specs.declared.records.Records.{Records}
 use Rattle.sketch_base.specs.declared.records.Records.TheVariants as records
 use Rattle.sketches.specs.declared.weighing.CsvPart.{CsvPart}
+use Rattle.sketches.specs.declared.weighing.WeighedPart.{WeighedPart}
 use Rattle.sketches.specs.declared.weighing.Weighing.{Weighing}
 use Rattle.sketches.specs.declared.weighing.Weighing.TheVariants as weighing
 
@@ -57,6 +58,13 @@ abbrev pub field_weight : (delimiter : ℕ) → Option ℕ → List ℕ → Opti
 field_weight delimiter None row = Some 1
 field_weight delimiter (Some index) row = option_and_then number_in (slice_get (field_text delimiter index row) 0)
 
+-- the weight that counts of a record of CSV, and of a line
+abbrev pub csv_weight : CsvPart → List ℕ → Option ℕ
+csv_weight part row = taken_weight part.unweighed (field_weight part.delimiter part.weight row)
+
+abbrev pub line_weight : WeighedPart → List ℕ → Option ℕ
+line_weight part line = taken_weight part.unweighed (weight_in part.weight line)
+
 -- the item of a record of CSV: the text of a field, with U+FFFD for bytes that are not UTF-8, if the record has this field
 abbrev pub csv_items : CsvPart → List ℕ → List (List ℕ)
 csv_items part row = map utf8_lossy (field_text part.delimiter part.item row)
@@ -64,14 +72,14 @@ csv_items part row = map utf8_lossy (field_text part.delimiter part.item row)
 -- the items of a record with their weights. An item of weight 0 is left out
 abbrev pub weighed_of_line : Weighing → List ℕ → Weighed
 weighed_of_line (weighing.Once chosen) line = once (items_of_raw_line chosen line)
-weighed_of_line (weighing.Field part) line = with_weight (part_of part.item (utf8_lossy line)) (weight_in part.weight line)
-weighed_of_line (weighing.Csv part) row = with_weight (csv_items part row) (field_weight part.delimiter part.weight row)
+weighed_of_line (weighing.Field part) line = with_weight (part_of part.item (utf8_lossy line)) (line_weight part line)
+weighed_of_line (weighing.Csv part) row = with_weight (csv_items part row) (csv_weight part row)
 
 -- the items of a record that has no weight
 abbrev pub unweighed_of_line : Weighing → List ℕ → List (List ℕ)
 unweighed_of_line (weighing.Once chosen) line = []
-unweighed_of_line (weighing.Field part) line = without_weight (part_of part.item (utf8_lossy line)) (weight_in part.weight line)
-unweighed_of_line (weighing.Csv part) row = without_weight (csv_items part row) (field_weight part.delimiter part.weight row)
+unweighed_of_line (weighing.Field part) line = without_weight (part_of part.item (utf8_lossy line)) (line_weight part line)
+unweighed_of_line (weighing.Csv part) row = without_weight (csv_items part row) (csv_weight part row)
 
 -- the items of an input with their weights: those of each of its records
 abbrev pub weighed_of : Weighing → List ℕ → Weighed

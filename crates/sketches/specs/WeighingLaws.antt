@@ -10,7 +10,7 @@ use Rattle.std.specs.declared.string.String.{String}
 use Rattle.sketch_frequencies.specs.History.{FrequentHistory}
 use Rattle.sketch_frequencies.specs.History.FrequentHistory.{Update}
 use Rattle.sketch_frequencies.specs.Stands.{StandsFor, KeepsTailBudget}
-use Rattle.sketch_frequencies.specs.WeightedBatches.{all_weighed}
+use Rattle.sketch_frequencies.specs.WeightedBatches.{StepsEqualWeighed, all_weighed}
 use Rattle.sketches.specs.Added.{Sketch, AddsLines, AddsWeighed}
 use Rattle.sketches.specs.AddingLaws.{records_both}
 use Rattle.sketches.specs.Failures.{FailsLines, FailsWeighing}
@@ -33,14 +33,21 @@ total_both xs ys = sum_by-append (λ (pair : List ℕ × ℕ). pair.1) xs ys
 abbrev named : String Global × ℕ → List ℕ × ℕ
 named pair = (string_bytes pair.0, pair.1)
 
+-- the steps of items, and of those after them
+steps_both : (a b c : Sketch) (xs ys : List (String Global × ℕ)) → StepsEqualWeighed string_eq a xs b → StepsEqualWeighed string_eq b ys c → StepsEqualWeighed string_eq a (xs ++ ys) c
+steps_both a b c [] ys same more = subst (λ (s : Sketch). StepsEqualWeighed string_eq s ys c) same more
+steps_both a b c (x ∷ xs) ys (mid, one, rest) more = (mid, one, steps_both mid b c xs ys rest more)
+
 pub weighed_none : (a : Sketch) → AddsWeighed a [] a
-weighed_none a = record { items = []; are = refl; total = let none : total_of [] ≡ 0 = refl in omega (arith, none); stands = λ h s. s; budget = λ h s k. k }
+weighed_none a = record { items = []; are = refl; steps = refl; total = let none : total_of [] ≡ 0 = refl in omega (arith, none); key = refl; stands = λ h s. s; budget = λ h s k. k }
 
 pub weighed_both : (a b c : Sketch) (xs ys : Weighed) → AddsWeighed a xs b → AddsWeighed b ys c → AddsWeighed a (xs ++ ys) c
 weighed_both a b c xs ys s t = record {
   items = s.items ++ t.items;
   are = map-append named s.items t.items ∙ (ap (λ (l : Weighed). l ++ map named t.items) s.are ∙ ap (λ (l : Weighed). xs ++ l) t.are);
+  steps = steps_both a b c s.items t.items s.steps t.steps;
   total = omega (arith, s.total, t.total, total_both xs ys);
+  key = t.key ∙ s.key;
   stands = λ h k. subst (λ (g : FrequentHistory (String Global)). StandsFor string_eq c g) (sym (updated_both h s.items t.items)) (t.stands (all_weighed h s.items) (s.stands h k));
   budget = λ h k q. subst (λ (g : FrequentHistory (String Global)). KeepsTailBudget string_eq c g) (sym (updated_both h s.items t.items)) (t.budget (all_weighed h s.items) (s.stands h k) (s.budget h k q));
 }

@@ -1,11 +1,19 @@
 -- The weights of lines.
-use Rattle.std.specs.Prelude.{ℕ, List, Option}
+use Rattle.std.specs.Prelude.{ℕ, List, Option, Some, None}
 use Rattle.std.specs.List.{slice_get}
 use Rattle.std.specs.Option.{option_and_then}
 use Rattle.sketch_base.specs.Decimals.{number_in}
 use Rattle.sketch_base.specs.Records.{part_of}
 use Rattle.sketch_base.specs.declared.part.Part.{Part}
+use Rattle.sketches.specs.declared.weighing.Unweighed.{Unweighed}
+use Rattle.sketches.specs.declared.weighing.Unweighed.TheVariants.{Fails, IsZero}
 
 -- the weight in a part of a line, if the line has this part and it spells one
 abbrev pub weight_in : Part → List ℕ → Option ℕ
 weight_in part line = option_and_then number_in (slice_get (part_of part line) 0)
+
+-- the weight that counts: the one that a record has. A record without one has the weight 0, or none if this is an error
+abbrev pub taken_weight : Unweighed → Option ℕ → Option ℕ
+taken_weight unweighed (Some weight) = Some weight
+taken_weight Fails None = None
+taken_weight IsZero None = Some 0

@@ -25,10 +25,12 @@ use std::alloc::{AllocError, Global};
 pub struct ItemCounter {
     pub sketch: FrequentItemsSketch<String>,
     pub weighing: Weighing,
-    /// The number of records of this input that were taken, if weights stand in them.
+    /// The number of lines of this input that were taken, if weights stand in them.
     pub count: u64,
     /// The number of records that are not UTF-8, at most `u64::MAX`.
     pub not_utf8: u64,
+    /// The number of records that have an item and no weight, and whose weight is 0, at most `u64::MAX`.
+    pub unweighed: u64,
 }
 
 impl ItemCounter {
@@ -51,7 +53,7 @@ impl LineSink<()> for ItemCounter {
     ghost takes = { λ old bytes new. (AddsLines old.0.weighing old.0.sketch bytes new.0.sketch
         × (new.0.weighing ≡ old.0.weighing)) × GrowsBy old.0.not_utf8 (not_utf8_in (records_of old.0.weighing bytes)) new.0.not_utf8 };
 
-    ghost fails = { λ old bytes failure. FailsLines old.0.weighing old.0.sketch bytes failure };
+    ghost fails = { λ old bytes new failure. FailsLines old.0.weighing old.0.sketch bytes failure };
 
     ghost takes_same = { λ r s xs taken. ap splits_of taken.0.1 };
 
@@ -63,9 +65,9 @@ impl LineSink<()> for ItemCounter {
       grows_both r.0.weighing xs ys whole r.0.not_utf8 s.0.not_utf8 t.0.not_utf8 s.0.weighing first.0.1 first.1 second.1,
     ) };
 
-    ghost fails_sooner = { λ r xs ys e whole. lines_fail_sooner r.0.weighing xs ys whole r.0.sketch e };
+    ghost fails_sooner = { λ r t xs ys e whole. lines_fail_sooner r.0.weighing xs ys whole r.0.sketch e };
 
-    ghost fails_later = { λ r s xs ys e whole first. lines_fail_later r.0.weighing xs ys whole
+    ghost fails_later = { λ r s t xs ys e whole first. lines_fail_later r.0.weighing xs ys whole
         r.0.sketch s.0.sketch s.0.weighing e first.0 };
 
     fn records(&self) -> Records {
@@ -92,6 +94,7 @@ impl LineSink<()> for ItemCounter {
                 bytes,
                 &mut self.count,
                 &mut self.not_utf8,
+                &mut self.unweighed,
             ),
             Weighing::Csv(part) => add_csv_records(
                 alloc,
@@ -100,6 +103,7 @@ impl LineSink<()> for ItemCounter {
                 bytes,
                 &mut self.count,
                 &mut self.not_utf8,
+                &mut self.unweighed,
             ),
         }
     }

@@ -5,23 +5,26 @@ ghost use Rattle.sketch_base.specs.Csv.{csv_records, text_of_field};
 ghost use Rattle.sketches.specs.Added.{AddsLine, AddsLines, AddsWeighed};
 ghost use Rattle.sketches.specs.Failures.{FailsLine, FailsLines, FailsWeighing};
 ghost use Rattle.sketches.specs.Utf8Lines.{GrowsBy, not_utf8_in};
-ghost use Rattle.sketches.specs.Weighed.{field_weight, with_weight};
+ghost use Rattle.sketches.specs.Weighed.{csv_weight, field_weight, with_weight};
 
+use crate::csv_header::line_feeds;
 use crate::failure::Failure;
 use crate::utf8_lines::str_of;
 use crate::weighed_lines::bad_field;
 use crate::weighing::{CsvPart, Weighing};
+use crate::weights::taken_weight;
 use sketch_base::records::number_of;
 use sketch_base::{append_csv_text, from_utf8, next_csv_record, nth_csv_field, plain_csv_text};
 use sketch_frequencies::FrequentItemsSketch;
 use std::alloc::{AllocError, Global};
 
-/// Adds the item of each record with the weight of the record. Increments `count` for each record, and `not_utf8` for each that is
-/// not UTF-8.
+/// Adds the item of each record with the weight of the record. Adds to `count` the number of lines of each record. Increments `not_utf8`
+/// for each record that is not UTF-8, and `bad` for each that has an item and no weight.
 ///
 /// # Errors
 ///
-/// Returns `BadWeight` at the first record with an item and without a weight, which has the number `count`. Returns `TooManyItems`
+/// Returns `BadWeight` at the first record with an item and without a weight, if this is an error. It has the number of the record's first
+/// line. Returns `TooManyItems`
 /// if the total would exceed `u64::MAX`, and `Memory` if an allocation fails.
 #[inline(never)]
 pub fn add_csv_records(
@@ -31,6 +34,7 @@ pub fn add_csv_records(
     bytes: &[u8],
     count: &mut u64,
     not_utf8: &mut u64,
+    bad: &mut u64,
 ) -> Result<(), Failure>
     ensures added { OnOk result (AddsLines (Weighing.Csv part) sketch.old bytes.now sketch.new) }
     ensures failed { IfErr result (FailsLines (Weighing.Csv part) sketch.old bytes.now) }
@@ -38,11 +42,12 @@ pub fn add_csv_records(
 {
     let mut rest = bytes;
     'each: loop {
-        let Some((_, row, after)) = next_csv_record(rest, part.delimiter) else {
+        let Some((raw, row, after)) = next_csv_record(rest, part.delimiter) else {
             return Ok(());
         };
-        *count = count.saturating_add(1);
-        add_row(alloc, sketch, part, row, *count, not_utf8)?;
+        let number = count.saturating_add(1);
+        add_row(alloc, sketch, part, row, number, not_utf8, bad)?;
+        *count = count.saturating_add(line_feeds(raw));
         rest = after;
     }
 }
@@ -56,13 +61,14 @@ fn add_row(
     row: &[u8],
     number: u64,
     not_utf8: &mut u64,
+    bad: &mut u64,
 ) -> Result<(), Failure>
     ensures added { OnOk result (AddsLine (Weighing.Csv part) sketch.old row.now sketch.new) }
     ensures failed { IfErr result (FailsLine (Weighing.Csv part) sketch.old row.now) }
     ensures counted { GrowsBy not_utf8.old (not_utf8_in (row.now ∷ [])) not_utf8.new }
 {
     let _ = str_of(row, not_utf8);
-    add_item(alloc, sketch, part, row, number)
+    add_item(alloc, sketch, part, row, number, bad)
 }
 
 /// Adds the item of a record with the weight of the record.
@@ -73,6 +79,7 @@ fn add_item(
     part: CsvPart,
     row: &[u8],
     number: u64,
+    bad: &mut u64,
 ) -> Result<(), Failure>
     ensures added { OnOk result (AddsLine (Weighing.Csv part) sketch.old row.now sketch.new) }
     ensures failed { IfErr result (FailsLine (Weighing.Csv part) sketch.old row.now) }
@@ -80,7 +87,7 @@ fn add_item(
     let Some(field) = nth_csv_field(row, part.delimiter, part.item) else {
         return Ok(());
     };
-    let Some(weight) = weight_of(alloc, part.delimiter, part.weight, row)? else {
+    let Some(weight) = row_weight(alloc, part, row, bad)? else {
         return Err(bad_field(
             alloc,
             weight_field(part.delimiter, part.weight, row),
@@ -88,6 +95,23 @@ fn add_item(
         ));
     };
     add_field(alloc, sketch, field, weight)
+}
+
+/// Returns the weight that counts of a record that has an item, or `None` if it has none. Increments `bad` if it has none and this is no
+/// error.
+#[inline(always)]
+fn row_weight(
+    alloc: Global,
+    part: CsvPart,
+    row: &[u8],
+    bad: &mut u64,
+) -> Result<Option<u64>, AllocError>
+    ensures { IfOk result (λ weight. weight ≡ csv_weight part row.now) }
+{
+    match weight_of(alloc, part.delimiter, part.weight, row)? {
+        Some(weight) => Ok(Some(weight)),
+        None => Ok(taken_weight(part.unweighed, bad)),
+    }
 }
 
 /// Returns the weight of a record: 1, or the whole number that a field spells. Returns `None` if the record has no such field, or if

@@ -1,8 +1,8 @@
 //! Options of records and their fields.
 use crate::item_weigher::WeighedRecord;
-use crate::options::field_between;
+use crate::options::{delimiter_of, field_between};
 use crate::selection::Selection;
-use crate::weighing::{WeighedPart, Weighing};
+use crate::weighing::{Unweighed, WeighedPart, Weighing};
 use clap::{Arg, ArgAction, ArgMatches, Command};
 use sketch_base::records::{Part, RecordPart, number_of};
 use std::alloc::{AllocError, Global};
@@ -17,6 +17,9 @@ const BAD_CSV_DELIMITER: &str =
 /// The message of a field that is not allowed.
 const BAD_FIELD: &str =
     "--field, --weight and --keys-field must be numbers from 1 to 4294967295, or with --csv names";
+
+/// The message of an option for bad weights that is not allowed.
+const BAD_UNWEIGHED: &str = "--bad-weight must be skip or 0";
 
 /// The message of a delimiter without a field.
 const LONE_DELIMITER: &str = "--delimiter needs a field";
@@ -42,6 +45,8 @@ pub struct CsvOptions<'a> {
     pub header: bool,
     pub item: Column<'a>,
     pub weight: Option<Column<'a>>,
+    /// What is done with a record that has an item and no weight.
+    pub unweighed: Unweighed,
 }
 
 /// Adds the options that choose a field of a line or of a record of CSV.
@@ -62,7 +67,7 @@ pub fn with_fields<'a>(alloc: Global, command: Command<'a>) -> Result<Command<'a
                     .short('d')
                     .long("delimiter")
                     .value_name("C")
-                    .help("Takes fields between single characters C of ASCII"),
+                    .help("Takes fields between single characters C of ASCII; \\t is a tab"),
             )?
             .arg(
                 Arg::new(alloc, "csv")
@@ -91,6 +96,33 @@ pub fn with_weight<'a>(alloc: Global, command: Command<'a>) -> Result<Command<'a
                 "Weighs the item of each line by the whole number in field N; with --csv N may be a name",
             ),
     )?)
+}
+
+/// Adds the option of what is done with a line that has no weight.
+pub fn with_bad_weight<'a>(alloc: Global, command: Command<'a>) -> Result<Command<'a>, AllocError> {
+    Ok(command.arg(
+        Arg::new(alloc, "bad-weight")
+            .long("bad-weight")
+            .value_name("WHAT")
+            .requires_arg("weight")?
+            .help(
+                "With skip or 0, takes a weight that is no whole number as 0, and notes how many there are; else it is an error",
+            ),
+    )?)
+}
+
+/// Returns what the options want to be done with a line that has no weight.
+///
+/// # Errors
+///
+/// Returns a message if the option is wrong.
+pub fn unweighed_of(matches: &ArgMatches<'_>) -> Result<Unweighed, &'static str> {
+    match matches.get_str("bad-weight") {
+        None => Ok(Unweighed::Fails),
+        Some("skip") => Ok(Unweighed::IsZero),
+        Some("0") => Ok(Unweighed::IsZero),
+        Some(_) => Err(BAD_UNWEIGHED),
+    }
 }
 
 /// Returns how the options want CSV to be read, or `None` if they want lines. `item` and `weight` are the options of columns.
@@ -125,6 +157,7 @@ pub fn csv_options<'a>(
         header,
         item,
         weight,
+        unweighed: unweighed_of(matches)?,
     }))
 }
 
@@ -152,10 +185,8 @@ fn csv_delimiter_of(text: Option<&str>) -> Option<u8> {
     let Some(text) = text else {
         return Some(b',');
     };
-    match text.as_bytes() {
-        [byte] if byte.is_ascii() && *byte != b'"' && *byte != b'\n' && *byte != b'\r' => {
-            Some(*byte)
-        }
+    match delimiter_of(text) {
+        Some(byte) if byte != b'"' && byte != b'\n' && byte != b'\r' => Some(byte),
         _ => None,
     }
 }
@@ -205,7 +236,11 @@ pub fn weighing_of(matches: &ArgMatches<'_>) -> Result<Weighing, &'static str> {
         }));
     }
     let weight = line_part(matches, "weight")?;
-    Ok(Weighing::Field(WeighedPart { item, weight }))
+    Ok(Weighing::Field(WeighedPart {
+        item,
+        weight,
+        unweighed: unweighed_of(matches)?,
+    }))
 }
 
 /// Returns the part of a line that is its item and the part with its weight, as the options choose.

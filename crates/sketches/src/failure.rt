@@ -23,7 +23,7 @@ pub enum Failure {
 /// A line that has no weight.
 #[derive(Debug, Drop)]
 pub struct BadWeight {
-    /// The number of the line in its input, counted from 1.
+    /// The number of the line in its input, counted from 1, or of the first line of a record. The lines of a header are not counted.
     pub line: u64,
     /// What stands in place of the weight, cut and without control characters.
     pub text: String,

@@ -7,6 +7,7 @@ use crate::file_sizes::size_of_file;
 use crate::inputs::Inputs;
 use crate::progress::Progress;
 use crate::weighing::CsvPart;
+use crate::words::{is_marked, shown};
 use std::alloc::AllocError;
 use std::fs::File;
 use std::io;
@@ -78,10 +79,12 @@ pub struct Files<'r, 's, 'n> {
     next: usize,
     failed: bool,
     done: bool,
-    /// The columns, if the first record of each file is a header.
+    /// The columns, if CSV is read.
     columns: Option<Columns<'n>>,
-    /// The first file, if its header was read.
+    /// The first file, if it was opened for its header.
     first: Option<AfterHeader>,
+    /// How many lines the header of the file has that was opened last.
+    header_lines: u64,
     /// How much was read of the files before the next one, if it is shown.
     progress: Option<Progress<'r>>,
 }
@@ -97,6 +100,7 @@ impl<'r, 's, 'n> Files<'r, 's, 'n> {
             done: false,
             columns: None,
             first: None,
+            header_lines: 0,
             progress: None,
         }
     }
@@ -116,21 +120,15 @@ impl<'r, 's, 'n> Files<'r, 's, 'n> {
         Opened { source, progress }
     }
 
-    /// Returns the fields of CSV that the options choose, and has each file read after its header, if there is one. Names are those of
-    /// the first file that can be read. Returns `None` after a message if it does not have them.
+    /// Returns the fields of CSV that the options choose, and has each file read after its byte order mark and its header, if it has
+    /// them. Names are those of the first file that can be read. Returns `None` after a message if it does not have them.
     ///
     /// `limit` is the maximum number of bytes of a header.
     pub fn columns(&mut self, options: CsvOptions<'n>, limit: usize) -> Option<CsvPart> {
-        if !options.header {
-            return Some(CsvPart {
-                delimiter: options.delimiter,
-                item: index_of(options.item),
-                weight: options.weight.map(|column| index_of(column)),
-            });
-        }
-        let part = match self.first_header(options.delimiter, limit)? {
+        let part = match self.first_header(options, limit)? {
             FirstHeader::Read(headed, input) => {
                 let part = self.part_of(&headed, options);
+                self.header_lines = headed.lines();
                 self.first = Some(headed.into_rest(input));
                 part?
             }
@@ -138,6 +136,7 @@ impl<'r, 's, 'n> Files<'r, 's, 'n> {
                 delimiter: options.delimiter,
                 item: 0,
                 weight: None,
+                unweighed: options.unweighed,
             },
         };
         self.columns = Some(Columns {
@@ -148,13 +147,13 @@ impl<'r, 's, 'n> Files<'r, 's, 'n> {
         Some(part)
     }
 
-    /// Returns the header of the first file that can be read, with its end, if headers are read and no record was. Returns no bytes
+    /// Returns the byte order mark and the header of the first file that can be read, if CSV is read and no record was. Returns no bytes
     /// if not. A header without a line feed at its end gets one.
     pub fn header(&self) -> Result<Vec<u8>, AllocError> {
         let mut header = Vec::new(self.rt.alloc());
         if let Some(first) = &self.first {
             header.extend_from_slice(first.header())?;
-            if header.last().is_some_and(|byte| *byte != b'\n') {
+            if first.has_header() && header.last().is_some_and(|byte| *byte != b'\n') {
                 header.push(b'\n')?;
             }
         }
@@ -162,11 +161,11 @@ impl<'r, 's, 'n> Files<'r, 's, 'n> {
     }
 
     /// Opens the first file that can be read, and reads its header. Returns `None` after a message if the header is too long.
-    fn first_header(&mut self, delimiter: u8, limit: usize) -> Option<FirstHeader> {
+    fn first_header(&mut self, options: CsvOptions<'n>, limit: usize) -> Option<FirstHeader> {
         let names = self.names;
         for at in self.next..names.len() {
             self.next = at + 1;
-            match open_headed(self.rt, names[at], delimiter, limit) {
+            match open_headed(self.rt, names[at], options, limit) {
                 Ok((headed, input)) => return Some(FirstHeader::Read(headed, input)),
                 Err(error) => {
                     let is_long = error.kind() == ErrorKind::InvalidData;
@@ -191,6 +190,7 @@ impl<'r, 's, 'n> Files<'r, 's, 'n> {
             delimiter: options.delimiter,
             item,
             weight,
+            unweighed: options.unweighed,
         })
     }
 
@@ -253,10 +253,11 @@ impl<'r, 's, 'n> Files<'r, 's, 'n> {
         let Some(columns) = self.columns else {
             return Ok(Some(Source::Whole(open(self.rt, name)?)));
         };
-        let (headed, input) = open_headed(self.rt, name, columns.options.delimiter, columns.limit)?;
+        let (headed, input) = open_headed(self.rt, name, columns.options, columns.limit)?;
         if !self.has_columns(&headed, columns) {
             return Ok(None);
         }
+        self.header_lines = headed.lines();
         Ok(Some(Source::AfterHeader(headed.into_rest(input))))
     }
 
@@ -265,12 +266,17 @@ impl<'r, 's, 'n> Files<'r, 's, 'n> {
         self.names
     }
 
-    /// Returns the name of the file that was opened last.
+    /// Returns the name of the file that was opened last, as messages show it.
     pub fn current(&self) -> &'n str {
         match self.names.get(self.next.saturating_sub(1)) {
-            Some(name) => *name,
+            Some(name) => shown(*name),
             None => "-",
         }
+    }
+
+    /// Returns the number of lines of the header of the file that was opened last.
+    pub fn header_lines(&self) -> u64 {
+        self.header_lines
     }
 
     /// Returns whether no file is left.
@@ -289,18 +295,28 @@ pub fn open(rt: &HostRuntime, name: &str) -> io::Result<Input> {
     if name == "-" {
         return Ok(Input::Stdin(rt.stdin()));
     }
+    if is_marked(name) {
+        let message = "the name is not UTF-8: read the file by < FILE";
+        return Err(io::Error::new(ErrorKind::InvalidInput, message));
+    }
     Ok(Input::File(File::open(rt, name)?))
 }
 
-/// Opens a file and reads its header.
+/// Opens a file and reads its header, if it has one.
 fn open_headed(
     rt: &HostRuntime,
     name: &str,
-    delimiter: u8,
+    options: CsvOptions<'_>,
     limit: usize,
 ) -> io::Result<(Headed, Input)> {
     let mut input = open(rt, name)?;
-    let headed = Headed::read(rt.alloc(), &mut input, delimiter, limit)?;
+    let headed = Headed::read(
+        rt.alloc(),
+        &mut input,
+        options.delimiter,
+        limit,
+        options.header,
+    )?;
     Ok((headed, input))
 }
 
@@ -309,14 +325,6 @@ fn name_of<'a>(column: Column<'a>) -> &'a str {
     match column {
         Column::Index(_) => "",
         Column::Name(name) => name,
-    }
-}
-
-/// Returns the index of a column that is not named.
-fn index_of(column: Column<'_>) -> u32 {
-    match column {
-        Column::Index(index) => index,
-        Column::Name(_) => 0,
     }
 }
 

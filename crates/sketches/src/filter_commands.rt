@@ -11,8 +11,10 @@ use crate::join::{JoinFailure, JoinOptions, join};
 use crate::keyed_options::{open_keys, reads_input_twice};
 use crate::keys::{key_of, seed_of};
 use crate::line_count::count_lines;
+use crate::output::Watched;
 use crate::record_options::weighed_record;
 use crate::state_file::StateFile;
+use crate::terminal::StandardOutput;
 use crate::uniq::{Summary, UniqOptions, uniq, uniq_after};
 use crate::{ERROR, STANDARD_INPUT, end, fail, max_line_of, message_of, number_of};
 use clap::ArgMatches;
@@ -56,7 +58,7 @@ pub fn run_uniq(rt: &HostRuntime, matches: &ArgMatches<'_>) -> u8 {
             seed,
             &header,
             &mut files,
-            &mut rt.stdout(),
+            &mut Watched::new(StandardOutput::new(rt)),
         );
         return match ended(rt, matches, &files, result) {
             Ok((_, status)) => status,
@@ -84,7 +86,14 @@ fn uniq_from(
         Ok(state) => state,
         Err(status) => return status,
     };
-    let outcome = uniq_after(rt.alloc(), options, filter, header, files, &mut rt.stdout());
+    let outcome = uniq_after(
+        rt.alloc(),
+        options,
+        filter,
+        header,
+        files,
+        &mut Watched::new(StandardOutput::new(rt)),
+    );
     let status = match ended(rt, matches, files, outcome) {
         Ok((filter, status)) => { if state.save(&filter) { status } else { ERROR } }
         Err(status) => status,
@@ -221,7 +230,7 @@ pub fn run_join(rt: &HostRuntime, matches: &ArgMatches<'_>) -> u8 {
         &mut keys,
         &header,
         &mut files,
-        &mut rt.stdout(),
+        &mut Watched::new(StandardOutput::new(rt)),
     ) {
         Ok(summary) => {
             let what = "other items is taken for a key";

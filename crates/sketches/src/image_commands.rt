@@ -1,12 +1,14 @@
 //! Runs the commands over images.
-use crate::files::open;
 use crate::image_file::ImageFile;
 use crate::image_files::ImageFiles;
+use crate::image_input::ImageInput;
 use crate::images::ImageFailure;
 use crate::keys::key_of;
 use crate::merge::{MergeOptions, merge};
+use crate::output::Watched;
 use crate::shared_options::{BAD_THRESHOLD, layout_of, rows_of, threshold_of};
 use crate::show::show;
+use crate::terminal::StandardOutput;
 use crate::{ERROR, end_of_output, fail, fail_at, fail_inexact, message_of, number_of};
 use clap::ArgMatches;
 use sketch_frequencies::{FrequentItemsImageOptions, TableKey};
@@ -39,7 +41,7 @@ pub fn run_merge(rt: &HostRuntime, matches: &ArgMatches<'_>) -> u8 {
         options,
         &mut images,
         &mut image,
-        &mut rt.stdout(),
+        &mut Watched::new(StandardOutput::new(rt)),
     ) {
         Ok(None) => 0,
         Ok(Some(error)) => fail_inexact(rt, error),
@@ -56,7 +58,14 @@ pub fn run_show(rt: &HostRuntime, matches: &ArgMatches<'_>) -> u8 {
     };
     let name = matches.get_str("image").unwrap_or("-");
     let seed = matches.get_one::<u64>("seed").unwrap_or(0);
-    match show(rt.alloc(), &options, seed, open(rt, name), &mut rt.stdout()) {
+    let image = ImageInput::open(rt, name);
+    match show(
+        rt.alloc(),
+        &options,
+        seed,
+        image,
+        &mut Watched::new(StandardOutput::new(rt)),
+    ) {
         Ok(()) => 0,
         Err(failure) => end(rt, failure, name),
     }

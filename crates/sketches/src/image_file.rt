@@ -1,5 +1,6 @@
 //! The file that keeps the image of a run's sketch.
-ghost use Rattle.std.specs.Prelude.{◌≡◌, IfSome};
+ghost use Rattle.std.specs.Prelude.{◌≡◌, ◌⊎◌, ℕ, List, Option, IfErr, IfSome, OnOk};
+ghost use Rattle.sketches.specs.SaveFailures.{IsWriteFailure};
 
 use crate::image_place::{replace, target_of};
 use crate::save::{Keeper, SaveFailure, write_filter, write_image};
@@ -11,17 +12,34 @@ use std::rt::Files;
 
 /// A value that is saved as an image.
 pub trait Saved {
+    // A writer received an image of the value: what it held before, and after.
+    ghost writes: { Self → Option (List ℕ) → Option (List ℕ) → Type 0 };
+
     /// Writes an image of the value.
-    fn write<W: Write>(&self, writer: &mut W) -> Result<(), SaveFailure>;
+    ///
+    /// # Errors
+    ///
+    /// Returns `Write` if the writer fails. Otherwise the writer is not called.
+    fn write<W: Write>(&self, writer: &mut W) -> Result<(), SaveFailure>
+        ensures image { OnOk result (writes self.now (W.contents writer.old) (W.contents writer.new)) }
+        ensures unwritten { IfErr result (λ failure. IsWriteFailure failure ⊎ (writer.new ≡ writer.old)) };
 }
 
 impl Saved for FrequentItemsSketch<String> {
+    ghost use Rattle.sketches.specs.Images.{WritesImage};
+
+    ghost writes = { λ s held holds. WritesImage s held holds };
+
     fn write<W: Write>(&self, writer: &mut W) -> Result<(), SaveFailure> {
         write_image(self, writer)
     }
 }
 
 impl Saved for BloomFilter {
+    ghost use Rattle.sketches.specs.FilterImages.{WritesFilter};
+
+    ghost writes = { λ filter held holds. WritesFilter filter held holds };
+
     fn write<W: Write>(&self, writer: &mut W) -> Result<(), SaveFailure> {
         write_filter(self, writer)
     }

@@ -1,7 +1,7 @@
 //! Files that hold images.
 ghost use Rattle.sketches.specs.Images.{OpensImage};
 
-use crate::files::{Input, open};
+use crate::image_input::ImageInput;
 use crate::images::Images;
 use std::io;
 
@@ -29,11 +29,11 @@ impl<'a> ImageFiles<'a> {
 }
 
 impl<'a> Images for ImageFiles<'a> {
-    type Reader = Input;
+    type Reader = ImageInput;
 
-    fn next(&mut self) -> Option<io::Result<Input>> {
+    fn next(&mut self) -> Option<io::Result<ImageInput>> {
         let name = self.names.get(self.next)?;
         self.next += 1;
-        Some(open(self.rt, name))
+        Some(ImageInput::open(self.rt, name))
     }
 }

@@ -1,9 +1,10 @@
 //! Where an image is saved: beside its file, under a name that no other file has, and then renamed.
 use crate::image_file::Saved;
 use crate::save::SaveFailure;
-use std::fs::{File, Permissions};
+use crate::stale_images::remove_stale;
+use std::fs::{File, Permissions, TryLockError};
 use std::io::ErrorKind;
-use std::os::unix::fs::OpenOptionsExt;
+use std::os::unix::fs::{MetadataExt, OpenOptionsExt};
 use std::path::Path;
 use std::random::RandomSource;
 use std::rt::Files;
@@ -57,7 +58,8 @@ pub fn replace<S: Saved>(rt: &HostRuntime, value: &S, name: &str) -> Result<(), 
     saved
 }
 
-/// Creates a file beside another one, under a new name: never over a file, and never through a link.
+/// Creates a file beside another one, under a new name: never over a file, and never through a link. Locks it, so that no other run
+/// takes it for one that a run has left. Removes such files.
 pub fn create_beside(rt: &HostRuntime, name: &str, is_private: bool) -> io::Result<(File, String)> {
     let mode = if is_private { PRIVATE } else { DEFAULT };
     for _ in 0..MAX_TRIES {
@@ -68,12 +70,33 @@ pub fn create_beside(rt: &HostRuntime, name: &str, is_private: bool) -> io::Resu
             .mode(mode)
             .open(rt, from.as_str());
         match created {
-            Ok(file) => return Ok((file, from)),
+            Ok(file) if is_ours(rt, &file, from.as_str()) => {
+                remove_stale(rt, name, &file);
+                return Ok((file, from));
+            }
+            Ok(_) => continue,
             Err(error) if error.kind() == ErrorKind::AlreadyExists => continue,
             Err(error) => return Err(error),
         }
     }
     Err(io::Error::from(ErrorKind::AlreadyExists))
+}
+
+/// Locks a new file. Returns whether no other run took it before. A file system without locks has no run that does.
+fn is_ours(rt: &HostRuntime, file: &File, name: &str) -> bool {
+    match file.try_lock() {
+        Ok(()) => has_name(rt, file, name),
+        Err(TryLockError::WouldBlock) => false,
+        Err(TryLockError::Error(_)) => true,
+    }
+}
+
+/// Returns whether an open file still has its name: another run may have removed or replaced it before it was locked.
+pub fn has_name(rt: &HostRuntime, file: &File, name: &str) -> bool {
+    match (file.metadata(), rt.metadata(name)) {
+        (Ok(open), Ok(named)) => open.dev() == named.dev() && open.ino() == named.ino(),
+        _ => false,
+    }
 }
 
 /// Returns a name with random digits after another one.

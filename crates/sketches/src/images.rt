@@ -44,7 +44,7 @@ pub enum ImageFailure {
     Write(io::Error),
 }
 
-/// Reads an image whole, and returns its sketch.
+/// Reads an image whole, and returns its sketch, whose table hashes under the key of the options.
 ///
 /// # Errors
 ///
@@ -57,8 +57,9 @@ pub fn read_image<R: Read + Drop>(
     options: &FrequentItemsImageOptions,
     opened: io::Result<R>,
 ) -> Result<FrequentItemsSketch<String>, ImageFailure>
-    ensures { (image : List ℕ) → IsOpened R.remaining image opened
+    ensures read { (image : List ℕ) → IsOpened R.remaining image opened
         → MatchResult result (Loads options.now.max_bytes image) (IsRejected options.now.max_bytes image) }
+    ensures key { IfOk result (λ sketch. sketch.key ≡ options.now.key) }
 {
     let image = match read_opened(alloc, options.max_bytes, opened) {
         Ok(image) => image,
@@ -111,14 +112,15 @@ fn read_bytes<R: Read + Drop>(
     }
 }
 
-/// Returns the sketch of an image.
+/// Returns the sketch of an image. Its table hashes under the key of the options.
 pub fn load(
     alloc: Global,
     options: FrequentItemsImageOptions,
     image: &[u8],
 ) -> Result<FrequentItemsSketch<String>, ImageFailure>
     requires { length image.now ≤ options.max_bytes }
-    ensures { MatchResult result (Loads options.max_bytes image.now) (IsBadImage options.max_bytes image.now) }
+    ensures loaded { MatchResult result (Loads options.max_bytes image.now) (IsBadImage options.max_bytes image.now) }
+    ensures key { IfOk result (λ sketch. sketch.key ≡ options.key) }
 {
     let read = FrequentItemsSketch::<String>::deserialize_prefix(alloc, image, options);
     match read {

@@ -43,7 +43,7 @@ pub fn read_inputs<I: Inputs, O, S: LineSink<O>>(
 ) -> Result<bool, Failure>
     ensures taken { IfOk result (λ complete.
         TakesInputs (S.splits sink.old) S.takes (I.inputs inputs.old) complete (sink.old, output.old) (sink.new, output.new)) }
-    ensures failed { IfErr result (FailsInputs (S.splits sink.old) S.takes S.fails limit (I.inputs inputs.old) (sink.old, output.old)) }
+    ensures failed { IfErr result (FailsInputs (S.splits sink.old) S.takes S.fails limit (I.inputs inputs.old) (sink.old, output.old) (sink.new, output.new)) }
 {
     let mut complete = true;
     'each: for _ in 0..u64::MAX {
@@ -68,7 +68,7 @@ fn read_input<R: Read, O, S: LineSink<O>>(
     ensures taken { IfOk result (λ failure.
         TakesInput (S.splits sink.old) S.takes (R.remaining reader.old) failure (sink.old, output.old) (sink.new, output.new)) }
     ensures same { OnOk result (S.splits sink.new ≡ S.splits sink.old) }
-    ensures failed { IfErr result (FailsInput (S.splits sink.old) S.fails limit (R.remaining reader.old) (sink.old, output.old)) }
+    ensures failed { IfErr result (FailsInput (S.splits sink.old) S.takes S.fails limit (R.remaining reader.old) (sink.old, output.old) (sink.new, output.new)) }
 {
     sink.begin();
     read_lines(alloc, sink, output, reader, buffer, limit)

@@ -5,6 +5,7 @@ ghost use Rattle.sketch_base.specs.Records.{records_by};
 ghost use Rattle.sketches.specs.Failures.{IsBadWeight};
 ghost use Rattle.sketches.specs.WeighFailures.{FailsCounting, FailsLines};
 
+use crate::csv_header::line_feeds;
 use crate::failure::Failure;
 use crate::line_sink::LineSink;
 use crate::raw_item::RawItem;
@@ -26,7 +27,7 @@ pub struct WeighedRecord {
 pub struct ItemWeigher {
     pub sketch: CountMinSketch<u64>,
     pub chosen: WeighedRecord,
-    /// The number of records of this input that were taken.
+    /// The number of lines of this input that were taken.
     pub count: u64,
 }
 
@@ -41,7 +42,7 @@ impl LineSink<()> for ItemWeigher {
     ghost takes = { λ old bytes new. CountsLines old.0.chosen old.0.sketch (records_by old.0.chosen.item bytes) new.0.sketch
         × (new.0.chosen ≡ old.0.chosen) };
 
-    ghost fails = { λ old bytes failure. FailsLines old.0.chosen old.0.sketch (records_by old.0.chosen.item bytes) failure };
+    ghost fails = { λ old bytes new failure. FailsLines old.0.chosen old.0.sketch (records_by old.0.chosen.item bytes) failure };
 
     ghost takes_same = { λ r s xs taken. ap (λ (p : WeighedRecord). splits_by p.item) taken.1 };
 
@@ -50,9 +51,9 @@ impl LineSink<()> for ItemWeigher {
     ghost takes_both = { λ r s t xs ys whole. counts_both r.0.chosen xs ys whole
         r.0.sketch s.0.sketch t.0.sketch s.0.chosen t.0.chosen };
 
-    ghost fails_sooner = { λ r xs ys e whole. counts_sooner r.0.chosen xs ys whole r.0.sketch e };
+    ghost fails_sooner = { λ r t xs ys e whole. counts_sooner r.0.chosen xs ys whole r.0.sketch e };
 
-    ghost fails_later = { λ r s xs ys e whole. counts_later r.0.chosen xs ys whole r.0.sketch s.0.sketch s.0.chosen e };
+    ghost fails_later = { λ r s t xs ys e whole. counts_later r.0.chosen xs ys whole r.0.sketch s.0.sketch s.0.chosen e };
 
     fn records(&self) -> Records {
         self.chosen.item.records()
@@ -67,11 +68,11 @@ impl LineSink<()> for ItemWeigher {
     }
 }
 
-/// Adds the item of each record of bytes with the weight of the record. Increments `count` for each record.
+/// Adds the item of each record of bytes with the weight of the record. Adds to `count` the number of lines of each record.
 ///
 /// # Errors
 ///
-/// Returns `BadWeight` at the first record with an item and without a weight, which has the number `count`. Returns `TooManyItems`
+/// Returns `BadWeight` at the first record with an item and without a weight, with the number of its first line. Returns `TooManyItems`
 /// if the total would exceed `u64::MAX`, and `Memory` if an allocation fails.
 fn add_lines(
     alloc: Global,
@@ -88,9 +89,20 @@ fn add_lines(
         let Some((row, after)) = next_record(chosen.item, rest) else {
             return Ok(());
         };
-        *count = count.saturating_add(1);
-        add_line(alloc, sketch, chosen, row, *count)?;
+        add_line(alloc, sketch, chosen, row, count.saturating_add(1))?;
+        *count = count.saturating_add(lines_between(chosen.item, rest, after));
         rest = after;
+    }
+}
+
+/// Returns the number of lines of the first record of bytes, of which others are left after it.
+fn lines_between(part: RecordPart, bytes: &[u8], after: &[u8]) -> u64 {
+    match part {
+        RecordPart::Line(_) => 1,
+        RecordPart::Csv(_) => {
+            let len = bytes.len().saturating_sub(after.len());
+            line_feeds(bytes.get(..len).unwrap_or(bytes))
+        }
     }
 }
 

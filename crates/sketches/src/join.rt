@@ -1,9 +1,9 @@
 //! The records of inputs whose items are in a file of keys.
-ghost use Rattle.std.specs.Prelude.{◌≡◌, IfErr, IfOk, IfSome, IsErrOf};
+ghost use Rattle.std.specs.Prelude.{◌≡◌, ◌⊎◌, IfErr, IfOk, IfSome, IsErrOf};
 ghost use Rattle.sketch_bloom.specs.State.{FilterState};
 ghost use Rattle.sketches.specs.FilterSizes.{HasNoSize, IsFilterOf};
 ghost use Rattle.sketches.specs.JoinFailures.{FailsInsertion, FailsJoin, IsOfKeys};
-ghost use Rattle.sketches.specs.Joined.{WritesJoined, keys_of};
+ghost use Rattle.sketches.specs.Joined.{WritesJoined, WritesSomeJoined, keys_of};
 ghost use Rattle.sketches.specs.Unseen.{with_items};
 
 use crate::ended_text::EndedText;
@@ -13,12 +13,13 @@ use crate::header::write_header;
 use crate::inputs::{Inputs, read_inputs};
 use crate::joined::JoinedLines;
 use crate::key_lines::KeyLines;
+use crate::output::Output;
 use crate::reading::{BLOCK, read_lines};
 use sketch_base::records::RecordPart;
 use sketch_bloom::BloomFilter;
 use std::alloc::Global;
 use std::io;
-use std::io::{Read, Write};
+use std::io::Read;
 
 /// Which records are written, and the filter of the keys.
 #[derive(Clone, Copy)]
@@ -70,8 +71,8 @@ pub enum JoinFailure {
 /// Returns `Unread` if a read of the keys fails. Returns `Keys` with `BadSize` if a filter of this size is not allowed, with
 /// `LineTooLong` if a record of the keys exceeds the limit, and with `Memory` if an allocation fails. Then no input is read and nothing
 /// is written, and after `BadSize` no key is read. Returns `Lines` with `LineTooLong` if a record exceeds the limit, with `Memory` if
-/// an allocation fails, and with `Write` if the writer fails. Records before may have been written.
-pub fn join<K: Read, I: Inputs, W: Write>(
+/// an allocation fails, and with `Write` if a write fails. Then the output has the front of what would be written.
+pub fn join<K: Read, I: Inputs, W: Output>(
     alloc: Global,
     options: JoinOptions,
     keys: &mut K,
@@ -80,11 +81,14 @@ pub fn join<K: Read, I: Inputs, W: Write>(
     writer: &mut W,
 ) -> Result<JoinSummary, JoinFailure>
     ensures written { IfOk result (λ summary. (filter : FilterState) × IsFilterOf options.size options.seed filter
-        × IfSome (K.remaining keys.old) (λ bytes. IfSome (I.inputs inputs.old) (λ all. WritesJoined options.wanted options.part header.now filter
+        × IfSome (K.remaining keys.old) (λ bytes. IfSome (I.inputs inputs.old) (λ all. WritesJoined options.wanted options.part header.now filter summary.filter
         (keys_of options.keys_part bytes) all summary.complete (W.contents writer.old) (W.contents writer.new)))) }
 
     // When each error comes, and what it leaves unchanged.
-    ensures failed { IfErr result (FailsJoin options (K.remaining keys.old) (I.inputs inputs.old)) }
+    ensures failed { IfErr result (FailsJoin options (K.remaining keys.old) (I.inputs inputs.old) (W.has_failed writer.new)) }
+    ensures front { IfErr result (λ failure. (writer.new ≡ writer.old) ⊎ ((filter : FilterState) × IsFilterOf options.size options.seed filter
+        × IfSome (K.remaining keys.old) (λ bytes. IfSome (I.inputs inputs.old) (λ all. WritesSomeJoined options.wanted options.part header.now
+        filter (keys_of options.keys_part bytes) all (W.contents writer.old) (W.contents writer.new))))) }
     ensures bad_size { HasNoSize options.size → IsErrOf result (JoinFailure.Keys Failure.BadSize) }
     ensures unread_keys { IsErrOf result (JoinFailure.Keys Failure.BadSize) → keys.new ≡ keys.old }
     ensures unread { IfErr result (λ failure. IsOfKeys failure → (inputs.new ≡ inputs.old) × (writer.new ≡ writer.old)) }

@@ -2,7 +2,8 @@
 ghost use Rattle.std.specs.Prelude.{◌≡◌, ◌≤◌, Some, IfErr, OnOk, length, map};
 ghost use Rattle.sketch_base.specs.Strings.{strings_at};
 ghost use Rattle.sketch_bloom.specs.State.{contains_item};
-ghost use Rattle.sketches.specs.EndedText.{Prints};
+ghost use Rattle.sketches.specs.EndedText.{Prints, text_of};
+ghost use Rattle.sketches.specs.Outputs.{WritesFront};
 ghost use Rattle.sketches.specs.Joined.{joined_lines};
 ghost use Rattle.sketches.specs.RecordParts.{raws_by};
 ghost use Rattle.sketches.specs.Unseen.{hashed, written_by};
@@ -13,11 +14,11 @@ use crate::ended_text::EndedText;
 use crate::failure::Failure;
 use crate::line_items::contains_record;
 use crate::line_sink::LineSink;
+use crate::output::Output;
 use sketch_base::Strs;
 use sketch_base::records::{RecordPart, Records};
 use sketch_bloom::BloomFilter;
 use std::alloc::Global;
-use std::io::Write;
 
 /// Writes the records whose items the filter contains, or, unless `wanted`, the others.
 #[derive(Drop)]
@@ -31,10 +32,10 @@ pub struct JoinedLines {
     pub written: EndedText,
 }
 
-impl<W: Write> LineSink<W> for JoinedLines {
+impl<W: Output> LineSink<W> for JoinedLines {
     ghost use Rattle.std.proofs.Common.{ap};
     ghost use Rattle.sketch_base.specs.Records.{splits_by};
-    ghost use Rattle.sketches.specs.JoinedLaws.{lines_none, lines_both};
+    ghost use Rattle.sketches.specs.JoinedLaws.{lines_none, lines_both, front_sooner, front_later};
     ghost use Rattle.sketches.specs.Failures.{FailsWriting};
 
     ghost splits = { λ s. splits_by s.part };
@@ -42,7 +43,8 @@ impl<W: Write> LineSink<W> for JoinedLines {
     ghost takes = { λ old bytes new. Prints (W.contents old.1) (W.contents new.1) old.0.written.unended new.0.written.unended (joined_lines old.0.wanted old.0.part old.0.filter (raws_by old.0.part bytes))
         × (new.0.filter ≡ old.0.filter) × (new.0.part ≡ old.0.part) × (new.0.wanted ≡ old.0.wanted) };
 
-    ghost fails = { λ old bytes failure. FailsWriting failure };
+    ghost fails = { λ old bytes new failure. FailsWriting (W.has_failed new.1) failure
+        × WritesFront (W.contents old.1) (W.contents new.1) (text_of old.0.written.unended (joined_lines old.0.wanted old.0.part old.0.filter (raws_by old.0.part bytes))) };
 
     ghost takes_same = { λ r s xs taken. ap splits_by taken.2 };
 
@@ -51,9 +53,13 @@ impl<W: Write> LineSink<W> for JoinedLines {
     ghost takes_both = { λ r s t xs ys whole. lines_both xs ys r.0.wanted r.0.part whole s.0.wanted s.0.part t.0.wanted t.0.part
         r.0.filter s.0.filter t.0.filter (W.contents r.1) (W.contents s.1) (W.contents t.1) r.0.written.unended s.0.written.unended t.0.written.unended };
 
-    ghost fails_sooner = { λ r xs ys e whole fails. fails };
+    ghost fails_sooner = { λ r t xs ys e whole fails. (fails.0, front_sooner xs ys r.0.wanted r.0.part whole r.0.filter (W.contents r.1) (W.contents t.1) r.0.written.unended fails.1) };
 
-    ghost fails_later = { λ r s xs ys e whole takes fails. fails };
+    ghost fails_later = { λ r s t xs ys e whole takes fails. (
+      fails.0,
+      front_later xs ys r.0.wanted r.0.part whole s.0.wanted s.0.part
+          r.0.filter s.0.filter (W.contents r.1) (W.contents s.1) (W.contents t.1) r.0.written.unended s.0.written.unended takes fails.1,
+    ) };
 
     fn records(&self) -> Records {
         self.part.records()

@@ -30,7 +30,7 @@ impl LineSink<()> for KeyLines {
 
     ghost takes = { λ old bytes new. (new.0.filter ≡ with_lines old.0.part old.0.filter (raws_by old.0.part bytes)) × (new.0.part ≡ old.0.part) };
 
-    ghost fails = { λ old bytes failure. failure ≡ Memory };
+    ghost fails = { λ old bytes new failure. failure ≡ Memory };
 
     ghost takes_same = { λ r s xs taken. ap splits_by taken.1 };
 
@@ -38,9 +38,9 @@ impl LineSink<()> for KeyLines {
 
     ghost takes_both = { λ r s t xs ys whole. key_lines_both xs ys r.0.part s.0.part t.0.part whole r.0.filter s.0.filter t.0.filter };
 
-    ghost fails_sooner = { λ r xs ys e whole fails. fails };
+    ghost fails_sooner = { λ r t xs ys e whole fails. fails };
 
-    ghost fails_later = { λ r s xs ys e whole takes fails. fails };
+    ghost fails_later = { λ r s t xs ys e whole takes fails. fails };
 
     fn records(&self) -> Records {
         self.part.records()

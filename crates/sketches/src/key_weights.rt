@@ -3,10 +3,11 @@ ghost use Rattle.std.specs.Prelude.{◌≡◌, ◌++◌, Some, OnOk, pos};
 ghost use Rattle.sketch_countmin.specs.State.{IsMinCell};
 ghost use Rattle.sketch_base.specs.Records.{part_in};
 ghost use Rattle.sketches.specs.Unseen.{hashed};
-ghost use Rattle.sketches.specs.KeyWeights.{WritesEstimates, parts_in, row_line};
+ghost use Rattle.sketches.specs.KeyWeights.{WritesEstimates, WritesSomeEstimates, parts_in, row_line};
 
 use crate::failure::Failure;
 use crate::line_sink::LineSink;
+use crate::output::Output;
 use crate::raw_item::RawItem;
 use crate::text_escapes::append_text;
 use sketch_base::from_utf8;
@@ -14,7 +15,6 @@ use sketch_base::records::{RecordPart, Records, next_record, record_part_of};
 use sketch_countmin::CountMinSketch;
 use std::alloc::{AllocError, Global};
 use std::fmt::Write as _;
-use std::io::Write;
 
 /// Writes a line for each key of the records that it takes: its estimate, a tab and the key.
 #[derive(Drop)]
@@ -29,10 +29,10 @@ pub struct KeyWeights {
     pub number: String,
 }
 
-impl<W: Write> LineSink<W> for KeyWeights {
+impl<W: Output> LineSink<W> for KeyWeights {
     ghost use Rattle.std.proofs.Common.{ap};
     ghost use Rattle.sketch_base.specs.Records.{splits_by};
-    ghost use Rattle.sketches.specs.KeyWeightLaws.{keys_none, keys_both};
+    ghost use Rattle.sketches.specs.KeyWeightLaws.{keys_none, keys_both, some_sooner, some_later};
     ghost use Rattle.sketches.specs.Failures.{FailsWriting};
 
     ghost splits = { λ s. splits_by s.part };
@@ -40,7 +40,8 @@ impl<W: Write> LineSink<W> for KeyWeights {
     ghost takes = { λ old bytes new. WritesEstimates old.0.escaped old.0.sketch (parts_in old.0.part bytes) (W.contents old.1) (W.contents new.1)
         × (new.0.sketch ≡ old.0.sketch) × (new.0.part ≡ old.0.part) × (new.0.escaped ≡ old.0.escaped) };
 
-    ghost fails = { λ old bytes failure. FailsWriting failure };
+    ghost fails = { λ old bytes new failure. FailsWriting (W.has_failed new.1) failure
+        × WritesSomeEstimates old.0.escaped old.0.sketch (parts_in old.0.part bytes) (W.contents old.1) (W.contents new.1) };
 
     ghost takes_same = { λ r s xs taken. ap splits_by taken.2 };
 
@@ -49,9 +50,13 @@ impl<W: Write> LineSink<W> for KeyWeights {
     ghost takes_both = { λ r s t xs ys whole. keys_both xs ys r.0.escaped s.0.escaped t.0.escaped r.0.sketch s.0.sketch t.0.sketch
         r.0.part s.0.part t.0.part whole (W.contents r.1) (W.contents s.1) (W.contents t.1) };
 
-    ghost fails_sooner = { λ r xs ys e whole fails. fails };
+    ghost fails_sooner = { λ r t xs ys e whole fails. (fails.0, some_sooner xs ys r.0.escaped r.0.sketch r.0.part whole (W.contents r.1) (W.contents t.1) fails.1) };
 
-    ghost fails_later = { λ r s xs ys e whole takes fails. fails };
+    ghost fails_later = { λ r s t xs ys e whole takes fails. (
+      fails.0,
+      some_later xs ys r.0.escaped s.0.escaped r.0.sketch s.0.sketch r.0.part s.0.part whole
+          (W.contents r.1) (W.contents s.1) (W.contents t.1) takes fails.1,
+    ) };
 
     fn records(&self) -> Records {
         self.part.records()

@@ -7,6 +7,7 @@ use crate::{ERROR, fail, max_line_of};
 use clap::{Arg, ArgMatches, Command};
 use sketch_base::records::RecordPart;
 use std::alloc::{AllocError, Global};
+use std::io::{ErrorKind, Read};
 
 /// Adds the file of keys, and the option that chooses the part of a record of keys.
 pub fn with_keys<'a>(alloc: Global, command: Command<'a>) -> Result<Command<'a>, AllocError> {
@@ -51,8 +52,23 @@ pub fn open_keys<'r, 'n>(
         Err(message) => return Err(fail(rt, message)),
     };
     match files.next() {
-        Some(keys) => Ok((part, keys)),
+        Some(keys) => match readable(&mut files, keys) {
+            Ok(keys) => Ok((part, keys)),
+            Err(status) => Err(status),
+        },
         None => Err(ERROR),
+    }
+}
+
+/// Returns the file of keys if it can be read: a folder can be opened, too. Returns the status after a message if not.
+fn readable<'r>(files: &mut Files<'r, '_, '_>, mut keys: Opened<'r>) -> Result<Opened<'r>, u8> {
+    match keys.read(&mut []) {
+        Ok(_) => Ok(keys),
+        Err(error) if error.kind() == ErrorKind::Interrupted => Ok(keys),
+        Err(error) => {
+            files.report(error);
+            Err(ERROR)
+        }
     }
 }
 

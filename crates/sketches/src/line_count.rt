@@ -29,7 +29,7 @@ impl LineSink<()> for LineCount {
 
     ghost takes = { λ old bytes new. (new.0.lines ≡ old.0.lines + length (raws_by old.0.part bytes)) × (new.0.part ≡ old.0.part) };
 
-    ghost fails = { λ old bytes failure. (failure ≡ TooManyItems) × (2 ^ 64 ≤ old.0.lines + length (raws_by old.0.part bytes)) };
+    ghost fails = { λ old bytes new failure. (failure ≡ TooManyItems) × (2 ^ 64 ≤ old.0.lines + length (raws_by old.0.part bytes)) };
 
     ghost takes_same = { λ r s xs taken. ap splits_by taken.1 };
 
@@ -37,9 +37,9 @@ impl LineSink<()> for LineCount {
 
     ghost takes_both = { λ r s t xs ys whole. counts_both xs ys r.0.part s.0.part t.0.part whole r.0.lines s.0.lines t.0.lines };
 
-    ghost fails_sooner = { λ r xs ys e whole. exceeds_sooner xs ys r.0.part whole r.0.lines e };
+    ghost fails_sooner = { λ r t xs ys e whole. exceeds_sooner xs ys r.0.part whole r.0.lines e };
 
-    ghost fails_later = { λ r s xs ys e whole. exceeds_later xs ys r.0.part s.0.part whole r.0.lines s.0.lines e };
+    ghost fails_later = { λ r s t xs ys e whole. exceeds_later xs ys r.0.part s.0.part whole r.0.lines s.0.lines e };
 
     fn records(&self) -> Records {
         self.part.records()

@@ -16,8 +16,8 @@ pub trait LineSink<O> {
     // These bytes of records were taken: the sink and the output before, and after.
     ghost takes: { Self × O → List ℕ → Self × O → Type 0 };
 
-    // The failure may come while these bytes of records are taken.
-    ghost fails: { Self × O → List ℕ → Failure → Type 0 };
+    // The failure may come while these bytes of records are taken: the sink and the output before, and after.
+    ghost fails: { Self × O → List ℕ → Self × O → Failure → Type 0 };
 
     /// Returns how inputs are split into records.
     fn records(&self) -> Records
@@ -31,7 +31,7 @@ pub trait LineSink<O> {
     /// Takes whole records, or records of which the last ends with its input.
     fn take(&mut self, alloc: Global, output: &mut O, bytes: &[u8]) -> Result<(), Failure>
         ensures taken { OnOk result (takes (self.old, output.old) bytes.now (self.new, output.new)) }
-        ensures failed { IfErr result (fails (self.old, output.old) bytes.now) };
+        ensures failed { IfErr result (fails (self.old, output.old) bytes.now (self.new, output.new)) };
 
     // The sink goes on to split inputs in the same way.
     ghost takes_same: { (r s : Self × O) (xs : List ℕ) → takes r xs s → splits s.0 ≡ splits r.0 };
@@ -43,8 +43,8 @@ pub trait LineSink<O> {
     ghost takes_both: { (r s t : Self × O) (xs ys : List ℕ) → AreWholeRecords (splits r.0) xs → takes r xs s → takes s ys t → takes r (xs ++ ys) t };
 
     // A failure of whole records may come if records follow.
-    ghost fails_sooner: { (r : Self × O) (xs ys : List ℕ) (e : Failure) → AreWholeRecords (splits r.0) xs → fails r xs e → fails r (xs ++ ys) e };
+    ghost fails_sooner: { (r t : Self × O) (xs ys : List ℕ) (e : Failure) → AreWholeRecords (splits r.0) xs → fails r xs t e → fails r (xs ++ ys) t e };
 
     // A failure may come if whole records are taken before.
-    ghost fails_later: { (r s : Self × O) (xs ys : List ℕ) (e : Failure) → AreWholeRecords (splits r.0) xs → takes r xs s → fails s ys e → fails r (xs ++ ys) e };
+    ghost fails_later: { (r s t : Self × O) (xs ys : List ℕ) (e : Failure) → AreWholeRecords (splits r.0) xs → takes r xs s → fails s ys t e → fails r (xs ++ ys) t e };
 }

@@ -33,6 +33,7 @@ mod header;
 mod image_commands;
 mod image_file;
 mod image_files;
+mod image_input;
 mod image_options;
 mod image_place;
 mod images;
@@ -52,6 +53,7 @@ mod line_items;
 mod line_sink;
 mod merge;
 mod options;
+mod output;
 mod percent;
 mod progress;
 mod raw_item;
@@ -64,8 +66,10 @@ mod save;
 mod selection;
 mod shared_options;
 mod show;
+mod stale_images;
 mod state_file;
 mod table_size;
+mod terminal;
 mod text_escapes;
 mod threshold;
 mod top;
@@ -78,6 +82,7 @@ mod weigh_options;
 mod weighed_lines;
 mod weighing;
 mod weights;
+mod words;
 
 use clap::ArgMatches;
 use csv_options::{csv_options, weighing_of};
@@ -87,13 +92,16 @@ use filter_commands::{run_join, run_uniq};
 use image_commands::{image_file, run_merge, run_show};
 use keys::{KeyFault, key_of};
 use options::{BAD_ERROR, command, size_of};
+use output::Watched;
 use shared_options::{BAD_THRESHOLD, layout_of, rows_of, threshold_of};
+use std::io;
 use std::io::ErrorKind;
 use std::process::ExitCode;
-use std::{env, io};
+use terminal::StandardOutput;
 use top::{Options, top};
 use weigh_commands::run_weigh;
 use weighing::Weighing;
+use words::{shown, stray_word, words_of};
 
 /// The status after an error.
 const ERROR: u8 = 2;
@@ -111,11 +119,9 @@ fn main(rt: HostRuntime) -> ExitCode {
 /// Runs the command line. Returns the status.
 fn run(rt: &HostRuntime) -> u8 {
     let alloc = rt.alloc();
-    let words: Vec<String> = match env::args(rt) {
-        Ok(words) => match words.collect(alloc) {
-            Ok(words) => words,
-            Err(_) => return fail(rt, "no memory"),
-        },
+    let words = match words_of(rt) {
+        Ok(words) => words,
+        Err(error) if error.kind() == ErrorKind::OutOfMemory => return fail(rt, "no memory"),
         Err(_) => return fail(rt, "an argument is not UTF-8"),
     };
     let Ok(command) = command(alloc) else {
@@ -123,18 +129,29 @@ fn run(rt: &HostRuntime) -> u8 {
     };
     match command.try_get_matches_from(words.as_slice()) {
         Ok(matches) => match matches.subcommand() {
-            Some(("top", matches)) => run_top(rt, matches),
-            Some(("uniq", matches)) => run_uniq(rt, matches),
-            Some(("join", matches)) => run_join(rt, matches),
-            Some(("weigh", matches)) => run_weigh(rt, matches),
-            Some(("merge", matches)) => run_merge(rt, matches),
-            Some(("show", matches)) => run_show(rt, matches),
-            _ => fail(rt, "no command"),
+            Some((name, matches)) => match stray_word(&words, matches) {
+                Some(word) => fail_at(rt, shown(word), "a name or value that is not UTF-8"),
+                None => run_command(rt, name, matches),
+            },
+            None => fail(rt, "no command"),
         },
         Err(error) => match error.print(rt) {
             Ok(()) => error.exit_code() as u8,
             Err(failed) => end_of_output(rt, failed),
         },
+    }
+}
+
+/// Runs a command. Returns the status.
+fn run_command(rt: &HostRuntime, name: &str, matches: &ArgMatches<'_>) -> u8 {
+    match name {
+        "top" => run_top(rt, matches),
+        "uniq" => run_uniq(rt, matches),
+        "join" => run_join(rt, matches),
+        "weigh" => run_weigh(rt, matches),
+        "merge" => run_merge(rt, matches),
+        "show" => run_show(rt, matches),
+        _ => fail(rt, "no command"),
     }
 }
 
@@ -186,18 +203,19 @@ fn run_top(rt: &HostRuntime, matches: &ArgMatches<'_>) -> u8 {
         options,
         &mut files,
         &mut image,
-        &mut rt.stdout(),
+        &mut Watched::new(StandardOutput::new(rt)),
     ) {
         Ok(summary) => {
             if !matches.get_flag("no-note") {
                 note_not_utf8(rt, summary.not_utf8);
+                note_unweighed(rt, summary.unweighed);
             }
             match summary.inexact {
                 Some(error) => fail_inexact(rt, error),
                 None => u8::from(!summary.complete || files.has_failed()),
             }
         }
-        Err(failure) => end(rt, failure, files.current(), BAD_TABLE),
+        Err(failure) => end_of_files(rt, failure, &files, BAD_TABLE),
     };
     if image.has_failed() { ERROR } else { status }
 }
@@ -209,6 +227,17 @@ fn note_not_utf8(rt: &HostRuntime, lines: u64) {
         1 => eprintln!(rt; "sketches: 1 line is not UTF-8: its bytes are shown as U+FFFD"),
         _ => eprintln!(rt;
             "sketches: {lines} lines are not UTF-8: their bytes are shown as U+FFFD"
+        ),
+    };
+}
+
+/// Prints how many lines have an item and no weight, if any.
+fn note_unweighed(rt: &HostRuntime, lines: u64) {
+    let _ = match lines {
+        0 => Ok(()),
+        1 => eprintln!(rt; "sketches: 1 line has no whole number as its weight: it is left out"),
+        _ => eprintln!(rt;
+            "sketches: {lines} lines have no whole number as their weights: they are left out"
         ),
     };
 }
@@ -239,6 +268,19 @@ fn end(rt: &HostRuntime, failure: Failure, file: &str, bad_size: &str) -> u8 {
         Failure::LineTooLong => fail_at(rt, file, "a line is longer than --max-line"),
         Failure::Write(error) => end_of_output(rt, error),
     }
+}
+
+/// Prints why a run ended at the file that was opened last, whose lines are counted from its header on. Returns the status.
+fn end_of_files(
+    rt: &HostRuntime,
+    mut failure: Failure,
+    files: &Files<'_, '_, '_>,
+    bad_size: &str,
+) -> u8 {
+    if let Failure::BadWeight(found) = &mut failure {
+        found.line = found.line.saturating_add(files.header_lines());
+    }
+    end(rt, failure, files.current(), bad_size)
 }
 
 /// Prints that the numbers are not exact. Returns the status.

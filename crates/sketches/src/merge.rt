@@ -6,17 +6,17 @@ ghost use Rattle.sketch_frequencies.specs.Stands.{ExtendsBoth, ExtendsBothBudget
 ghost use Rattle.sketch_frequencies.specs.State.{IsState};
 ghost use Rattle.sketch_frequencies.specs.Steps.{JoinsEqual};
 ghost use Rattle.sketches.specs.ImageFailures.{EndsAdding, EndsMerge, IsWriteFailure};
-ghost use Rattle.sketches.specs.Images.{Merges, WritesMerge};
+ghost use Rattle.sketches.specs.Images.{IsMergedError, Merges, StopsMerge, WritesMerge};
 
 use crate::images::{ImageFailure, Images, read_image};
 use crate::layout::Layout;
+use crate::output::Output;
 use crate::report::report;
 use crate::save::Keeper;
 use crate::threshold::Threshold;
 use sketch_base::Fault;
 use sketch_frequencies::{FrequentItemsImageOptions, FrequentItemsSketch};
 use std::alloc::Global;
-use std::io::Write;
 
 /// How images are merged and printed.
 #[derive(Clone, Copy)]
@@ -38,8 +38,9 @@ pub struct MergeOptions {
 ///
 /// # Errors
 ///
-/// Returns those of [`merge_images`]. The writer is not called then. Returns `Write` if it fails.
-pub fn merge<I: Images, K: Keeper, W: Write>(
+/// Returns those of [`merge_images`]. The output is not written then. Returns `Write` if a write fails: then the output has the front
+/// of the report, and the sketch was kept.
+pub fn merge<I: Images, K: Keeper, W: Output>(
     alloc: Global,
     options: MergeOptions,
     images: &mut I,
@@ -50,9 +51,12 @@ pub fn merge<I: Images, K: Keeper, W: Write>(
         (λ all. WritesMerge options all (W.contents writer.old) (W.contents writer.new)))) }
     ensures inexact { IfOk result (λ inexact. IfSome inexact
         (λ error. (options.layout.exact ≡ true) × (0 < error) × (writer.new ≡ writer.old))) }
+    ensures inexact_error { IfOk result (λ inexact. IfSome inexact (λ error. IfSome (I.images images.old) (λ all. IsMergedError options all error))) }
     ensures kept { OnOk result (IfSome (I.images images.old)
         (λ all. IfSome (K.kept keeper.new) (Merges options.images.max_bytes all))) }
-    ensures err { IfErr result (λ failure. IfSome (I.images images.old) (λ all. EndsMerge options.images.max_bytes all failure)) }
+    ensures keyed { OnOk result (IfSome (K.kept keeper.new) (λ kept. kept.key ≡ options.images.key)) }
+    ensures err { IfErr result (λ failure. IfSome (I.images images.old) (λ all. EndsMerge options.images.max_bytes all
+        (StopsMerge options all (K.kept keeper.new) (W.has_failed writer.new) (W.contents writer.old) (W.contents writer.new)) failure)) }
     ensures unwritten { IfErr result (λ failure. IsWriteFailure failure ⊎ (writer.new ≡ writer.old)) }
 {
     let sketch = merge_images(alloc, &options.images, images)?;
@@ -77,7 +81,7 @@ pub fn merge<I: Images, K: Keeper, W: Write>(
 
 /// Returns the sketch of the first image, after those of the others were merged into it in order.
 ///
-/// It keeps the maximum size of the first image. Two sketches are in memory at a time.
+/// It keeps the maximum size of the first image, and its table hashes under the key of the options. Two sketches are in memory at a time.
 ///
 /// # Errors
 ///
@@ -88,8 +92,9 @@ fn merge_images<I: Images>(
     options: &FrequentItemsImageOptions,
     images: &mut I,
 ) -> Result<FrequentItemsSketch<String>, ImageFailure>
+    ensures key { IfOk result (λ sketch. sketch.key ≡ options.now.key) }
     ensures merged { IfOk result (λ sketch. IfSome (I.images images.old) (λ all. Merges options.now.max_bytes all sketch)) }
-    ensures err { IfErr result (λ failure. IfSome (I.images images.old) (λ all. EndsMerge options.now.max_bytes all failure)) }
+    ensures err { IfErr result (λ failure. IfSome (I.images images.old) (λ all. EndsMerge options.now.max_bytes all ⊥ failure)) }
 {
     let Some(first) = images.next() else {
         return Err(ImageFailure::NoImage);
@@ -111,6 +116,7 @@ fn add(
     other: &FrequentItemsSketch<String>,
 ) -> Result<(), ImageFailure>
     ensures state { IsState string_eq sketch.new }
+    ensures key { OnOk result (sketch.new.key ≡ sketch.old.key) }
     ensures join { OnOk result (JoinsEqual string_eq sketch.old other.now sketch.new) }
     ensures stands { OnOk result (ExtendsBoth string_eq sketch.old other.now sketch.new Merge) }
     ensures budget { OnOk result (ExtendsBothBudgets string_eq sketch.old other.now sketch.new Merge) }

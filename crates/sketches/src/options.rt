@@ -1,5 +1,7 @@
 //! The command line.
-use crate::csv_options::{with_fields, with_weight};
+ghost use Rattle.std.specs.Prelude.{◌<◌, IfSome};
+
+use crate::csv_options::{with_bad_weight, with_fields, with_weight};
 use crate::filter_options::{no_note, with_size, with_state};
 use crate::image_options::{merge_command, show_command};
 use crate::join_options::join_command;
@@ -23,12 +25,12 @@ pub fn command<'a>(alloc: Global) -> Result<Command<'a>, AllocError> {
             .about("Summaries of the lines of files, in bounded memory")
             .subcommand_required(true)
             .arg_required_else_help(true)
-            .subcommand(top_command(alloc)?)?
-            .subcommand(uniq_command(alloc)?)?
-            .subcommand(join_command(alloc)?)?
-            .subcommand(weigh_command(alloc)?)?
-            .subcommand(merge_command(alloc)?)?
-            .subcommand(show_command(alloc)?)?,
+            .subcommand(top_command(alloc)?.args_override_self(true))?
+            .subcommand(uniq_command(alloc)?.args_override_self(true))?
+            .subcommand(join_command(alloc)?.args_override_self(true))?
+            .subcommand(weigh_command(alloc)?.args_override_self(true))?
+            .subcommand(merge_command(alloc)?.args_override_self(true))?
+            .subcommand(show_command(alloc)?.args_override_self(true))?,
     )
 }
 
@@ -63,7 +65,7 @@ fn top_command<'a>(alloc: Global) -> Result<Command<'a>, AllocError> {
                 .conflicts_with("size")?
                 .help("Chooses the slots for an error of at most P, as 0.5%, of the total"),
         )?;
-    let command = with_max_line(alloc, command)?
+    let command = with_bad_weight(alloc, with_max_line(alloc, command)?)?
         .arg(save(alloc))?
         .arg(key(alloc))?
         .arg(no_header(alloc))?
@@ -74,7 +76,7 @@ fn top_command<'a>(alloc: Global) -> Result<Command<'a>, AllocError> {
             Arg::new(alloc, "no-note")
                 .long("no-note")
                 .action(ArgAction::SetTrue)
-                .help("Omits the note at the end on lines that are not UTF-8"),
+                .help("Omits the notes at the end on lines that are not UTF-8 or have no weight"),
         )?;
     with_files(alloc, command)
 }
@@ -144,11 +146,20 @@ pub fn size_of(matches: &ArgMatches<'_>) -> Option<usize> {
 
 /// Returns the field of an index between delimiters, or `None` if the delimiter is not one character of ASCII.
 pub fn field_between(delimiter: &str, index: u32) -> Option<Field> {
-    match delimiter.as_bytes() {
-        [byte] if byte.is_ascii() => Some(Field {
-            delimiter: *byte,
-            index,
-        }),
+    let byte = delimiter_of(delimiter)?;
+    Some(Field {
+        delimiter: byte,
+        index,
+    })
+}
+
+/// Returns the byte of a delimiter, for which `\t` stands for a tab, or `None` if it is not one character of ASCII.
+pub fn delimiter_of(text: &str) -> Option<u8>
+    ensures { IfSome result (λ byte. byte < 128) }
+{
+    match text.as_bytes() {
+        [byte] if byte.is_ascii() => Some(*byte),
+        [b'\\', b't'] => Some(b'\t'),
         _ => None,
     }
 }

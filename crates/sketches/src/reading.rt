@@ -35,7 +35,7 @@ pub fn read_lines<R: Read, O, S: LineSink<O>>(
     ensures taken { IfOk result (λ failure.
         TakesInput (S.splits sink.old) S.takes (R.remaining reader.old) failure (sink.old, output.old) (sink.new, output.new)) }
     ensures same { OnOk result (S.splits sink.new ≡ S.splits sink.old) }
-    ensures failed { IfErr result (FailsInput (S.splits sink.old) S.fails limit (R.remaining reader.old) (sink.old, output.old)) }
+    ensures failed { IfErr result (FailsInput (S.splits sink.old) S.takes S.fails limit (R.remaining reader.old) (sink.old, output.old) (sink.new, output.new)) }
 {
     let records = sink.records();
     let mut place = Place::Start;
@@ -126,7 +126,7 @@ fn take_records<O, S: LineSink<O>>(
     requires place { place ≡ place_of records Start (take held buffer.old.items) }
     ensures taken { IfOk result (λ kept. TakesRecords records S.takes (sink.old, output.old) (sink.new, output.new)
         (take end buffer.old.items) buffer.new.items kept.0 kept.1) }
-    ensures failed { IfErr result (λ failure. FailsWithin records S.fails (sink.old, output.old) (take end buffer.old.items) failure) }
+    ensures failed { IfErr result (FailsWithin records S.fails (sink.old, output.old) (take end buffer.old.items) (sink.new, output.new)) }
 {
     let (last, next) = finished_records(records, place, &buffer[held..end]);
     if last == 0 {

@@ -1,7 +1,11 @@
 //! The text of a report.
 ghost use Rattle.std.specs.Prelude.{◌≡◌, ◌<◌, ◌++◌, true, false, codes, decimal, IfErr, IfNone, IfOk, IfSome, OnOk, length, min, string_bytes, take};
-ghost use Rattle.std.specs.List.{flat_map};
-ghost use Rattle.sketches.specs.Reports.{ShowsTop, header_in, json_numbers, plain_numbers, report_text, row_line};
+ghost use Rattle.std.specs.List.{flat_map, AllPairs};
+ghost use Rattle.std.specs.String.{string_eq};
+ghost use Rattle.sketch_base.specs.Errors.{no_memory};
+ghost use Rattle.sketch_frequencies.specs.Rows.{MissesNone, ShowsExactly};
+ghost use Rattle.sketch_frequencies.specs.declared.error_type.ErrorType.TheVariants.{NoFalseNegatives};
+ghost use Rattle.sketches.specs.Reports.{Precedes, ShowsTop, header_in, json_numbers, plain_numbers, report_text, row_cmp, row_line};
 ghost use Rattle.sketches.specs.declared.layout.Style.TheVariants.{Escaped, Json, Plain};
 
 use crate::failure::Failure;
@@ -9,13 +13,15 @@ use crate::json::append_escaped;
 use crate::layout::{Layout, Style};
 use crate::text_escapes::append_text;
 use crate::threshold::Threshold;
-use sketch_frequencies::{ErrorType, FrequentItemsSketch, Row};
+use sketch_frequencies::{Error, ErrorType, FrequentItemsSketch, Row};
 use std::alloc::{AllocError, Global};
+use std::cmp::Ordering;
 use std::fmt::Write as _;
 
 /// Returns the header, if it is wanted, and the lines of the first rows above a threshold, at most `count`.
 ///
-/// Returns `None` if exact numbers are wanted and the error is not 0. The rows are in descending order of estimates.
+/// Returns `None` if exact numbers are wanted and the error is not 0. The rows are in descending order of upper bounds, and those of equal
+/// ones in ascending order of items.
 ///
 /// # Errors
 ///
@@ -35,7 +41,7 @@ pub fn report(
         return Ok(None);
     }
     let least = threshold.weight(sketch.total_weight());
-    let rows = sketch.frequent_items_with_threshold(ErrorType::NoFalseNegatives, least)?;
+    let rows = ordered_rows(sketch, least)?;
     let text = text_of(
         alloc,
         layout,
@@ -44,6 +50,29 @@ pub fn report(
         first_rows(&rows, count),
     )?;
     Ok(Some(text))
+}
+
+/// Returns the tracked items whose upper bounds are above a threshold, in the order of a report.
+fn ordered_rows(sketch: &FrequentItemsSketch<String>, least: u64) -> Result<Vec<Row<String>>, Error>
+    ensures exact { IfOk result (λ rows. ShowsExactly string_eq NoFalseNegatives least sketch.now rows.items) }
+    ensures misses { IfOk result (λ rows. MissesNone string_eq least sketch.now rows.items) }
+    ensures order { IfOk result (λ rows. AllPairs Precedes rows.items) }
+    ensures failed { IfErr result (λ e. e ≡ no_memory) }
+{
+    let mut rows = sketch.frequent_items_with_threshold(ErrorType::NoFalseNegatives, least)?;
+    rows.sort_unstable_by(|a, b| order_of(a, b));
+    Ok(rows)
+}
+
+/// Returns the order of two rows of a report: descending upper bounds, and ascending items of equal ones.
+fn order_of(a: &Row<String>, b: &Row<String>) -> Ordering
+    ensures { result ≡ row_cmp a.now b.now }
+{
+    match b.upper_bound().cmp(&a.upper_bound()) {
+        Ordering::Less => Ordering::Less,
+        Ordering::Equal => a.item().cmp(b.item()),
+        Ordering::Greater => Ordering::Greater,
+    }
 }
 
 /// Returns the header, if it is wanted, and the lines of rows.

@@ -59,6 +59,7 @@ pub fn write_image<W: Write>(
 ) -> Result<(), SaveFailure>
     ensures image { OnOk result (WritesImage sketch.now (W.contents writer.old) (W.contents writer.new)) }
     ensures err { IfErr result (IsNotSaved sketch.now) }
+    ensures unwritten { IfErr result (λ failure. IsWriteFailure failure ⊎ (writer.new ≡ writer.old)) }
 {
     let image = match sketch.serialize() {
         Ok(image) => image,

@@ -2,9 +2,10 @@
 ghost use Rattle.std.specs.Prelude.{◌≡◌, ◌⊎◌, ◌++◌, ◌≤◌, true, false, List, ℕ, IfErr, IfOk, MatchResult, OnOk, length, string_bytes};
 ghost use Rattle.sketches.specs.ImageFailures.{IsBadImage, IsWriteFailure};
 ghost use Rattle.sketches.specs.Images.{IsOpened, Loads};
-ghost use Rattle.sketches.specs.Shown.{IsBadAs, IsBadCells, IsBadCounts, IsBadFilter, IsNotShown, ShowsImage, StatesAs, StatesCounts, counts_text, filter_text, is_of_counts, is_of_filter, items_text, value_line};
+ghost use Rattle.sketches.specs.Shown.{IsBadAs, IsBadCells, IsBadCounts, IsBadFilter, IsNotShown, ShowsImage, StatesAs, StatesCounts, StopsShow, counts_text, filter_text, is_of_counts, is_of_filter, items_text, value_line};
 
 use crate::images::{ImageFailure, failure_of, load, read_opened};
+use crate::output::Output;
 use sketch_base::{Family, Fault};
 use sketch_bloom::BloomFilter;
 use sketch_countmin::{CountMinImageOptions, CountMinSketch, CountMinValue};
@@ -12,7 +13,7 @@ use sketch_frequencies::{FrequentItemsImageOptions, FrequentItemsSketch};
 use std::alloc::{AllocError, Global};
 use std::fmt::Write as _;
 use std::io;
-use std::io::{Read, Write};
+use std::io::Read;
 
 /// Writes what an image of a sketch of strings, of a Bloom filter or of a Count-Min sketch states. Each value is a line: its name, a
 /// tab and the value.
@@ -23,8 +24,8 @@ use std::io::{Read, Write};
 /// # Errors
 ///
 /// Returns those of [`read_image`](crate::images::read_image). The faults of a filter and of a Count-Min sketch are those of their
-/// readers. The writer is not called then. Returns `Write` if it fails.
-pub fn show<R: Read + Drop, W: Write>(
+/// readers. The output is not written then. Returns `Write` if a write fails: then the output has the front of the lines.
+pub fn show<R: Read + Drop, W: Output>(
     alloc: Global,
     options: &FrequentItemsImageOptions,
     seed: u64,
@@ -33,7 +34,8 @@ pub fn show<R: Read + Drop, W: Write>(
 ) -> Result<(), ImageFailure>
     ensures shown { (image : List ℕ) → IsOpened R.remaining image opened
         → OnOk result (ShowsImage options.now.max_bytes seed image (W.contents writer.old) (W.contents writer.new)) }
-    ensures err { (image : List ℕ) → IsOpened R.remaining image opened → IfErr result (IsNotShown options.now.max_bytes seed image) }
+    ensures err { (image : List ℕ) → IsOpened R.remaining image opened → IfErr result (IsNotShown options.now.max_bytes seed image
+        (StopsShow options.now.max_bytes seed image (W.has_failed writer.new) (W.contents writer.old) (W.contents writer.new))) }
     ensures unwritten { IfErr result (λ failure. IsWriteFailure failure ⊎ (writer.new ≡ writer.old)) }
 {
     let image = match read_opened(alloc, options.max_bytes, opened) {
@@ -132,7 +134,7 @@ fn text_of_cells<T: CountMinValue>(
     image: &[u8],
 ) -> Result<String, ImageFailure>
     requires { T.SIZE ≡ 8 }
-    ensures { MatchResult result (λ text. StatesCounts T.least T.greatest options.seed image.now (string_bytes text))
+    ensures { MatchResult result (λ text. StatesCounts T.least T.greatest options.max_bytes options.seed image.now (string_bytes text))
         (IsBadCells T.least T.greatest options.max_bytes options.seed image.now) }
 {
     let (sketch, used) = match CountMinSketch::<T>::deserialize_prefix(alloc, image, options) {

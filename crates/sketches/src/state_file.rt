@@ -1,14 +1,12 @@
 //! The file that keeps the filter of `uniq` between runs. One run at a time uses it.
 use crate::filter_image::read_filter;
 use crate::image_file::{is_special, report, save};
-use crate::image_place::{create_beside, target_of};
+use crate::image_place::{create_beside, has_name, target_of};
 use crate::images::ImageFailure;
 use crate::save::{SaveFailure, write_filter};
 use sketch_bloom::BloomFilter;
 use std::fs::{File, TryLockError};
 use std::io::ErrorKind;
-use std::os::unix::fs::MetadataExt;
-use std::rt::Files;
 use std::{fs, io};
 
 /// The maximum number of times that a file is opened until it is locked and still has its name.
@@ -128,7 +126,7 @@ impl<'r> StateFile<'r> {
     }
 }
 
-/// Writes the image of an empty filter to a file, locks it, and gives it a name that no file has. Returns whether it got the name.
+/// Writes the image of an empty filter to a locked file, and gives it a name that no file has. Returns whether it got the name.
 fn link(
     rt: &HostRuntime,
     empty: &BloomFilter,
@@ -154,13 +152,5 @@ fn wait_for(rt: &HostRuntime, file: &File, name: &str) -> io::Result<()> {
             file.lock()
         }
         Err(TryLockError::Error(error)) => Err(error),
-    }
-}
-
-/// Returns whether an open file still has its name: another run may have replaced it before it was locked.
-fn has_name(rt: &HostRuntime, file: &File, name: &str) -> bool {
-    match (file.metadata(), rt.metadata(name)) {
-        (Ok(open), Ok(named)) => open.dev() == named.dev() && open.ino() == named.ino(),
-        _ => false,
     }
 }

@@ -2,13 +2,14 @@
 ghost use Rattle.std.specs.Prelude.{◌≡◌, ◌⊎◌, ◌<◌, true, IfErr, IfNone, IfOk, IfSome, IsErrOf, IsSome};
 ghost use Rattle.sketch_frequencies.specs.Sizes.{size_fault};
 ghost use Rattle.sketches.specs.Failures.{FailsTop, IsOfOutput};
-ghost use Rattle.sketches.specs.Images.{KeepsItems};
-ghost use Rattle.sketches.specs.Reports.{WritesReport};
+ghost use Rattle.sketches.specs.Images.{KeepsItems, StopsTop};
+ghost use Rattle.sketches.specs.Reports.{IsErrorOf, WritesReport};
 
 use crate::counting::ItemCounter;
 use crate::failure::Failure;
 use crate::inputs::{Inputs, read_inputs};
 use crate::layout::Layout;
+use crate::output::Output;
 use crate::reading::BLOCK;
 use crate::report::report;
 use crate::save::Keeper;
@@ -16,7 +17,6 @@ use crate::threshold::Threshold;
 use crate::weighing::Weighing;
 use sketch_frequencies::{FrequentItemsSketch, TableKey};
 use std::alloc::Global;
-use std::io::Write;
 
 /// What is counted and printed.
 #[derive(Clone, Copy)]
@@ -44,6 +44,8 @@ pub struct Summary {
     pub complete: bool,
     /// The number of lines that are not UTF-8, at most `u64::MAX`.
     pub not_utf8: u64,
+    /// The number of records that have an item and no weight, and whose weight is 0, at most `u64::MAX`. No clause states it.
+    pub unweighed: u64,
     /// The error, if exact numbers are wanted and it is not 0. No report is written then.
     pub inexact: Option<u64>,
 }
@@ -56,8 +58,9 @@ pub struct Summary {
 ///
 /// Returns `BadSize` if the size is not a power of two from 8 to 2^30, and then reads nothing. Returns `LineTooLong` if a line
 /// exceeds the limit, `BadWeight` if a line with an item has no weight, `TooManyItems` if the weights of all items are at least
-/// 2^64, and `Memory` if an allocation fails. The writer is not called then. Returns `Write` if it fails.
-pub fn top<I: Inputs, K: Keeper, W: Write>(
+/// 2^64, and `Memory` if an allocation fails. The output is not written then. Returns `Write` if a write fails: then the output has
+/// the front of the report, and the sketch was kept.
+pub fn top<I: Inputs, K: Keeper, W: Output>(
     alloc: Global,
     options: Options,
     inputs: &mut I,
@@ -68,10 +71,12 @@ pub fn top<I: Inputs, K: Keeper, W: Write>(
         (W.contents writer.old) (W.contents writer.new))) }
     ensures inexact { IfOk result (λ summary. IfSome summary.inexact
         (λ error. (options.layout.exact ≡ true) × (0 < error) × (writer.new ≡ writer.old))) }
+    ensures inexact_error { IfOk result (λ summary. IfSome summary.inexact (IsErrorOf options (I.inputs inputs.old) summary.complete)) }
     ensures kept { IfOk result (λ summary. KeepsItems options (I.inputs inputs.old) summary.complete (K.kept keeper.new)) }
 
     // When each error comes, and what it leaves unchanged.
-    ensures failed { IfErr result (FailsTop options (I.inputs inputs.old)) }
+    ensures failed { IfErr result (FailsTop options (I.inputs inputs.old) (StopsTop options (I.inputs inputs.old) (K.kept keeper.new)
+        (W.has_failed writer.new) (W.contents writer.old) (W.contents writer.new))) }
     ensures bad_size { IsSome (size_fault options.size) → IsErrOf result Failure.BadSize }
     ensures unread { IsErrOf result Failure.BadSize → inputs.new ≡ inputs.old }
     ensures unwritten { IfErr result (λ failure. IsOfOutput failure ⊎ (writer.new ≡ writer.old)) }
@@ -82,11 +87,13 @@ pub fn top<I: Inputs, K: Keeper, W: Write>(
         weighing: options.weighing,
         count: 0,
         not_utf8: 0,
+        unweighed: 0,
     };
     let limit = options.max_line as usize + 1;
     let mut buffer = vec![in alloc; 0; limit.min(BLOCK)]?;
     let complete = read_inputs(alloc, &mut counter, &mut (), inputs, &mut buffer, limit)?;
     let not_utf8 = counter.lines_not_utf8();
+    let unweighed = counter.unweighed;
     keeper.keep(&counter.sketch);
     let Some(text) = report(
         alloc,
@@ -99,6 +106,7 @@ pub fn top<I: Inputs, K: Keeper, W: Write>(
         return Ok(Summary {
             complete,
             not_utf8,
+            unweighed,
             inexact: Some(counter.sketch.maximum_error()),
         });
     };
@@ -106,6 +114,7 @@ pub fn top<I: Inputs, K: Keeper, W: Write>(
         Ok(()) => Ok(Summary {
             complete,
             not_utf8,
+            unweighed,
             inexact: None,
         }),
         Err(e) => Err(Failure::Write(e)),

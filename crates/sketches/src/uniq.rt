@@ -1,21 +1,21 @@
 //! The records of inputs whose items were not seen before.
-ghost use Rattle.std.specs.Prelude.{◌≡◌, ◌+◌, IfErr, IfOk, IfSome, IsErrOf};
+ghost use Rattle.std.specs.Prelude.{◌≡◌, ◌⊎◌, ◌+◌, IfErr, IfOk, IfSome, IsErrOf};
 ghost use Rattle.sketch_bloom.specs.State.{FilterState};
 ghost use Rattle.sketches.specs.Failures.{FailsWrittenLines, FailsUniq};
 ghost use Rattle.sketches.specs.FilterSizes.{HasNoSize, IsFilterOf};
-ghost use Rattle.sketches.specs.Unseen.{WritesUnseen};
+ghost use Rattle.sketches.specs.Unseen.{WritesSomeUnseen, WritesUnseen};
 
 use crate::ended_text::EndedText;
 use crate::failure::Failure;
 use crate::filter_size::{FilterSize, filter_of};
 use crate::header::write_header;
 use crate::inputs::{Inputs, read_inputs};
+use crate::output::Output;
 use crate::reading::BLOCK;
 use crate::unseen::UnseenLines;
 use sketch_base::records::RecordPart;
 use sketch_bloom::BloomFilter;
 use std::alloc::Global;
-use std::io::Write;
 
 /// Which records are written.
 #[derive(Clone, Copy)]
@@ -48,8 +48,8 @@ pub struct Summary {
 /// # Errors
 ///
 /// Returns `BadSize` if a filter of this size is not allowed, and then reads and writes nothing. Returns `LineTooLong` if a record
-/// exceeds the limit, `Memory` if an allocation fails, and `Write` if the writer fails. Records before may have been written.
-pub fn uniq<I: Inputs, W: Write>(
+/// exceeds the limit, `Memory` if an allocation fails, and `Write` if a write fails. Then the output has the front of what would be written.
+pub fn uniq<I: Inputs, W: Output>(
     alloc: Global,
     options: UniqOptions,
     size: FilterSize,
@@ -63,7 +63,10 @@ pub fn uniq<I: Inputs, W: Write>(
         summary.complete (W.contents writer.old) (W.contents writer.new))) }
 
     // When each error comes, and what it leaves unchanged.
-    ensures failed { IfErr result (FailsUniq options size (I.inputs inputs.old)) }
+    ensures failed { IfErr result (FailsUniq options size (I.inputs inputs.old) (W.has_failed writer.new)) }
+    ensures front { IfErr result (λ failure. (writer.new ≡ writer.old) ⊎ ((filter : FilterState) × IsFilterOf size seed filter
+        × IfSome (I.inputs inputs.old) (λ all. WritesSomeUnseen options.repeated options.part header.now filter all
+        (W.contents writer.old) (W.contents writer.new)))) }
     ensures bad_size { HasNoSize size → IsErrOf result Failure.BadSize }
     ensures unread { IsErrOf result Failure.BadSize → (inputs.new ≡ inputs.old) × (writer.new ≡ writer.old) }
 {
@@ -79,7 +82,7 @@ pub fn uniq<I: Inputs, W: Write>(
 /// # Errors
 ///
 /// Returns those of `uniq`, except for `BadSize`.
-pub fn uniq_after<I: Inputs, W: Write>(
+pub fn uniq_after<I: Inputs, W: Output>(
     alloc: Global,
     options: UniqOptions,
     filter: BloomFilter,
@@ -89,7 +92,9 @@ pub fn uniq_after<I: Inputs, W: Write>(
 ) -> Result<Summary, Failure>
     ensures written { IfOk result (λ summary. IfSome (I.inputs inputs.old) (λ all. WritesUnseen options.repeated options.part header.now filter
         summary.filter all summary.complete (W.contents writer.old) (W.contents writer.new))) }
-    ensures failed { IfErr result (FailsWrittenLines options.part (options.max_line + 1) (I.inputs inputs.old)) }
+    ensures failed { IfErr result (FailsWrittenLines options.part (options.max_line + 1) (I.inputs inputs.old) (W.has_failed writer.new)) }
+    ensures front { IfErr result (λ failure. IfSome (I.inputs inputs.old) (λ all. WritesSomeUnseen options.repeated options.part header.now filter
+        all (W.contents writer.old) (W.contents writer.new))) }
 {
     let mut lines = UnseenLines {
         filter,

@@ -1,5 +1,5 @@
 //! The weights of keys in inputs.
-ghost use Rattle.std.specs.Prelude.{◌≡◌, ◌⊎◌, ◌≤◌, IfErr, IfOk, IfSome, IsErrOf, OnOk};
+ghost use Rattle.std.specs.Prelude.{◌≡◌, ◌⊎◌, ◌≤◌, IfErr, IfOk, IfSome, IsErrOf, OnErr, OnOk};
 ghost use Rattle.std.specs.Io.KnownBytes.{Appends};
 ghost use Rattle.sketch_base.specs.Hashes.{seed_hash};
 ghost use Rattle.sketch_countmin.specs.State.{empty_state};
@@ -7,12 +7,14 @@ ghost use Rattle.sketch_countmin.specs.History.CountHistory.{New};
 ghost use Rattle.sketch_countmin.specs.Stands.{StandsFor};
 ghost use Rattle.sketches.specs.Failures.{FailsWriting};
 ghost use Rattle.sketches.specs.WeighFailures.{ComesLate, FailsTable, FailsWeigh};
-ghost use Rattle.sketches.specs.KeyWeights.{IsEmptyTable, WritesWeights, total_line, usable_seed};
+ghost use Rattle.sketches.specs.Outputs.{WritesFront};
+ghost use Rattle.sketches.specs.KeyWeights.{IsEmptyTable, WritesSomeWeights, WritesWeights, total_line, usable_seed};
 
 use crate::failure::Failure;
 use crate::inputs::{Inputs, read_inputs};
 use crate::item_weigher::{ItemWeigher, WeighedRecord};
 use crate::key_weights::KeyWeights;
+use crate::output::Output;
 use crate::reading::{BLOCK, read_lines};
 use sketch_base::records::RecordPart;
 use sketch_base::{DEFAULT_UPDATE_SEED, ErrorKind, compute_seed_hash};
@@ -20,7 +22,7 @@ use sketch_countmin::{CountMinSketch, suggest_num_buckets, suggest_num_hashes};
 use std::alloc::{AllocError, Global};
 use std::fmt::Write as _;
 use std::io;
-use std::io::{Read, Write};
+use std::io::Read;
 
 /// What is weighed and printed, and the size of the sketch.
 #[derive(Clone, Copy)]
@@ -60,9 +62,10 @@ pub struct Weighed {
 /// # Errors
 ///
 /// Returns `BadSize` if a sketch of this size is not allowed, and then reads and writes nothing. Returns `TooManyItems` if the total
-/// exceeds 2^64 - 1, and `BadWeight` if a record with an item has no weight. The writer is not called then. Returns `LineTooLong` if a
-/// record exceeds the limit, `Memory` if an allocation fails, and `Write` if the writer fails. Lines before may have been written.
-pub fn weigh<I: Inputs, R: Read, W: Write>(
+/// exceeds 2^64 - 1, and `BadWeight` if a record with an item has no weight. The output is not written then. Returns `LineTooLong` if a
+/// record exceeds the limit, `Memory` if an allocation fails, and `Write` if a write fails. Then the output has the front of what would
+/// be written.
+pub fn weigh<I: Inputs, R: Read, W: Output>(
     alloc: Global,
     options: WeighOptions,
     inputs: &mut I,
@@ -73,10 +76,11 @@ pub fn weigh<I: Inputs, R: Read, W: Write>(
         (λ bytes. WritesWeights options all done.complete bytes done.failure (W.contents writer.old) (W.contents writer.new)))) }
 
     // When each error comes, and what it leaves unchanged.
-    ensures failed { IfErr result (FailsWeigh options (I.inputs inputs.old) (R.remaining keys.old)) }
+    ensures failed { IfErr result (FailsWeigh options (I.inputs inputs.old) (R.remaining keys.old) (W.has_failed writer.new)) }
     ensures bad_size { (options.parts ≡ 0) ⊎ (options.questions ≤ 1) → IsErrOf result Failure.BadSize }
     ensures unread { IsErrOf result Failure.BadSize → (inputs.new ≡ inputs.old) × (keys.new ≡ keys.old) }
-    ensures unwritten { IfErr result (λ failure. ComesLate failure ⊎ (writer.new ≡ writer.old)) }
+    ensures unwritten { IfErr result (λ failure. (writer.new ≡ writer.old) ⊎ (ComesLate failure × IfSome (I.inputs inputs.old)
+        (λ all. IfSome (R.remaining keys.old) (λ bytes. WritesSomeWeights options all bytes (W.contents writer.old) (W.contents writer.new))))) }
 {
     let sketch = table_for(alloc, options.parts, options.questions, options.seed)?;
     let mut weigher = ItemWeigher {
@@ -136,14 +140,15 @@ fn usable_seed(seed: u64) -> u64
 /// # Errors
 ///
 /// Returns `Memory` if an allocation fails, and `Write` if the writer fails.
-fn write_total<W: Write>(
+fn write_total<W: Output>(
     alloc: Global,
     wanted: bool,
     total: u64,
     writer: &mut W,
 ) -> Result<(), Failure>
     ensures written { OnOk result (Appends (W.contents writer.old) (W.contents writer.new) (total_line wanted total)) }
-    ensures failed { IfErr result FailsWriting }
+    ensures front { OnErr result (WritesFront (W.contents writer.old) (W.contents writer.new) (total_line wanted total)) }
+    ensures failed { IfErr result (FailsWriting (W.has_failed writer.new)) }
 {
     if !wanted {
         return Ok(());

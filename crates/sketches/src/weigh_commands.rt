@@ -2,16 +2,22 @@
 use crate::files::Files;
 use crate::keyed_options::{open_keys, reads_input_twice};
 use crate::keys::{key_of, seed_of};
+use crate::output::Watched;
 use crate::percent::percent_of;
 use crate::record_options::weighed_record;
+use crate::terminal::StandardOutput;
 use crate::weigh::{WeighOptions, weigh};
 use crate::weigh_options::parts_of;
-use crate::{ERROR, STANDARD_INPUT, end, fail, max_line_of, message_of};
+use crate::{ERROR, STANDARD_INPUT, end, end_of_files, fail, max_line_of, message_of};
 use clap::ArgMatches;
 use std::io;
 
 /// The message of a sketch's size that is not allowed.
-const BAD_SKETCH: &str = "--outliers must be at least 2, and the sketch less than 2^30 cells";
+const BAD_SKETCH: &str =
+    "the sketch for --error and --outliers has 2^30 cells or more: use a larger --error or a smaller --outliers";
+
+/// The message of a share of keys that is not allowed.
+const BAD_OUTLIERS: &str = "--outliers must be at least 2";
 
 /// The message of an error that is not allowed.
 const BAD_SHARE: &str = "--error must be above 0% and at most 100%, with at most 6 decimals";
@@ -30,6 +36,10 @@ pub fn run_weigh(rt: &HostRuntime, matches: &ArgMatches<'_>) -> u8 {
     };
     if error.millionths == 0 {
         return fail(rt, BAD_SHARE);
+    }
+    let questions = matches.get_one::<u64>("outliers").unwrap_or(0);
+    if questions < 2 {
+        return fail(rt, BAD_OUTLIERS);
     }
     let key = match key_of(rt, matches.get_str("key")) {
         Ok(key) => key,
@@ -50,18 +60,24 @@ pub fn run_weigh(rt: &HostRuntime, matches: &ArgMatches<'_>) -> u8 {
         keys_part,
         escaped: matches.get_flag("csv") || matches.get_flag("escape"),
         parts: parts_of(error),
-        questions: matches.get_one::<u64>("outliers").unwrap_or(0),
+        questions,
         seed: seed_of(key),
         max_line: max_line_of(matches),
         header: !matches.get_flag("no-header"),
     };
-    match weigh(rt.alloc(), options, &mut files, &mut keys, &mut rt.stdout()) {
+    match weigh(
+        rt.alloc(),
+        options,
+        &mut files,
+        &mut keys,
+        &mut Watched::new(StandardOutput::new(rt)),
+    ) {
         Ok(done) => match done.failure {
             Some(error) => unread(rt, keys_name, error),
             None => u8::from(!done.complete || files.has_failed()),
         },
         Err(failure) if files.is_done() => end(rt, failure, keys_name, BAD_SKETCH),
-        Err(failure) => end(rt, failure, files.current(), BAD_SKETCH),
+        Err(failure) => end_of_files(rt, failure, &files, BAD_SKETCH),
     }
 }
 

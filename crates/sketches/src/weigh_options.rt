@@ -1,5 +1,5 @@
 //! The command line of `sketches weigh`.
-ghost use Rattle.std.specs.Prelude.{◌*◌, ◌^◌, ◌<◌, ◌≤◌};
+ghost use Rattle.std.specs.Prelude.{◌*◌, ◌^◌, ◌<◌, ◌≤◌, ℕ};
 
 use crate::csv_options::{with_fields, with_weight};
 use crate::keyed_options::with_keys;
@@ -56,7 +56,8 @@ fn with_error<'a>(alloc: Global, command: Command<'a>) -> Result<Command<'a>, Al
 /// Returns the least number of parts of a whole of which each is at most this percentage of it.
 pub fn parts_of(error: Percent) -> u64
     requires { 0 < error.millionths }
-    ensures { 10 ^ 8 ≤ error.millionths * result }
+    ensures enough { 10 ^ 8 ≤ error.millionths * result }
+    ensures least { (m : ℕ) → 10 ^ 8 ≤ error.millionths * m → result ≤ m }
 {
     u64::from(WHOLE.div_ceil(error.millionths))
 }

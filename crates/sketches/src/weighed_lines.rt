@@ -5,11 +5,12 @@ ghost use Rattle.std.specs.Str.Lossy.{utf8_lossy};
 ghost use Rattle.sketches.specs.Added.{AddsLine, AddsLines};
 ghost use Rattle.sketches.specs.Failures.{FailsLine, FailsLines, IsBadWeight};
 ghost use Rattle.sketches.specs.Utf8Lines.{GrowsBy, not_utf8_in};
+ghost use Rattle.sketches.specs.Weighed.{line_weight};
 
 use crate::failure::{BadWeight, Failure};
 use crate::utf8_lines::str_of;
 use crate::weighing::{WeighedPart, Weighing};
-use crate::weights::weight_of;
+use crate::weights::{taken_weight, weight_of};
 use sketch_base::records::{Part, next_raw_line, part_of, raw_part_of};
 use sketch_frequencies::FrequentItemsSketch;
 use std::alloc::{AllocError, Global};
@@ -17,12 +18,12 @@ use std::alloc::{AllocError, Global};
 /// The maximum number of characters of a bad weight in a message.
 const SHOWN: usize = 40;
 
-/// Adds the item of each line with the weight of the line. Increments `count` for each line, and `not_utf8` for each that is not
-/// UTF-8.
+/// Adds the item of each line with the weight of the line. Increments `count` for each line, `not_utf8` for each that is not UTF-8, and
+/// `bad` for each that has an item and no weight.
 ///
 /// # Errors
 ///
-/// Returns `BadWeight` at the first line with an item and without a weight, which has the number `count`. Returns `TooManyItems`
+/// Returns `BadWeight` at the first line with an item and without a weight, if this is an error. It has the number `count`. Returns `TooManyItems`
 /// if the total would exceed `u64::MAX`, and `Memory` if an allocation fails.
 #[inline(never)]
 pub fn add_weighed_lines(
@@ -32,6 +33,7 @@ pub fn add_weighed_lines(
     bytes: &[u8],
     count: &mut u64,
     not_utf8: &mut u64,
+    bad: &mut u64,
 ) -> Result<(), Failure>
     ensures added { OnOk result (AddsLines (Weighing.Field part) sketch.old bytes.now sketch.new) }
     ensures failed { IfErr result (FailsLines (Weighing.Field part) sketch.old bytes.now) }
@@ -43,7 +45,7 @@ pub fn add_weighed_lines(
             return Ok(());
         };
         *count = count.saturating_add(1);
-        add_raw_line(alloc, sketch, part, line, *count, not_utf8)?;
+        add_raw_line(alloc, sketch, part, line, *count, not_utf8, bad)?;
         rest = after;
     }
 }
@@ -57,16 +59,17 @@ fn add_raw_line(
     line: &[u8],
     number: u64,
     not_utf8: &mut u64,
+    bad: &mut u64,
 ) -> Result<(), Failure>
     ensures added { OnOk result (AddsLine (Weighing.Field part) sketch.old line.now sketch.new) }
     ensures failed { IfErr result (FailsLine (Weighing.Field part) sketch.old line.now) }
     ensures counted { GrowsBy not_utf8.old (not_utf8_in (line.now ∷ [])) not_utf8.new }
 {
     match str_of(line, not_utf8) {
-        Some(text) => add_line(alloc, sketch, part, line, text, number),
+        Some(text) => add_line(alloc, sketch, part, line, text, number, bad),
         None => {
             let text = String::from_utf8_lossy(alloc, line)?;
-            add_line(alloc, sketch, part, line, text.as_str(), number)
+            add_line(alloc, sketch, part, line, text.as_str(), number, bad)
         }
     }
 }
@@ -80,6 +83,7 @@ fn add_line(
     line: &[u8],
     text: &str,
     number: u64,
+    bad: &mut u64,
 ) -> Result<(), Failure>
     requires { text.now ≡ utf8_lossy line.now }
     ensures added { OnOk result (AddsLine (Weighing.Field part) sketch.old line.now sketch.new) }
@@ -88,11 +92,22 @@ fn add_line(
     let Some(item) = part_of(part.item, text) else {
         return Ok(());
     };
-    let Some(weight) = weight_of(part.weight, line) else {
+    let Some(weight) = line_weight(part, line, bad) else {
         return Err(bad_weight(alloc, part.weight, line, number));
     };
     sketch.update_item_with_count(item, weight)?;
     Ok(())
+}
+
+/// Returns the weight that counts of a line that has an item, or `None` if it has none. Increments `bad` if it has none and this is no error.
+#[inline(always)]
+fn line_weight(part: WeighedPart, line: &[u8], bad: &mut u64) -> Option<u64>
+    ensures { result ≡ line_weight part line.now }
+{
+    match weight_of(part.weight, line) {
+        Some(weight) => Some(weight),
+        None => taken_weight(part.unweighed, bad),
+    }
 }
 
 /// Returns the error of a line that has no weight in a part.

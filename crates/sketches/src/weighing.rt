@@ -29,11 +29,22 @@ impl Weighing {
     }
 }
 
+/// What is done with a record that has an item and no weight.
+#[derive(Clone, Copy)]
+pub enum Unweighed {
+    /// It ends the run with an error.
+    Fails,
+    /// Its weight is 0.
+    IsZero,
+}
+
 /// A part of a line, and the part with its weight.
 #[derive(Clone, Copy)]
 pub struct WeighedPart {
     pub item: Part,
     pub weight: Part,
+    /// What is done with a line that has an item and no weight.
+    pub unweighed: Unweighed,
 }
 
 /// The index of the field of a record of CSV that is its item, and of the field with its weight, both counted from 0. The weight is 1
@@ -43,4 +54,6 @@ pub struct CsvPart {
     pub delimiter: u8,
     pub item: u32,
     pub weight: Option<u32>,
+    /// What is done with a record that has an item and no weight.
+    pub unweighed: Unweighed,
 }

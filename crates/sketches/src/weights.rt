@@ -1,8 +1,9 @@
 //! The weights of lines.
-ghost use Rattle.std.specs.Prelude.{◌≡◌};
-ghost use Rattle.sketches.specs.Weights.{weight_in};
+ghost use Rattle.std.specs.Prelude.{◌≡◌, None};
+ghost use Rattle.sketches.specs.Weights.{taken_weight, weight_in};
 ghost use Rattle.sketch_base.specs.Decimals.{number_in};
 
+use crate::weighing::Unweighed;
 use sketch_base::records::{Part, number_of, raw_part_of};
 
 /// Returns the weight in a part of a line.
@@ -16,5 +17,18 @@ pub fn weight_of(part: Part, line: &[u8]) -> Option<u64>
     match raw_part_of(part, line) {
         Some(text) => number_of(text),
         None => None,
+    }
+}
+
+/// Returns the weight of a record that has an item and no weight: 0, or `None` if it fails. Increments `bad`, up to `u64::MAX`, if it is 0.
+pub fn taken_weight(unweighed: Unweighed, bad: &mut u64) -> Option<u64>
+    ensures { result ≡ taken_weight unweighed None }
+{
+    match unweighed {
+        Unweighed::Fails => None,
+        Unweighed::IsZero => {
+            *bad = bad.saturating_add(1);
+            Some(0)
+        }
     }
 }

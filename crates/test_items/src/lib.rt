@@ -100,6 +100,10 @@ impl<const KIND: u8> EqualClone for Item<KIND> {
     ghost use Rattle.test_items.specs.Kinds.{same_of_copy};
 
     ghost clones_equal = { λ x y is. same_of_copy KIND x.0 y.0 (ap (λ item. item.0) is) };
+
+    fn may_fail() -> bool {
+        true
+    }
 }
 
 impl<const KIND: u8> FrequentItemValue for Item<KIND> {

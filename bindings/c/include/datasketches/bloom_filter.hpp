@@ -29,10 +29,14 @@ public:
         return detail::made<bloom_filter>(ds_bloom_new, num_bits, num_hashes, seed);
     }
 
-    /* Return sizes from targets: `ds_bloom_suggest_num_bits` and `ds_bloom_suggest_num_hashes`. */
+    /* Return sizes from targets: `ds_bloom_suggest_num_bits`, `ds_bloom_min_num_bits` and `ds_bloom_suggest_num_hashes`. */
     static outcome<std::uint64_t> suggest_num_bits(std::uint64_t num_items, std::uint64_t questions)
     {
         return detail::written<std::uint64_t>(ds_bloom_suggest_num_bits, num_items, questions);
+    }
+    static outcome<std::uint64_t> min_num_bits(std::uint64_t num_items, std::uint64_t questions)
+    {
+        return detail::written<std::uint64_t>(ds_bloom_min_num_bits, num_items, questions);
     }
     static outcome<std::uint16_t> suggest_num_hashes(std::uint64_t num_bits, std::uint64_t num_items)
     {

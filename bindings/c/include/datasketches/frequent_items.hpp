@@ -147,10 +147,10 @@ public:
         return this->template results_of<bounds_type>(ds_frequent_items_bounds_all, items);
     }
 
-    /* Returns the rows whose bound exceeds the threshold and the sketch's error: `.._rows`.
+    /* Returns the rows whose bound exceeds the threshold and the sketch's error, at most `limit` of them: `.._rows`.
      *
      *     for (auto &[item, lower, estimate, upper] : sketch.rows(error_type::no_false_negatives)) .. */
-    outcome<frequent_rows<T>> rows(error_type type, std::uint64_t threshold = 0)
+    outcome<frequent_rows<T>> rows(error_type type, std::uint64_t threshold = 0, std::size_t limit = SIZE_MAX)
     {
         constexpr bool of_strings = std::is_same_v<T, std::string>;
         frequent_rows<T> report;
@@ -163,11 +163,12 @@ public:
             if constexpr (of_strings) {
                 items.resize(room + 1);
                 report.bytes_.reset(new std::uint8_t[room_for_bytes]);
-                return calls::rows(&this->handle_, all, threshold, report.bytes_.get(), room_for_bytes, items.data(), items.size(),
-                                   found.data(), found.size(), &count, &num_bytes);
+                return calls::rows(&this->handle_, all, threshold, limit, report.bytes_.get(), room_for_bytes, items.data(),
+                                   items.size(), found.data(), found.size(), &count, &num_bytes);
             } else {
                 items.resize(room);
-                return calls::rows(&this->handle_, all, threshold, items.data(), items.size(), found.data(), found.size(), &count);
+                return calls::rows(&this->handle_, all, threshold, limit, items.data(), items.size(), found.data(), found.size(),
+                                   &count);
             }
         };
         /* Room for short reports. A longer one is made twice, since the first call returns its size. */

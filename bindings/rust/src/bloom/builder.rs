@@ -26,7 +26,8 @@ enum Size {
 impl BloomFilterBuilder {
     /// Creates a builder of a filter for a number of distinct items and a false-positive rate.
     ///
-    /// The size is that of the published formulas. A filter takes more items, at a higher rate.
+    /// The size is that of the published formulas. A filter takes more items, at a higher rate. For few items or a low
+    /// rate it has more false positives: see [`BloomFilter::min_num_bits`](super::BloomFilter::min_num_bits).
     ///
     /// ```
     /// use datasketches_rattle::bloom::BloomFilterBuilder;

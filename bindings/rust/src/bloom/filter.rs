@@ -299,13 +299,25 @@ impl BloomFilter {
     }
 
     /// Returns the bits of a filter for a number of items, with one false positive in `questions` under ideal
-    /// hashes. In whole numbers, and never fewer than the published formula asks for.
+    /// hashes. In whole numbers, and never fewer than the published formula asks for. With few items or a low
+    /// rate there are more false positives: take at least [`min_num_bits`](Self::min_num_bits).
     ///
     /// # Errors
     ///
     /// Returns an error for no items, for fewer than two questions, and above 137438953152 bits.
     pub fn suggest_num_bits(num_items: u64, questions: u64) -> Result<u64, Error> {
         handle::suggest_num_bits(num_items, questions)
+    }
+
+    /// Returns the least bits with which two hashes repeat less often than once in `questions`: 4 times the square
+    /// root of `num_items` times `questions`, rounded up. The rate of a filter of at least these bits and the
+    /// suggested ones is not proved. As measured, it is at most 1.3 in `questions`.
+    ///
+    /// # Errors
+    ///
+    /// Returns an error above 137438953152 bits.
+    pub fn min_num_bits(num_items: u64, questions: u64) -> Result<u64, Error> {
+        handle::min_num_bits(num_items, questions)
     }
 
     /// Returns the hashes of a filter of `num_bits` bits for a number of items.

@@ -150,6 +150,14 @@ pub(crate) fn suggest_num_bits(num_items: u64, questions: u64) -> Result<u64, Er
     Ok(num_bits)
 }
 
+/// Returns the least bits of a filter for a number of items, at one false positive in `questions`.
+pub(crate) fn min_num_bits(num_items: u64, questions: u64) -> Result<u64, Error> {
+    let mut num_bits = 0;
+    // SAFETY: rule 2.
+    done(unsafe { sys::ds_bloom_min_num_bits(num_items, questions, &mut num_bits) })?;
+    Ok(num_bits)
+}
+
 /// Returns the hashes of a filter of `num_bits` bits for a number of items.
 pub(crate) fn suggest_num_hashes(num_bits: u64, num_items: u64) -> Result<u16, Error> {
     let mut num_hashes = 0;

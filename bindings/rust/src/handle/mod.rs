@@ -22,7 +22,7 @@ mod frequent;
 mod items;
 
 pub use count_min::Cell;
-pub(crate) use filter::{suggest_num_bits, suggest_num_hashes, Image};
+pub(crate) use filter::{min_num_bits, suggest_num_bits, suggest_num_hashes, Image};
 pub(crate) use frequent::suggest_max_map_size;
 pub use frequent::Counted;
 pub use items::{Items, Text};

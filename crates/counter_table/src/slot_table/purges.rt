@@ -22,6 +22,10 @@ use sketch_base::keyed_hash;
 use std::hash::Hash;
 use std::mem;
 
+/// The byte before the number of purges, in the input of the hash that selects the start of a sample. No UTF-8 string begins
+/// with it.
+const BEFORE_PURGES: u8 = 255;
+
 /// The maximum number of counts of a small sample.
 const SMALL_SAMPLE_SIZE: usize = 64;
 
@@ -139,8 +143,8 @@ fn settle<T: Eq + Hash + Drop>(
 /// Returns the index at which the next purge begins its sample, after this number of purges.
 ///
 /// In a keyed table it depends on the key and the number. If it were fixed, a caller could learn from the errors after purges
-/// which items are sampled, and give them small counts: a purge would then drop little more than the sample. The number has
-/// 16 bytes, so its hash is not that of an item of 8 bytes.
+/// which items are sampled, and give them small counts: a purge would then drop little more than the sample. The hash is of 17
+/// bytes that begin with [`BEFORE_PURGES`], so it is not that of a number or a string.
 fn sample_start(key: TableKey, purges: u64, size: usize) -> usize
     requires { IsTableSize size }
     ensures index { result ≡ sample_start key purges size }
@@ -148,7 +152,11 @@ fn sample_start(key: TableKey, purges: u64, size: usize) -> usize
 {
     match key {
         TableKey::Plain => 0,
-        TableKey::Keyed(secret) => home(keyed_hash(secret, &(purges as u128).to_le_bytes()), size),
+        TableKey::Keyed(secret) => {
+            let mut bytes = [BEFORE_PURGES; 17];
+            bytes[1..].copy_from_slice(&(purges as u128).to_le_bytes());
+            home(keyed_hash(secret, &bytes), size)
+        }
     }
 }
 

@@ -1,5 +1,6 @@
 //! Many items, or many other filters, in one call.
 ghost use Rattle.std.specs.Prelude.{◌≡◌, ◌↔◌, map, fold, length, All, IfErr, IsOk, IsTrue, OnOk, OnErr};
+ghost use Rattle.std.specs.Iterator.{ExtendsWithItems, IsFiniteIterable};
 ghost use Rattle.sketch_base.specs.Errors.{invalid_argument};
 ghost use Rattle.sketch_bloom.specs.History.{all_inserted_after, all_united_after};
 ghost use Rattle.sketch_bloom.specs.Pairs.{with_pair, pairs_contained};
@@ -9,7 +10,8 @@ ghost use Rattle.sketch_bloom.specs.State.{IsFilterState, IsCompatible, contains
 use crate::bloom_filter::BloomFilter;
 use crate::hashes::{BLOCK, next_pairs};
 use crate::set_operation::SetOperation;
-use sketch_base::{Error, Fault, Items};
+use sketch_base::{Error, Fault, Item, Items};
+use std::alloc::AllocError;
 
 impl BloomFilter {
     /// Inserts the positions of all items, as [`insert_item`](Self::insert_item) does one after another. Does not
@@ -219,5 +221,36 @@ impl BloomFilter {
             }
         }
         true
+    }
+}
+
+/// Inserts the items of an iterator, as [`insert_item`](BloomFilter::insert_item) does one after another.
+///
+/// Always returns `Ok`. Does not allocate. [`insert_all`](BloomFilter::insert_all) is faster for slices and strings.
+///
+/// # Examples
+///
+/// ```
+/// use sketch_base::Error;
+/// use sketch_bloom::BloomFilter;
+///
+/// fn insert_even(filter: &mut BloomFilter, numbers: &[u64]) -> Result<(), Error> {
+///     filter.extend(numbers.iter().filter(|n| **n % 2 == 0))?;
+///     Ok(())
+/// }
+/// ```
+impl<X: Item + Drop> Extend<X> for BloomFilter {
+    ghost extend_gives = { λ old items new. new ≡ all_inserted old (map X.bytes items) };
+
+    fn extend<U: IntoIterator<Item = X>>(&mut self, items: U) -> Result<(), AllocError>
+        requires { IsFiniteIterable U.into_iter_gives U.IntoIter.can_next U.IntoIter.remaining items }
+        ensures ran { ExtendsWithItems U.into_iter_gives U.IntoIter.next_gives
+            (λ old seen new. new ≡ all_inserted old (map X.bytes seen)) items self.old self.new result }
+        ensures infallible { IsOk result }
+    {
+        for item in items {
+            self.insert_item(item);
+        }
+        Ok(())
     }
 }

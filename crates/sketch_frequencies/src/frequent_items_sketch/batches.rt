@@ -54,6 +54,10 @@ impl<T: Eq + Hash + Drop> FrequentItemsSketch<T> {
         ensures updates { OnOk result (UpdatesKeys T.eq self.old (K.names keys) self.new) }
         ensures state { IsState T.eq self.new }
         ensures err { IfErr result (λ e. StopsAtKey T.eq self.old (K.names keys) e self.new) }
+
+        // If keys need no memory, as those of numbers, `NoMemory` comes only where the table must double.
+        ensures doubles { ((key : K.Key) → K.Key.needs_no_memory key)
+            → OnErr result (TotalHasRoom self.new 1 → must_grow self.new ≡ true) }
     {
         if let TableKey::Keyed(secret) = self.map.key() {
             return self.update_all_keyed(keys, secret);
@@ -94,6 +98,10 @@ impl<T: Eq + Hash + Drop> FrequentItemsSketch<T> {
         ensures updates { ExtendsWithItems U.into_iter_gives U.IntoIter.next_gives
             (λ old seen new. UpdatesSeen T.eq old (map K.names seen) result new) keys self.old self.new result }
         ensures state { IsState T.eq self.new }
+
+        // If keys need no memory, as those of numbers, `NoMemory` comes only where the table must double.
+        ensures doubles { ((key : K) → K.needs_no_memory key)
+            → OnErr result (TotalHasRoom self.new 1 → must_grow self.new ≡ true) }
     {
         // Borrows a field, which brings the invariant of the sketch into the proof.
         let _ = &self.map;

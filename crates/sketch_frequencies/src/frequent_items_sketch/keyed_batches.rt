@@ -10,7 +10,7 @@ ghost use Rattle.sketch_frequencies.specs.History.FrequentHistory.{Update};
 ghost use Rattle.sketch_frequencies.specs.KeyedBatches.{UpdatesKeys, StopsAtKey};
 ghost use Rattle.sketch_frequencies.specs.KeysAhead.{AreHashed, names_ahead};
 ghost use Rattle.sketch_frequencies.specs.Stands.{Extends, ExtendsBudget, IsExactOfFew};
-ghost use Rattle.sketch_frequencies.specs.State.{IsState, Overflows, TotalHasRoom, capacity, estimate_by_key};
+ghost use Rattle.sketch_frequencies.specs.State.{IsState, Overflows, TotalHasRoom, capacity, estimate_by_key, must_grow};
 ghost use Rattle.sketch_frequencies.specs.Steps.{StepsByKey};
 
 use crate::frequent_items_sketch::FrequentItemsSketch;
@@ -73,6 +73,8 @@ impl<T: Eq + Hash + Drop> FrequentItemsSketch<T> {
         ensures updates { OnOk result (UpdatesKeys T.eq self.old (K.names keys) self.new) }
         ensures state { IsState T.eq self.new }
         ensures err { IfErr result (λ e. StopsAtKey T.eq self.old (K.names keys) e self.new) }
+        ensures doubles { ((key : K.Key) → K.Key.needs_no_memory key)
+            → OnErr result (TotalHasRoom self.new 1 → must_grow self.new ≡ true) }
     {
         // Borrows a field, which brings the invariant of the sketch into the proof.
         let _ = &self.map;
@@ -113,6 +115,7 @@ impl<T: Eq + Hash + Drop> FrequentItemsSketch<T> {
         ensures overflow { Overflows self.old 1 → IsErrOf result (invalid_argument Fault.WeightOverflow) }
         ensures memory { TotalHasRoom self.old 1 → IfErr result (λ e. e ≡ no_memory) }
         ensures succeeds { TotalHasRoom self.old 1 → is_tracked_by_key (K.names key) self.old.counters ≡ true → IsOk result }
+        ensures infallible { K.needs_no_memory key → TotalHasRoom self.old 1 → must_grow self.old ≡ false → IsOk result }
     {
         if self.total == u64::MAX {
             return Err(Error::invalid_argument(Fault::WeightOverflow));
@@ -138,6 +141,7 @@ impl<T: Eq + Hash + Drop> FrequentItemsSketch<T> {
         ensures err { OnErr result (self.new ≡ self.old) }
         ensures memory { IfErr result (λ e. e ≡ no_memory) }
         ensures succeeds { is_tracked_by_key (K.names key) self.old.counters ≡ true → IsOk result }
+        ensures infallible { K.needs_no_memory key → IsOk result }
     {
         self.map.adjust_or_put_hashed(key, hash, 1)?;
         self.total += 1;

@@ -59,6 +59,10 @@ impl<T: Eq + Hash + Drop> FrequentItemsSketch<T> {
         ensures err { OnErr result (self.new ≡ self.old) }
         ensures overflow { Overflows self.old other.now.total → IsErrOf result (invalid_argument Fault.WeightOverflow) }
         ensures memory { TotalHasRoom self.old other.now.total → IfErr result (λ e. e ≡ no_memory) }
+
+        // Numbers are merged without an allocation if the table has its maximum size.
+        ensures infallible { T.clones_never_fail → self.old.size ≡ self.old.max_size
+            → TotalHasRoom self.old other.now.total → IsOk result }
     {
         self.merge_all(&[other])
     }
@@ -104,6 +108,10 @@ impl<T: Eq + Hash + Drop> FrequentItemsSketch<T> {
         ensures overflow { Overflows self.old (total_of_all (states_of others.now))
             → IsErrOf result (invalid_argument Fault.WeightOverflow) }
         ensures memory { TotalHasRoom self.old (total_of_all (states_of others.now)) → IfErr result (λ e. e ≡ no_memory) }
+
+        // Numbers are merged without an allocation if the table has its maximum size.
+        ensures infallible { T.clones_never_fail → self.old.size ≡ self.old.max_size
+            → TotalHasRoom self.old (total_of_all (states_of others.now)) → IsOk result }
     {
         let total = self.total_with(others)?;
         if total == self.total {

@@ -4,8 +4,9 @@ use Rattle.sketch_base.specs.declared.fault.Fault.TheVariants.{WeightOverflow}
 use Rattle.sketch_countmin.specs.State.{CountState}
 use Rattle.datasketches_c.specs.CountSteps.{Weighs}
 use Rattle.datasketches_c.specs.Kinds.{HoldsKind}
-use Rattle.datasketches_c.specs.Numbers.{ok, no_sketch, refusal_number, wrong_kind}
-use Rattle.datasketches_c.proofs.KindLemmas.{on_kind_said, on_none_said, on_other_said, holds_kind, kept_when_refused}
+use Rattle.datasketches_c.specs.Numbers.{ok, no_sketch, refusal_number}
+use Rattle.datasketches_c.specs.Sharing.{unchangeable}
+use Rattle.datasketches_c.proofs.KindLemmas.{on_kind_said, on_none_said, holds_kind, kept_when_refused}
 use Rattle.datasketches_c.proofs.count.update.Goals as goal
 
 -- the sketch was changed, and the handle has it again
@@ -22,7 +23,7 @@ returns-in-Some-part_of-clause-call g c =
     (s.total + unsigned_abs weight ≤ greatest → (result ≡ ok) × HoldsKind g.bound-9.part handle (Weighs s bytes weight))
     × (greatest < s.total + unsigned_abs weight → result ≡ refusal_number WeightOverflow) in
     let counted : old.total + unsigned_abs weight ≤ greatest → (result ≡ ok) × Weighs old bytes weight new = c.add-answer.ensures.counted in
-    let said = on_kind_said g.bound-9.part c.args.handle.now.value handle c.deref_mut.result.now old result Added
+    let said = on_kind_said unchangeable g.bound-9.part c.args.handle.now.value handle c.deref_mut.result.now old result Added
     (c.in-Some.ensures.sketch ∙ ap Some (sym c.deref_mut.ensures.value)) c.in-Some-part_of.ensures.which.0
     ((λ room. ((counted room).0, holds_kind g.bound-9.part handle (g.bound-9.whole new) new (Weighs old bytes weight) c.give.ensures (g.bound-9-met.back new) (counted room).1)), c.add-answer.ensures.overflow) in
     search rules
@@ -33,7 +34,4 @@ returns-in-Some-part_of-clause-refused g c =
 
 -- the handle has no sketch, or one of another kind
 pub returns-in_default : goal.returns-in_default
-returns-in_default g c = record { call = on_none_said g.bound-9.part c.args.handle.now.value c.take.new.self.value no_sketch _ c.in_default.ensures.sketch c.in_default.ensures.emptied refl; refused = c.in_default.ensures.emptied ∙ sym c.in_default.ensures.sketch }
-
-pub returns-in-None : goal.returns-in-None
-returns-in-None g c = record { call = on_other_said g.bound-9.part c.args.handle.now.value c.give-in-None.new.self.value c.deref_mut.result.now wrong_kind _ (c.in-Some.ensures.sketch ∙ ap Some (sym c.deref_mut.ensures.value)) c.in-None.ensures.which c.give-in-None.ensures refl; refused = c.give-in-None.ensures ∙ sym (c.in-Some.ensures.sketch ∙ ap Some (sym c.deref_mut.ensures.value)) }
+returns-in_default g c = record { call = on_none_said unchangeable g.bound-9.part c.args.handle.now.value c.take.new.self.value no_sketch _ c.in_default.ensures.sketch c.in_default.ensures.emptied refl; refused = c.in_default.ensures.emptied ∙ sym c.in_default.ensures.sketch }

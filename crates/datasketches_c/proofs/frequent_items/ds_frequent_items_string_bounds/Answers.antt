@@ -2,7 +2,7 @@ use Rattle.std.proofs.Common.{◌≡◌, ℤ, Some, sym, ap, subst, ◌∙◌}
 use Rattle.datasketches_c.specs.FrequentBatches.{AreBoundsOfString}
 use Rattle.datasketches_c.specs.Kinds.{ReadsFrequentStrings, frequent_strings_of}
 use Rattle.datasketches_c.specs.Numbers.{OnRefused, ok}
-use Rattle.datasketches_c.specs.Sharing.{reads}
+use Rattle.datasketches_c.specs.Sharing.{reads, unreadable}
 use Rattle.datasketches_c.proofs.AnswerLemmas.{handed_on}
 use Rattle.datasketches_c.proofs.KindLemmas.{on_kind_said}
 use Rattle.datasketches_c.proofs.frequent_items.ds_frequent_items_string_bounds.Goals as goal
@@ -14,7 +14,7 @@ returns-in-Some-part_in-clause-utf8 c =
     let sketch = c.in-Some-part_in.sketch.now in
     let call : ℤ → Type 0 = λ z. ReadsFrequentStrings c.args.handle.now.value c.give.new.self.value z (λ s. (z ≡ ok) × AreBoundsOfString s c.args.item.now asked.new.bounds) in
     λ utf8. handed_on call asked.result asked.type_inv
-    (on_kind_said (reads frequent_strings_of) c.args.handle.now.value c.give.new.self.value c.deref.result.now sketch asked.result (λ s. (asked.result ≡ ok) × AreBoundsOfString s c.args.item.now asked.new.bounds)
+    (on_kind_said unreadable (reads frequent_strings_of) c.args.handle.now.value c.give.new.self.value c.deref.result.now sketch asked.result (λ s. (asked.result ≡ ok) × AreBoundsOfString s c.args.item.now asked.new.bounds)
     (c.in-Some.ensures.sketch ∙ ap Some (sym c.deref.ensures)) c.in-Some-part_in.ensures (asked.ensures.0, subst (λ string. AreBoundsOfString sketch string asked.new.bounds) c.in-Ok.ensures.cases.0 asked.ensures.1))
 
 pub returns-in-Some-part_in-clause-untouched : goal.returns-in-Some-part_in-clause-untouched

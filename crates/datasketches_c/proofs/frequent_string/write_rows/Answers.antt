@@ -1,4 +1,4 @@
-use Rattle.std.proofs.Common.{◌≡◌, ◌∙◌, length, subst, inr}
+use Rattle.std.proofs.Common.{◌≡◌, ◌∙◌, ap, length, refl, subst, inr, take}
 use Rattle.sketch_frequencies.specs.declared.error_type.ErrorType.{ErrorType}
 use Rattle.datasketches_c.specs.FrequentRows.{AreRows, error_type}
 use Rattle.datasketches_c.specs.FrequentStringRows.{LeavesStringRows, StringBuffers, WritesStringRows}
@@ -22,17 +22,18 @@ returns-in-Some-clause-rows c =
     let are : AreRows strings_eq kind c.args.threshold c.args.sketch.now c.in-Ok.rows.items =
     subst (λ (k : ErrorType). AreRows strings_eq k c.args.threshold c.args.sketch.now c.in-Ok.rows.items) c.error_type_of.ensures
     (record { exact = found.exact; descending = found.descending; none_missing = found.none_missing; none_below = found.none_below }) in
-    let counted : c.len.result ≡ length c.in-Ok.rows.items = c.len.ensures ∙ c.in-Ok.rows.ok.0 in
-    handed_on (WritesStringRows kind c.args.threshold c.args.sketch.now old new c.len.result c.in-Some.length) c.copy_rows.result c.copy_rows.type_inv
-    (strings_reported kind c.args.threshold c.args.sketch.now c.in-Ok.rows.items c.deref-in-Ok.result.now old new c.len.result c.in-Some.length c.copy_rows.result are c.deref-in-Ok.ensures.value counted c.copy_rows.ensures.report)
+    let all : c.deref.result.now ≡ c.in-Ok.rows.items = c.deref.ensures.value in
+    let first : c.first_rows-first.result.now ≡ take c.args.limit c.in-Ok.rows.items = c.first_rows-first.ensures ∙ ap (take c.args.limit) all in
+    handed_on (WritesStringRows kind c.args.threshold c.args.limit c.args.sketch.now old new (length c.first_rows-first.result.now) c.in-Some.length) c.copy_rows.result c.copy_rows.type_inv
+    (strings_reported kind c.args.threshold c.args.limit c.args.sketch.now c.in-Ok.rows.items c.first_rows-first.result.now old new (length c.first_rows-first.result.now) c.in-Some.length c.copy_rows.result are first refl c.copy_rows.ensures.report)
 
 pub returns-in-Some-clause-left : goal.returns-in-Some-clause-left
 returns-in-Some-clause-left c =
     let old : StringBuffers = record { bytes = c.args.bytes.now; offsets = c.args.offsets.now; bounds = c.args.bounds.now } in
     let new : StringBuffers = record { bytes = c.copy_rows.new.bytes; offsets = c.copy_rows.new.offsets; bounds = c.copy_rows.new.bounds } in
     let copied = c.copy_rows.ensures in
-    handed_on (LeavesStringRows old new c.args.count.now c.len.result c.args.num_bytes.now c.in-Some.length) c.copy_rows.result c.copy_rows.type_inv
-    (string_rows_counted old new c.args.count.now c.len.result c.args.num_bytes.now c.in-Some.length c.copy_rows.result copied.no_room copied.done copied.untouched)
+    handed_on (LeavesStringRows old new c.args.count.now (length c.first_rows-first.result.now) c.args.num_bytes.now c.in-Some.length) c.copy_rows.result c.copy_rows.type_inv
+    (string_rows_counted old new c.args.count.now (length c.first_rows-first.result.now) c.args.num_bytes.now c.in-Some.length c.copy_rows.result copied.no_room copied.done copied.untouched)
 
 -- there was no memory for the rows, or they have too many bytes
 pub returns-in-Err-clause-rows : goal.returns-in-Err-clause-rows

@@ -1,5 +1,5 @@
 use Rattle.std.proofs.Common.{◌≡◌, ℤ, Some, sym, ap, ◌∙◌}
-use Rattle.datasketches_c.specs.Kinds.{OnKind, HoldsKind}
+use Rattle.datasketches_c.specs.Kinds.{ChangesKind, OnKind, HoldsKind}
 use Rattle.datasketches_c.specs.Numbers.{OnRefused}
 use Rattle.datasketches_c.specs.Sharing.{reads}
 use Rattle.datasketches_c.proofs.AnswerLemmas.{handed_on}
@@ -9,7 +9,7 @@ use Rattle.datasketches_c.proofs.join.join.Goals as goal
 -- the other sketch was joined, and the handle has its sketch again
 pub returns-in-Some-part_of-clause-call : goal.returns-in-Some-part_of-clause-call
 returns-in-Some-part_of-clause-call g c =
-    let call : ℤ → Type 0 = λ z. OnKind g.K.Kind.part c.args.handle.now.value c.give.new.self.value z (λ a. OnKind (reads g.K.Kind.part) c.args.other.now.value c.join_into-answer.new.handle.value z (λ b. HoldsKind g.K.Kind.part c.give.new.self.value (λ t. g.K.Joins.joins c.args.way a b t z))) in
+    let call : ℤ → Type 0 = λ z. ChangesKind g.K.Kind.part c.args.handle.now.value c.give.new.self.value z (λ a. OnKind (reads g.K.Kind.part) c.args.other.now.value c.join_into-answer.new.handle.value z (λ b. HoldsKind g.K.Kind.part c.give.new.self.value (λ t. g.K.Joins.joins c.args.way a b t z))) in
     handed_on call c.join_into-answer.result c.join_into-answer.type_inv (was_joined g.K.Kind.part (λ a b t. g.K.Joins.joins c.args.way a b t c.join_into-answer.result) c.args.handle.now.value c.give.new.self.value c.args.other.now.value c.join_into-answer.new.handle.value c.deref_mut.result.now (g.K.Kind.whole c.join_into-answer.new.sketch) c.in-Some-part_of.sketch.now c.join_into-answer.new.sketch c.join_into-answer.result
     (c.in-Some.ensures.sketch ∙ ap Some (sym c.deref_mut.ensures.value)) c.in-Some-part_of.ensures.which.0 c.give.ensures (g.met.K.Kind.back c.join_into-answer.new.sketch) c.join_into-answer.ensures.call)
 

@@ -5,6 +5,6 @@ use Rattle.sketches.specs.ImageFailures.{string_row}
 use Rattle.sketches.proofs.ImageBytes.{rejected}
 use Rattle.sketches.proofs.images.load.Goals as goal
 
-pub returns-in-Err : goal.returns-in-Err
+pub returns-in-Err-clause-loaded : goal.returns-in-Err-clause-loaded
 unfolding table_bytes
-returns-in-Err c = rejected c.args.options.max_bytes c.args.image.now (early_fault_within string_row c.args.options.max_bytes text_codec c.args.image.now) c.in-Err.error c.failure_of.result c.in-Err.ensures.err c.failure_of.ensures.memory c.failure_of.ensures.other
+returns-in-Err-clause-loaded c = rejected c.args.options.max_bytes c.args.image.now (early_fault_within string_row c.args.options.max_bytes text_codec c.args.image.now) c.in-Err.error c.failure_of.result c.in-Err.ensures.err c.failure_of.ensures.memory c.failure_of.ensures.other

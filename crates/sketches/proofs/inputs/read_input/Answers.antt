@@ -15,7 +15,7 @@ pub returns-clause-failed : goal.returns-clause-failed
 returns-clause-failed g c =
     let same : g.S.LineSink.splits c.begin.new.self ≡ g.S.LineSink.splits c.args.sink.now = g.met.S.LineSink.takes_same _ _ _ (c.begin.ensures c.args.output.now) in
     if_err c.read_lines.result _ _
-    (begun_failed (λ s. g.S.LineSink.splits s.0) g.S.LineSink.takes (c.args.sink.now, c.args.output.now) (c.begin.new.self, c.args.output.now) same (c.begin.ensures c.args.output.now) g.S.LineSink.fails g.met.S.LineSink.fails_later c.args.limit (g.R.Read.remaining c.args.reader.now))
+    (begun_failed (λ s. g.S.LineSink.splits s.0) g.S.LineSink.takes (c.args.sink.now, c.args.output.now) (c.begin.new.self, c.args.output.now) same (c.begin.ensures c.args.output.now) g.S.LineSink.fails g.met.S.LineSink.fails_later g.met.S.LineSink.takes_both c.args.limit (g.R.Read.remaining c.args.reader.now) (c.read_lines.new.sink, c.read_lines.new.output))
     c.read_lines.ensures.failed
 
 pub returns-clause-same : goal.returns-clause-same

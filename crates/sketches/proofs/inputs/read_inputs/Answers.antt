@@ -1,8 +1,8 @@
-use Rattle.std.proofs.Common.{refl, subst, ◌∙◌}
+use Rattle.std.proofs.Common.{inl, refl, subst, ◌∙◌}
 use Rattle.std.proofs.lemmas.Result.{err_from_is_err_and}
 use Rattle.sketches.specs.Reading.{FailsInput, TakesInput}
 use Rattle.sketch_base.specs.declared.records.Records.{Records}
-use Rattle.sketches.proofs.ReadInputs.{inputs_none, inputs_more, inputs_failed}
+use Rattle.sketches.proofs.ReadInputs.{inputs_none, inputs_more, inputs_failed, inputs_stopped}
 use Rattle.sketches.proofs.inputs.read_inputs.Goals as goal
 
 pub each-init : goal.each-init
@@ -24,9 +24,13 @@ pub returns-in_err-failure-clause-failed : goal.returns-in_err-failure-clause-fa
 returns-in_err-failure-clause-failed g c =
     let e = err_from_is_err_and c.from_residual.result c.from_residual.ensures.1 in
     let f : Records = g.S.LineSink.splits c.args.sink.now in
-    let failed = subst (λ (r : Records). FailsInput r g.S.LineSink.fails c.args.limit (g.I.Reader.Read.remaining c.in-Some.reader) (c.each.sink, c.each.output) c.in_err-failure.field-0.0) c.each.invariant.1 c.in_err-failure.ensures.failed in
+    let failed = subst (λ (r : Records). FailsInput r g.S.LineSink.takes g.S.LineSink.fails c.args.limit (g.I.Reader.Read.remaining c.in-Some.reader) (c.each.sink, c.each.output) (c.read_input.new.sink, c.read_input.new.output) c.in_err-failure.field-0.0) c.each.invariant.1 c.in_err-failure.ensures.failed in
     rw (e.1, e.2)
     (inputs_failed f g.S.LineSink.takes g.S.LineSink.fails g.I.Reader.Read.remaining c.args.limit c.each.complete
     (g.I.Inputs.inputs c.args.inputs.now) (g.I.Inputs.inputs c.each.inputs) (g.I.Inputs.inputs c.next.new.self)
-    (c.args.sink.now, c.args.output.now) (c.each.sink, c.each.output) c.next.result c.in-Some.reader _
+    (c.args.sink.now, c.args.output.now) (c.each.sink, c.each.output) (c.read_input.new.sink, c.read_input.new.output) c.next.result c.in-Some.reader _
     c.each.invariant.0 c.next.ensures c.in-Some.is failed)
+
+pub returns-clause-failed : goal.returns-clause-failed
+returns-clause-failed g c =
+    inl (inl refl, inputs_stopped (g.S.LineSink.splits c.args.sink.now) g.S.LineSink.takes c.each.complete (g.I.Inputs.inputs c.args.inputs.now) (g.I.Inputs.inputs c.each.inputs) (c.args.sink.now, c.args.output.now) (c.each.sink, c.each.output) c.each.invariant.0)

@@ -1,7 +1,7 @@
 use Rattle.std.proofs.Common.{Err, inl, inr, ⊎_elim, take, ap, arith, ◌∙◌, length-take-le, sym}
 use Rattle.std.proofs.lemmas.Result.{err_from_is_err_and}
 use Rattle.std.specs.declared.io.Error.{Error}
-use Rattle.sketches.proofs.ReadLines.{one_start, place_start, taken_none, too_long, taken_more, taken_lines, taken_last, taken_failed, fails_last, fails_lines, filled, none_more}
+use Rattle.sketches.proofs.ReadLines.{one_start, place_start, taken_none, too_long, taken_more, taken_lines, taken_last, taken_failed, taken_stopped, fails_last, fails_lines, filled, none_more}
 use Rattle.sketches.proofs.reading.read_lines.Goals as goal
 
 pub returns-in_err-make_room-clause-failed : goal.returns-in_err-make_room-clause-failed
@@ -9,12 +9,15 @@ returns-in_err-make_room-clause-failed g c =
     let e = err_from_is_err_and c.from_residual.result c.from_residual.ensures.1 in
     let f = c.in_err-make_room.ensures in
     rw (e.1, e.2)
-    (⊎_elim (λ memory. inl memory)
-    (λ long.
-    let (full, le) = f.too_long.0 (ap Err long) in
-    let len = length-take-le c.reads.held c.reads.buffer.items c.reads.invariant.0 in
-    inr (inl (long, rw (← c.records-records.ensures) (too_long c.records-records.result g.S.LineSink.takes (g.R.Read.remaining c.args.reader.now) (g.R.Read.remaining c.reads.reader) (c.args.sink.now, c.args.output.now) (c.reads.sink, c.reads.output) (take c.reads.held c.reads.buffer.items) c.args.limit c.reads.invariant.4 (omega (arith, le, len)) c.reads.invariant.1))))
-    f.failed)
+    (inl (
+      ⊎_elim (λ memory. inl memory)
+          (λ long.
+          let (full, le) = f.too_long.0 (ap Err long) in
+          let len = length-take-le c.reads.held c.reads.buffer.items c.reads.invariant.0 in
+          inr (long, rw (← c.records-records.ensures) (too_long c.records-records.result g.S.LineSink.takes (g.R.Read.remaining c.args.reader.now) (g.R.Read.remaining c.reads.reader) (c.args.sink.now, c.args.output.now) (c.reads.sink, c.reads.output) (take c.reads.held c.reads.buffer.items) c.args.limit c.reads.invariant.4 (omega (arith, le, len)) c.reads.invariant.1)))
+          f.failed,
+      rw (← c.records-records.ensures) (taken_stopped c.records-records.result g.S.LineSink.takes (g.R.Read.remaining c.args.reader.now) (g.R.Read.remaining c.reads.reader) (c.args.sink.now, c.args.output.now) (c.reads.sink, c.reads.output) _ c.reads.invariant.4),
+    ))
 
 pub returns-in-Err-clause-taken : goal.returns-in-Err-clause-taken
 returns-in-Err-clause-taken g c =
@@ -29,9 +32,9 @@ returns-in_err-take-clause-failed g c =
     let same = f.1 ∙ c.in_ok-make_room.ensures.kept in
     let all = taken_more c.records-records.result g.S.LineSink.takes _ _ _ _ _ _ _ _ c.reads.invariant.4 got.1 (filled c.reads.held c.in-Some.count _ _ c.reads.invariant.0 same) in
     rw (e.1, e.2)
-    (inr (inr (rw (← c.records-records.ensures)
-    (fails_last c.records-records.result g.S.LineSink.takes (λ s. g.S.LineSink.splits s.0) g.S.LineSink.fails g.met.S.LineSink.fails_later _ _ _ (c.reads.sink, c.reads.output) _ (take c.reads.held c.fill.new.buffer.items) _ (sym c.records-records.ensures) all
-    (none_more c.reads.held c.in-Some.count _ c.if-count-eq0.true) (got.2 c.if-count-eq0.true) (rw c.deref.ensures.value at c.in_err-take.ensures.failed)))))
+    (inr (rw (← c.records-records.ensures)
+    (fails_last c.records-records.result g.S.LineSink.takes (λ s. g.S.LineSink.splits s.0) g.S.LineSink.fails g.met.S.LineSink.fails_later _ _ _ (c.reads.sink, c.reads.output) _ _ (take c.reads.held c.fill.new.buffer.items) _ (sym c.records-records.ensures) all
+    (none_more c.reads.held c.in-Some.count _ c.if-count-eq0.true) (got.2 c.if-count-eq0.true) (rw c.deref.ensures.value at c.in_err-take.ensures.failed))))
 
 pub returns-in_err-kept-clause-failed : goal.returns-in_err-kept-clause-failed
 returns-in_err-kept-clause-failed g c =
@@ -41,8 +44,8 @@ returns-in_err-kept-clause-failed g c =
     let same = f.1 ∙ c.in_ok-make_room.ensures.kept in
     let all = taken_more c.records-records.result g.S.LineSink.takes _ _ _ _ _ _ _ _ c.reads.invariant.4 got.1 (filled c.reads.held c.in-Some.count _ _ c.reads.invariant.0 same) in
     rw (e.1, e.2)
-    (inr (inr (rw (← c.records-records.ensures)
-    (fails_lines c.records-records.result g.S.LineSink.takes (λ s. g.S.LineSink.splits s.0) g.S.LineSink.fails g.met.S.LineSink.fails_later g.met.S.LineSink.fails_sooner _ _ _ (c.reads.sink, c.reads.output) _ _ (sym c.records-records.ensures) c.reads.invariant.3 all c.in_err-kept.ensures.failed))))
+    (inr (rw (← c.records-records.ensures)
+    (fails_lines c.records-records.result g.S.LineSink.takes (λ s. g.S.LineSink.splits s.0) g.S.LineSink.fails g.met.S.LineSink.fails_later g.met.S.LineSink.fails_sooner _ _ _ (c.reads.sink, c.reads.output) _ _ _ (sym c.records-records.ensures) c.reads.invariant.3 all c.in_err-kept.ensures.failed)))
 
 pub returns-then-count-eq0 : goal.returns-then-count-eq0
 returns-then-count-eq0 g c =

@@ -28,7 +28,7 @@ returns-in_err-take-clause-failed g c =
     let le : at ≤ end - held = omega (arith, bound, length-take (end - held) (drop held items)) in
     let front : take (held + at) items ≡ take (held + at) (take end items) = sym (take-take (held + at) end items (omega (arith, le, c.requires.held))) in
     let failed = rw (c.deref-2.ensures.value, front) at c.in_err-take.ensures.failed in
-    rw (e.1, e.2) (fails_some c.args.records g.S.LineSink.fails (c.args.sink.now, c.args.output.now) items held at end c.args.place _ c.requires.held (omega (arith, c.if-last-eq0.false)) le c.requires.end c.requires.place last failed)
+    rw (e.1, e.2) (fails_some c.args.records g.S.LineSink.fails (c.args.sink.now, c.args.output.now) (c.take.new.self, c.take.new.output) items held at end c.args.place _ c.requires.held (omega (arith, c.if-last-eq0.false)) le c.requires.end c.requires.place last failed)
 
 pub returns-clause-taken : goal.returns-clause-taken
 returns-clause-taken g c =

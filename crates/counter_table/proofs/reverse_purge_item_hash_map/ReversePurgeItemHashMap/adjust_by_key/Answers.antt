@@ -17,8 +17,9 @@ returns g c =
     record {
       tracked = rw (← c.self.view_is) a.tracked;
       present = λ t x is. rw (← c.self.view_is) (a.present t x is);
-      absent = λ f. ap (λ t. table_of t.key t.slots) (a.absent f) ∙ c.self.view_is;
+      absent = λ f. ap (λ t. table_of t.key c.self.inside.purges t.slots) (a.absent f) ∙ c.self.view_is;
       key = a.key ∙ ap (λ t. t.key) c.self.view_is;
+      purges = ap (λ t. t.purges) c.self.view_is;
       size = a.size ∙ ap (λ t. t.size) c.self.view_is;
       distinct = a.slots.distinct;
     }

@@ -23,7 +23,7 @@ put_by_key-requires g c = record { slots = c.self.invariant.slots_ok; room = rw 
 pub overflow_add-self : goal.overflow_add-self
 overflow_add-self g c = omega (arith, c.self.invariant.active_is, c.self.invariant.slots_ok.room, c.self.invariant.slots_ok.size.limit)
 
-table : (g : given.Over) (c : goal.Joined-branch g) → c.if-branch.self ≡ table_of c.put_by_key.new.self.key c.put_by_key.new.self.slots
+table : (g : given.Over) (c : goal.Joined-branch g) → c.if-branch.self ≡ table_of c.put_by_key.new.self.key c.self.inside.purges c.put_by_key.new.self.slots
 table g c = elim c.if-branch.branch [
   | then-branch w ↦ w.self-is
   | else-branch w ↦ w.self-is
@@ -37,6 +37,7 @@ returns g c =
       entries = puts;
       size = p.size;
       key = p.key;
+      purges = refl;
       distinct = p.slots.distinct;
       err = tt;
       memory = tt;
@@ -48,11 +49,12 @@ pub returns-in_err-put_by_key : goal.returns-in_err-put_by_key
 returns-in_err-put_by_key g c =
     let w = c.in_err-put_by_key.ensures in
     let e = err_from_is_err_and c.from_residual.result c.from_residual.ensures.1 in
-    let same = ap (λ t. table_of t.key t.slots) w.err ∙ c.self.view_is in
+    let same = ap (λ t. table_of t.key c.self.inside.purges t.slots) w.err ∙ c.self.view_is in
     record {
       entries = rw e.1 tt;
       size = ap (λ t. t.size) same;
       key = ap (λ t. t.key) same;
+      purges = ap (λ t. t.purges) same;
       distinct = c.put_by_key.ensures.slots.distinct;
       err = rw e.1 same;
       memory = rw e.1 (e.2 ∙ w.memory);

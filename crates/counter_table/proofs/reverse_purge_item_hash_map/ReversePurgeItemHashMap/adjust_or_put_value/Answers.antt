@@ -17,9 +17,9 @@ overflow_add-self g c = omega (arith, c.self.invariant.active_is, c.self.invaria
 pub returns-then-put : goal.returns-then-put
 returns-then-put g c =
     let p = c.put.ensures in
-    record { entries = rw (← c.self.view_is) p.entries; size = p.size ∙ ap (λ t. t.size) c.self.view_is; key = p.key ∙ ap (λ t. t.key) c.self.view_is; distinct = p.slots.distinct }
+    record { entries = rw (← c.self.view_is) p.entries; size = p.size ∙ ap (λ t. t.size) c.self.view_is; key = p.key ∙ ap (λ t. t.key) c.self.view_is; purges = ap (λ t. t.purges) c.self.view_is; distinct = p.slots.distinct }
 
 pub returns-else-put : goal.returns-else-put
 returns-else-put g c =
     let p = c.put.ensures in
-    record { entries = rw (← c.self.view_is) p.entries; size = p.size ∙ ap (λ t. t.size) c.self.view_is; key = p.key ∙ ap (λ t. t.key) c.self.view_is; distinct = p.slots.distinct }
+    record { entries = rw (← c.self.view_is) p.entries; size = p.size ∙ ap (λ t. t.size) c.self.view_is; key = p.key ∙ ap (λ t. t.key) c.self.view_is; purges = ap (λ t. t.purges) c.self.view_is; distinct = p.slots.distinct }

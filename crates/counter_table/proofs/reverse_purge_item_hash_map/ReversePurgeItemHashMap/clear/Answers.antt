@@ -17,4 +17,4 @@ invariant_of-self g c =
     }
 
 pub returns : goal.returns
-returns g c = table_is _ c.args.size c.clear.ensures.free c.clear.ensures.size ∙ ap (λ key. record { entries = []; size = c.args.size; key = key }) (c.clear.ensures.key ∙ ap (λ t. t.key) c.self.view_is)
+returns g c = table_is _ c.args.size c.clear.ensures.free c.clear.ensures.size ∙ ap (λ key. record { entries = []; size = c.args.size; key = key; purges = c.self.inside.purges }) (c.clear.ensures.key ∙ ap (λ t. t.key) c.self.view_is) ∙ ap (λ purges. record { entries = []; size = c.args.size; key = c.args.self.now.key; purges = purges }) (ap (λ t. t.purges) c.self.view_is)

@@ -11,7 +11,7 @@ invariant_of-self g c = counted_more c.self.invariant c.insert.ensures.slots c.a
 pub returns : goal.returns
 returns g c =
     let p = c.insert.ensures in
-    record { entries = rw (← c.self.view_is) p.entries; size = p.size ∙ ap (λ t. t.size) c.self.view_is; key = p.key ∙ ap (λ t. t.key) c.self.view_is; distinct = p.slots.distinct }
+    record { entries = rw (← c.self.view_is) p.entries; size = p.size ∙ ap (λ t. t.size) c.self.view_is; key = p.key ∙ ap (λ t. t.key) c.self.view_is; purges = ap (λ t. t.purges) c.self.view_is; distinct = p.slots.distinct }
 
 pub overflow_add-self : goal.overflow_add-self
 overflow_add-self g c = omega (arith, c.self.invariant.active_is, c.self.invariant.slots_ok.room, c.self.invariant.slots_ok.size.limit)

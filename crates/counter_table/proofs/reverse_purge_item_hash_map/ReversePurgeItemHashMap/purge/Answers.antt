@@ -1,6 +1,10 @@
-use Rattle.std.proofs.Common.{arith, ap, ◌∙◌, ◌≡◌, length, min}
+use Rattle.std.proofs.Common.{arith, ap, ◌∙◌, ◌≡◌, ◌+◌, ◌%◌, ◌^◌, length, min, subst}
 use Rattle.std.proofs.lemmas.List.Sorted.{length_permutation}
+use Rattle.counter_table.specs.Samples.{sample_start, IsSampledFrom}
+use Rattle.counter_table.specs.TableHashes.{hash_in}
+use Rattle.counter_table.specs.Tables.{Table}
 use Rattle.counter_table.proofs.PurgeRoom.{purged_shorter}
+use Rattle.counter_table.proofs.PurgeSamples.{sampled_from}
 use Rattle.counter_table.proofs.reverse_purge_item_hash_map.ReversePurgeItemHashMap.purge.Goals as goal
 
 pub returns-clause-middle : goal.returns-clause-middle
@@ -43,6 +47,17 @@ returns-clause-distinct g c = c.lower-removed.ensures.slots.distinct
 
 pub returns-clause-key : goal.returns-clause-key
 returns-clause-key g c = c.lower-removed.ensures.key ∙ ap (λ t. t.key) c.self.view_is
+
+pub returns-clause-purges : goal.returns-clause-purges
+returns-clause-purges g c = ap (λ t. (t.purges + 1) % 2 ^ 64) c.self.view_is
+
+pub returns-clause-start : goal.returns-clause-start
+returns-clause-start g c =
+    let n = min c.args.sample_size (min (length c.args.self.now.entries) 1024) in
+    let m = c.middle_of-middle.result in
+    let size : c.min-size.result ≡ n = omega (arith, c.min-size.ensures, c.min.ensures, c.self.invariant.active_is, ap (λ t. length t.entries) c.self.view_is) in
+    let P : Table g.row.T.Denot → Type 0 = λ t. IsSampledFrom g.T.PartialEq.eq (hash_in t.key g.T.Hash.hash_input) t (sample_start t.key t.purges t.size) n m in
+    subst P c.self.view_is (sampled_from c.self.invariant.slots_ok (rw size at c.middle_of-middle.ensures.sample))
 
 pub middle_of-middle-requires-clause-table : goal.middle_of-middle-requires-clause-table
 middle_of-middle-requires-clause-table g c = c.self.invariant.slots_ok.size

@@ -28,13 +28,14 @@ invariant_of-self g c =
 pub returns-in_err-table : goal.returns-in_err-table
 returns-in_err-table g c =
     let e = err_from_is_err_and c.from_residual.result c.from_residual.ensures.1 in
-    record { entries = IsPermutation-refl _; ok = rw e.1 tt; key = refl; err = rw e.1 refl; memory = rw e.1 (e.2 ∙ c.in_err-table.ensures.err); distinct = rw (← c.self.view_is) c.self.invariant.slots_ok.distinct }
+    record { entries = IsPermutation-refl _; ok = rw e.1 tt; key = refl; purges = refl; err = rw e.1 refl; memory = rw e.1 (e.2 ∙ c.in_err-table.ensures.err); distinct = rw (← c.self.view_is) c.self.invariant.slots_ok.distinct }
 
 pub returns : goal.returns
 returns g c = record {
   entries = rw (← c.self.view_is) (rw c.replace-old.ensures.value at c.move_all.ensures.entries);
   ok = c.move_all.ensures.size ∙ (made_free _ _ (ap (λ t. t.slots) (c.replace-old.ensures.after ∙ c.in_ok-table.ensures.ok))).1;
   key = c.move_all.ensures.key ∙ (ap (λ t. t.key) (c.replace-old.ensures.after ∙ c.in_ok-table.ensures.ok) ∙ c.key.ensures);
+  purges = ap (λ t. t.purges) c.self.view_is;
   err = tt;
   memory = tt;
   distinct = c.move_all.ensures.slots.distinct;

@@ -24,3 +24,6 @@ returns-clause-distinct g c = (invariant_of-result g c).slots_ok.distinct
 
 pub returns-clause-key : goal.returns-clause-key
 returns-clause-key g c = c.in_ok-table.ensures.key ∙ ap (λ t. t.key) c.self.view_is
+
+pub returns-clause-purges : goal.returns-clause-purges
+returns-clause-purges g c = ap (λ t. t.purges) c.self.view_is

@@ -11,4 +11,4 @@ invariant_of-result g c = record {
 }
 
 pub returns-clause-ok : goal.returns-clause-ok
-returns-clause-ok g c = let free = made_free _ _ (ap (λ t. t.slots) c.in_ok-table.ensures.ok) in table_is _ _ free.0 free.1 ∙ ap (λ key. record { entries = []; size = c.args.map_size; key = key }) (ap (λ t. t.key) c.in_ok-table.ensures.ok)
+returns-clause-ok g c = let free = made_free _ _ (ap (λ t. t.slots) c.in_ok-table.ensures.ok) in table_is _ _ free.0 free.1 ∙ ap (λ key. record { entries = []; size = c.args.map_size; key = key; purges = 0 }) (ap (λ t. t.key) c.in_ok-table.ensures.ok)

@@ -1,6 +1,8 @@
 use Rattle.std.proofs.Common.{subst}
 use Rattle.sketch_frequencies.specs.State.{IsState}
 use Rattle.sketch_frequencies.proofs.KeyedBatches.{added_none, added_more}
+use Rattle.std.proofs.lemmas.Result.{err_from_is_err_and}
+use Rattle.sketch_frequencies.proofs.KeyedBatches.{due_to_double}
 use Rattle.sketch_frequencies.proofs.frequent_items_sketch.FrequentItemsSketch.update_all.Goals as goal
 
 pub each-init : goal.each-init
@@ -17,3 +19,8 @@ each-preserved g c =
           (g.met.K.Key.ItemKey.respects_eq c.in-Some.key) c.each.invariant.added c.in-Some.ensures e.step e.stands e.budget;
       state = c.update_item.ensures.state;
     }
+
+pub returns-in_err-update_item-clause-doubles : goal.returns-in_err-update_item-clause-doubles
+returns-in_err-update_item-clause-doubles g c = λ free.
+    let e = c.in_err-update_item.ensures in
+    rw (err_from_is_err_and c.from_residual.result c.from_residual.ensures.1).1 (due_to_double c.each.self c.update_item.new.self e.err (e.infallible (free c.in-Some.key)))

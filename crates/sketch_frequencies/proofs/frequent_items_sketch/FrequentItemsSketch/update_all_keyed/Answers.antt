@@ -4,6 +4,7 @@ use Rattle.counter_table.specs.declared.table_key.TableKey.TheVariants.{Keyed}
 use Rattle.sketch_frequencies.specs.KeysAhead.{AreHashed, names_ahead}
 use Rattle.sketch_frequencies.proofs.KeyedAhead.{stops_at}
 use Rattle.sketch_frequencies.proofs.KeyedBatches.{added_all, added_more}
+use Rattle.sketch_frequencies.proofs.KeyedBatches.{due_to_double}
 use Rattle.sketch_frequencies.proofs.frequent_items_sketch.FrequentItemsSketch.update_all_keyed.Goals as goal
 
 pub returns-in-One-clause-updates : goal.returns-in-One-clause-updates
@@ -47,3 +48,18 @@ returns-in_err-update_hashed-in-Two-2-clause-err g c =
     let w = c.in_err-update_hashed-in-Two-2.ensures in
     let r = err_from_is_err_and c.from_residual-in_err-update_hashed-in-Two-2.result c.from_residual-in_err-update_hashed-in-Two-2.ensures.1 in
     rw r.1 (stops_at g.T.PartialEq.eq c.args.self.now c.update_hashed-in-Two.new.self c.update_hashed-in-Two-2.new.self all (second ∷ later) later second r.0 _ one refl w.err r.2 w.overflow w.memory w.succeeds)
+
+pub returns-in_err-update_hashed-in-One-clause-doubles : goal.returns-in_err-update_hashed-in-One-clause-doubles
+returns-in_err-update_hashed-in-One-clause-doubles g c = λ free.
+    let e = c.in_err-update_hashed-in-One.ensures in
+    rw (err_from_is_err_and c.from_residual.result c.from_residual.ensures.1).1 (due_to_double c.each.self c.update_hashed.new.self e.err (e.infallible (free c.in-One.key)))
+
+pub returns-in_err-update_hashed-in-Two-clause-doubles : goal.returns-in_err-update_hashed-in-Two-clause-doubles
+returns-in_err-update_hashed-in-Two-clause-doubles g c = λ free.
+    let e = c.in_err-update_hashed-in-Two.ensures in
+    rw (err_from_is_err_and c.from_residual-in_err-update_hashed-in-Two.result c.from_residual-in_err-update_hashed-in-Two.ensures.1).1 (due_to_double c.each.self c.update_hashed-in-Two.new.self e.err (e.infallible (free c.in-Two.first)))
+
+pub returns-in_err-update_hashed-in-Two-2-clause-doubles : goal.returns-in_err-update_hashed-in-Two-2-clause-doubles
+returns-in_err-update_hashed-in-Two-2-clause-doubles g c = λ free.
+    let e = c.in_err-update_hashed-in-Two-2.ensures in
+    rw (err_from_is_err_and c.from_residual-in_err-update_hashed-in-Two-2.result c.from_residual-in_err-update_hashed-in-Two-2.ensures.1).1 (due_to_double c.update_hashed-in-Two.new.self c.update_hashed-in-Two-2.new.self e.err (e.infallible (free c.in-Two.second)))

@@ -1,6 +1,6 @@
 use Rattle.std.proofs.Common.{◌≡◌, map}
 use Rattle.sketch_bloom.specs.State.{all_inserted}
-use Rattle.sketch_bloom.proofs.bloom_filter.operators.BloomFilterExtend.extend.Given as goal
+use Rattle.sketch_bloom.proofs.bloom_filter.batches.BloomFilterExtend.extend.Given as goal
 
 -- the items so far are inserted
 abbrev pub invariant-loop-item : goal.invariant-loop-item
