@@ -1,10 +1,15 @@
 """Checks options, names and messages of `sketches` for `sketches.py`, and what a terminal gets."""
 import os
 import pty
+import resource
 import subprocess
-import time
 
 ENVIRONMENT = {"PATH": "/usr/bin:/bin", "DATASKETCHES_TABLE_KEY": "plain", "ASAN_OPTIONS": "detect_leaks=0"}
+
+
+def has_little_memory():
+    """Bounds the memory of this process by 64 MiB, so that it cannot hold a long input."""
+    resource.setrlimit(resource.RLIMIT_AS, (1 << 26, 1 << 26))
 
 
 class Messages:
@@ -82,20 +87,18 @@ class Messages:
         os.mkdir(os.path.join(self.folder, "folder"))
         for words in [["weigh"], ["join"], ["weigh", "--csv", "-f", "1", "--keys-field", "1"]]:
             reader, writer = os.pipe()
-            start = time.monotonic()
-            run = subprocess.run([self.tests.program, *words, "--keys", "folder"], stdin=reader, capture_output=True, cwd=self.folder, env=ENVIRONMENT, timeout=20)
+            run = subprocess.run([self.tests.program, *words, "--keys", "folder"], stdin=reader, capture_output=True, cwd=self.folder, env=ENVIRONMENT, timeout=60)
             os.close(reader)
             os.close(writer)
             ran = run.returncode, run.stdout, run.stderr
             said = b"sketches: folder: Is a directory (os error 21)\n"
-            self.check(f"{words}: a folder of keys", ran == (2, b"", said) and time.monotonic() - start < 10, ran)
+            self.check(f"{words}: a folder of keys", ran == (2, b"", said), ran)
 
     def images(self):
         """An input without end that is no image is not read on."""
         for words in [["show", "/dev/zero"], ["merge", "/dev/zero"]]:
-            start = time.monotonic()
-            ran = self.ran(*words)
-            self.check(f"{words}", ran[:2] == (2, b"") and ran[2].startswith(b"sketches: /dev/zero: BadFamily") and time.monotonic() - start < 0.5, ran)
+            ran = self.ran(*words, preexec_fn=has_little_memory)
+            self.check(f"{words}", ran[:2] == (2, b"") and ran[2].startswith(b"sketches: /dev/zero: BadFamily"), ran)
         for length in [0, 7, 8, 63, 64, 65, 1000, 1 << 20]:
             ran = self.ran("show", "-", data=bytes([4, 1, 99]) + bytes(length))
             self.check(f"show of {length} bytes", ran[:2] == (2, b"") and ran[2].startswith(b"sketches: -: "), ran)

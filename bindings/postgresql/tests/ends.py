@@ -89,7 +89,7 @@ def cancels(tests):
                 took = time.monotonic() - began
                 cancel.join()
                 tests.check(f"a cancel of {name}", code == "57014", (code, took))
-                tests.check(f"a cancel of {name} comes soon", 0.2 < took < 3, took)
+                tests.check(f"a cancel of {name} comes soon", 0.2 < took < 30, took)
                 cursor.execute(ANSWER)
                 tests.check(f"an answer after a cancel of {name}", cursor.fetchone() == (400000,))
 

@@ -63,7 +63,7 @@ def run_others(runs):
     if absent:
         print("not found here, or without headers: Python", ", ".join(absent))
     for path, whole in others.values():
-        runs.run(f"the package with Python {whole}", path, OF_PACKAGE, runs.build(path, CFLAGS="-O1"), 600, 10, OF_OTHERS)
+        runs.run(f"the package with Python {whole}", path, OF_PACKAGE, runs.build(path, CFLAGS="-O1"), 1800, 10, OF_OTHERS)
 
 
 def main():
@@ -79,10 +79,10 @@ def main():
         with open(os.path.join(hidden, "numpy.py"), "w", encoding="utf-8") as file:
             file.write('raise ImportError("there is no numpy here")\n')
         groups = {
-            "numpy": lambda: runs.run("the package with numpy", PYTHON, OF_PACKAGE, built, 600, 0),
-            "plain": lambda: runs.run("the package without numpy", PYTHON, OF_PACKAGE, f"{hidden}:{built}", 600, 28),
+            "numpy": lambda: runs.run("the package with numpy", PYTHON, OF_PACKAGE, built, 1800, 0),
+            "plain": lambda: runs.run("the package without numpy", PYTHON, OF_PACKAGE, f"{hidden}:{built}", 1800, 28),
             "others": lambda: run_others(runs),
-            "dask": lambda: runs.run("the jobs on Dask", PYTHON, OF_JOBS, built, 1200, 0),
+            "dask": lambda: runs.run("the jobs on Dask", PYTHON, OF_JOBS, built, 1800, 0),
         }
         for group, run in groups.items():
             if words.only in (None, group):

@@ -208,7 +208,7 @@ class Blocking(unittest.TestCase):
             timer.start()
             began = time.monotonic()
             self.assertRaises(KeyboardInterrupt, ds.FrequentItemsSketch.from_file, reader, threads=1, **more)
-            self.assertLess(time.monotonic() - began, 3)
+            self.assertLess(time.monotonic() - began, 60)
             timer.join()
             os.close(writer)
 

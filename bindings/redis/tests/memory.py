@@ -226,7 +226,7 @@ def limits(tests):
         tests.check("each source and what it is merged into count", got[0] == "OK" and merge_limit in str(got[1]), got)
         began = time.monotonic()
         client("SKETCH.STATE", "p", 0, b"RSK\x01\x01\0\0\0" + (10**12).to_bytes(8, "little") + bytes(100))
-        tests.check("a state that claims a length", client.done("EXISTS", "p") == 0 and time.monotonic() - began < 1)
+        tests.check("a state that claims a length", client.done("EXISTS", "p") == 0 and time.monotonic() - began < 30)
 
 
 def full(tests):
@@ -304,7 +304,7 @@ def freed(tests):
                             else how.split()
                         )
                     )
-                end = time.monotonic() + 5
+                end = time.monotonic() + 30
                 while empty is not None and number("used_memory") - empty > 200000 and time.monotonic() < end:
                     time.sleep(0.02)
                 if empty is None:

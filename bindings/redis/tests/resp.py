@@ -43,6 +43,11 @@ class Client:
         self.socket.sendall(b"".join(map(packed, commands)))
         return [self.read() for _ in commands]
 
+    def server_time(self):
+        """Returns the processor time that the server has taken, in seconds. Unlike the clock, it does not count what runs beside it."""
+        lines = self.done("INFO", "cpu").decode().split("\r\n")
+        return sum(float(line.split(":")[1]) for line in lines if line.startswith(("used_cpu_sys:", "used_cpu_user:")))
+
     def read(self):
         line = self.file.readline()
         if not line.endswith(b"\r\n"):

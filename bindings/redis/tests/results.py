@@ -2,7 +2,6 @@
 import collections
 import math
 import random
-import time
 
 import replicas
 import stored
@@ -185,10 +184,10 @@ def large_tables(tests):
         def fastest(*commands, turns=5):
             found = []
             for _ in range(turns):
-                began = time.perf_counter()
+                before = client.server_time()
                 for command in commands:
                     client.done(*command)
-                found.append(time.perf_counter() - began)
+                found.append(client.server_time() - before)
             return min(found)
 
         equal = fastest(["TOPK.QUERY", "t", "item 3"], turns=1)
