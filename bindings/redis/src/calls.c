@@ -8,9 +8,6 @@
 /* Returns whether a value of a type is one of a kind, or of any sketch if the kind is 0. */
 static bool is_kind(const RedisModuleType *type, Kind kind)
 {
-#ifdef PLANT_KIND_MISTAKEN
-    kind = 0;
-#endif
     if (kind != 0) return type == type_of(kind);
     return type == types.filters || type == types.counts || type == types.frequent;
 }
@@ -97,9 +94,7 @@ void note_change(Call *call)
 void replicate_call(Call *call)
 {
     note_change(call);
-#ifndef PLANT_ADD_NOT_REPLICATED
     RedisModule_ReplicateVerbatim(call->ctx);
-#endif
 }
 
 bool number_argument(Call *call, int at, long long least, long long most, const char *error, long long *number)

@@ -120,9 +120,6 @@ bool string_items(Call *call, int first, int step, Items *items)
 static bool has_marked_line(const uint8_t *text, size_t length)
 {
     const uint8_t *at = text, *end = text + length;
-#ifdef PLANT_MARKED_LINES_MISSED
-    at = end;
-#endif
     while ((at = memchr(at, mark[0], (size_t)(end - at))) != NULL) {
         if ((at == text || at[-1] == '\n') && has_mark(at, (size_t)(end - at))) return true;
         at++;

@@ -35,9 +35,7 @@ size_t next_lines(Lines *lines, ds_items *rows)
         uint8_t *line = lines->next, *feed = memchr(line, '\n', (size_t)(lines->end - line)), *end = feed;
         lines->next = feed != NULL ? feed + 1 : lines->end;
         if (feed == NULL) end = lines->end; /* there is room for one byte more */
-#ifndef PLANT_CARRIAGE_RETURN_KEPT
         else if (feed > line && feed[-1] == '\r') end--;
-#endif
         *end++ = 0xff;
         lines->strings[count++] = (ds_string){line, (size_t)(end - line)};
     }

@@ -46,9 +46,6 @@ static uint8_t *state_in(Sketch *sketch, bool with_key, size_t *length, void *(*
     memset(state, 0, HEADER_BYTES);
     memcpy(state, magic, sizeof magic);
     state[4] = (uint8_t)sketch->kind;
-#ifdef PLANT_STATE_WITHOUT_KEY
-    with_key = false;
-#endif
     if (with_key && sketch->kind == DS_FREQUENT_ITEMS_STRING) {
         state[5] = HAS_KEY;
         numbers[KEY_0] = sketch->table_key.k0;

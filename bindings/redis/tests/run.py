@@ -53,12 +53,12 @@ class Tests:
             subprocess.run(["bash", f"{MODULE}/header.sh", self.header], check=True)
         self.module = self.build("module")
 
-    def build(self, name, flags="-O2"):
+    def build(self, name, flags="-O2", sources=MODULE):
         """Builds the module with flags of the compiler, and returns its file."""
         folder = f"{self.work}/{name}"
         env = {**os.environ, "REDISMODULE_H": self.header, "CFLAGS": flags}
         made = subprocess.run(
-            ["bash", f"{MODULE}/build.sh", folder, f"{self.built}/libdatasketches.a"], env=env, capture_output=True, text=True
+            ["bash", f"{sources}/build.sh", folder, f"{self.built}/libdatasketches.a"], env=env, capture_output=True, text=True
         )
         if made.returncode:
             raise RuntimeError(made.stderr[-4000:])
