@@ -19,9 +19,10 @@ import tempfile
 import zipfile
 
 TOP = os.path.dirname(os.path.dirname(os.path.dirname(os.path.abspath(__file__))))
-sys.path[:0] = [f"{TOP}/bindings/postgresql/tests", f"{TOP}/bindings/redis/tests", f"{TOP}/tests/docs"]
+sys.path[:0] = [f"{TOP}/bindings/postgresql/tests", f"{TOP}/bindings/redis/tests", f"{TOP}/tests/docs", f"{TOP}/tests"]
 
 import blocks  # noqa: E402
+import checks  # noqa: E402
 import links  # noqa: E402
 import redis_page  # noqa: E402
 import page  # noqa: E402
@@ -60,17 +61,10 @@ def install_blocks(page):
     return [re.sub("^    ", "", block, flags=re.MULTILINE) for block in found]
 
 
-class Tests:
+class Tests(checks.Checks):
     def __init__(self, work):
-        self.work, self.passed, self.failed = work, 0, 0
+        super().__init__(work)
         self.root = f"{work}/root"
-
-    def check(self, name, holds, said=""):
-        if holds:
-            self.passed += 1
-        else:
-            self.failed += 1
-            print(f"failed: {name} {said}")
 
     def start_root(self):
         """Starts to make the root of a fresh Debian, of the release that runs here."""
@@ -295,8 +289,7 @@ def main():
             tests.redis()
             tests.python()
             tests.libraries()
-        print(f"{tests.passed} passed, {tests.failed} failed")
-        sys.exit(1 if tests.failed else 0)
+        tests.end()
 
 
 main()

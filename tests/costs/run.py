@@ -18,24 +18,19 @@ import tempfile
 
 HERE = os.path.dirname(os.path.abspath(__file__))
 TOP = os.path.dirname(os.path.dirname(HERE))
+sys.path.insert(0, f"{TOP}/tests")
+
+import checks  # noqa: E402
+
 PYTHON = "/usr/bin/python3"
 COMPILER = os.environ.get("CC", "cc")
 MOST = 12  # times the instructions, for 10 times the input
 KEY = b"DATASKETCHES_TABLE_KEY"  # in the program if its tables and maps have keys
 
 
-class Tests:
+class Tests(checks.Checks):
     def __init__(self, work):
-        self.work = work
-        self.passed = 0
-        self.failed = 0
-
-    def check(self, name, holds, said=""):
-        if holds:
-            self.passed += 1
-        else:
-            self.failed += 1
-            print(f"failed: {name} {said}")
+        super().__init__(work)
 
     def compile(self, *words):
         out = os.path.join(self.work, f"built{len(os.listdir(self.work))}")
@@ -165,8 +160,7 @@ def main():
         tests.library(archive)
         tests.lines(program)
         tests.package(archive, os.path.abspath(built[0]) if built else None)
-        print(f"{tests.passed} passed, {tests.failed} failed")
-    sys.exit(1 if tests.failed else 0)
+        tests.end()
 
 
 main()

@@ -24,9 +24,10 @@ import sys
 import tempfile
 
 TOP = os.path.dirname(os.path.dirname(os.path.dirname(os.path.abspath(__file__))))
-sys.path[:0] = [f"{TOP}/bindings/postgresql/tests"]
+sys.path[:0] = [f"{TOP}/bindings/postgresql/tests", f"{TOP}/tests"]
 
 import blocks  # noqa: E402
+import checks  # noqa: E402
 import server  # noqa: E402
 
 PAGES = ["README.md", "docs/RECIPES.md", "crates/sketches/README.md"]
@@ -39,9 +40,9 @@ def trimmed(text):
     return "\n".join(line.rstrip() for line in text.rstrip().split("\n"))
 
 
-class Tests:
+class Tests(checks.Checks):
     def __init__(self, program, archive, work):
-        self.work, self.passed, self.failed = work, 0, 0
+        super().__init__(work)
         self.ran = 0
         self.build(os.path.abspath(program), os.path.abspath(archive))
 
@@ -60,13 +61,6 @@ class Tests:
         self.env = {"PATH": f"{work}/bin:{self.server.bin}:{cargo}:/usr/bin:/bin", "LANG": "C.UTF-8", "HOME": work,
                     "PKG_CONFIG_PATH": f"{work}/usr/lib/pkgconfig", "LD_LIBRARY_PATH": f"{work}/usr/lib", "PYTHONPATH": f"{work}/built",
                     "PGHOST": self.server.folder, "PGUSER": "postgres", "CARGO_NET_OFFLINE": "true", "CARGO_TARGET_DIR": f"{work}/target"}
-
-    def check(self, name, holds, said=""):
-        if holds:
-            self.passed += 1
-        else:
-            self.failed += 1
-            print(f"failed: {name}\n{str(said)[:3000]}", flush=True)
 
     def run(self, words, folder, text="", **settings):
         """Runs a command in a folder. Returns its status and the output of both streams."""
@@ -128,8 +122,7 @@ def main():
             for page in words[2:] or PAGES:
                 tests.page(page)
         tests.pictures()
-        print(f"{tests.passed} passed, {tests.failed} failed")
-        sys.exit(1 if tests.failed else 0)
+        tests.end()
 
 
 main()

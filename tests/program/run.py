@@ -5,7 +5,6 @@ The arguments are the paths of the program and of the trials. It prints a line f
 'N passed, M failed'.
 """
 import os
-import shutil
 import subprocess
 import sys
 import tempfile
@@ -13,8 +12,9 @@ import threading
 
 HERE = os.path.dirname(os.path.abspath(__file__))
 TESTS = os.path.dirname(HERE)
-sys.path[:0] = [os.path.join(TESTS, name) for name in ("docs", "memory")]
+sys.path[:0] = [TESTS, *[os.path.join(TESTS, name) for name in ("docs", "memory")]]
 
+import checks  # noqa: E402
 import cluster  # noqa: E402
 import counted  # noqa: E402
 import examples  # noqa: E402
@@ -128,27 +128,12 @@ def mixed():
     return ("\n".join(lines) + "\n").encode()
 
 
-class Tests:
+class Tests(checks.Checks):
     def __init__(self, program, played, work):
         self.program = program
         self.trials = played
-        self.work = work
-        self.passed = 0
-        self.failed = 0
-        self.library = os.path.join(work, "alloc_failures.so")
-        names = [os.environ.get("CC", "cc"), "gcc", "clang"]
-        compiler = next(name for name in names if shutil.which(name))
-        source = os.path.join(TESTS, "memory", "alloc_failures.c")
-        subprocess.run(
-            [compiler, "-shared", "-fPIC", "-O1", "-o", self.library, source, "-ldl"], check=True
-        )
-
-    def check(self, name, holds, said=""):
-        if holds:
-            self.passed += 1
-        else:
-            self.failed += 1
-            print(f"failed: {name} {said}")
+        super().__init__(work)
+        self.library = checks.failing_allocations(work)
 
     def run(self, lines, refused_at=None, words=None, key="plain", **settings):
         """Runs the program over lines, or the trials with these words. The lines are in a file, so that each run reads
@@ -625,8 +610,7 @@ def main():
         sizes.check(tests)
         times.check(tests)
         print(f"requests refused in turn: {worked} and {many} of the program, {run} of a run of a session")
-        print(f"{tests.passed} passed, {tests.failed} failed")
-    sys.exit(1 if tests.failed else 0)
+        tests.end()
 
 
 main()

@@ -20,6 +20,10 @@ import time
 
 from texts import text_of as text_of_records
 
+sys.path.append(os.path.dirname(os.path.dirname(os.path.abspath(__file__))))
+
+import checks  # noqa: E402
+
 BLOCK = 1 << 18
 LAST = 2**64 - 1
 
@@ -123,19 +127,10 @@ def counts_of(inputs, field, weight=None, header=False, delimiter=","):
     return counts
 
 
-class Tests:
+class Tests(checks.Checks):
     def __init__(self, program, work):
+        super().__init__(work)
         self.program = os.path.abspath(program)
-        self.work = work
-        self.passed = 0
-        self.failed = 0
-
-    def check(self, name, holds, said=""):
-        if holds:
-            self.passed += 1
-        else:
-            self.failed += 1
-            print(f"failed: {name} {str(said)[:600]}")
 
     def file(self, name, data):
         with open(os.path.join(self.work, name), "wb") as file:
@@ -504,8 +499,7 @@ def main():
         tests.wrong_records()
         tests.progress()
         tests.large()
-    print(f"{tests.passed} passed, {tests.failed} failed")
-    sys.exit(1 if tests.failed else 0)
+    tests.end()
 
 
 main()

@@ -9,13 +9,15 @@ import itertools
 import os
 import random
 import re
-import shutil
 import struct
 import subprocess
 import sys
 import tempfile
 
-TESTS = os.path.dirname(os.path.dirname(os.path.abspath(__file__)))
+sys.path.append(os.path.dirname(os.path.dirname(os.path.abspath(__file__))))
+
+import checks  # noqa: E402
+
 VARIABLE = "DATASKETCHES_TABLE_KEY"
 HEX = "000102030405060708090a0b0c0d0e0f"
 EMPTY = bytes([1, 1, 10, 12, 3, 5, 0, 0])
@@ -74,24 +76,11 @@ def trees_of(leaves):
             yield from itertools.product(*map(trees_of, parts))
 
 
-class Tests:
+class Tests(checks.Checks):
     def __init__(self, program, work):
+        super().__init__(work)
         self.program = os.path.abspath(program)
-        self.work = work
-        self.passed = 0
-        self.failed = 0
-        self.library = os.path.join(work, "alloc_failures.so")
-        names = [os.environ.get("CC", "cc"), "gcc", "clang"]
-        compiler = next(name for name in names if shutil.which(name))
-        source = os.path.join(TESTS, "memory", "alloc_failures.c")
-        subprocess.run([compiler, "-shared", "-fPIC", "-O1", "-o", self.library, source, "-ldl"], check=True)
-
-    def check(self, name, holds, said=""):
-        if holds:
-            self.passed += 1
-        else:
-            self.failed += 1
-            print(f"failed: {name} {str(said)[:600]}")
+        self.library = checks.failing_allocations(work)
 
     def path(self, name):
         return os.path.join(self.work, name)
@@ -519,8 +508,7 @@ def main():
         tests.failures_in_turn()
         tests.shown()
         tests.statuses()
-    print(f"{tests.passed} passed, {tests.failed} failed")
-    sys.exit(1 if tests.failed else 0)
+    tests.end()
 
 
 main()

@@ -13,6 +13,10 @@ import subprocess
 import sys
 import tempfile
 
+sys.path.append(os.path.dirname(os.path.dirname(os.path.abspath(__file__))))
+
+import checks  # noqa: E402
+
 BLOCK = 1 << 18
 LAST = 2**64 - 1
 
@@ -64,19 +68,10 @@ def sums_of(inputs, fields_of):
     return sums
 
 
-class Tests:
+class Tests(checks.Checks):
     def __init__(self, program, work):
+        super().__init__(work)
         self.program = os.path.abspath(program)
-        self.work = work
-        self.passed = 0
-        self.failed = 0
-
-    def check(self, name, holds, said=""):
-        if holds:
-            self.passed += 1
-        else:
-            self.failed += 1
-            print(f"failed: {name} {str(said)[:600]}")
 
     def file(self, name, data):
         with open(os.path.join(self.work, name), "wb") as file:
@@ -263,8 +258,7 @@ def main():
         tests.left_out()
         tests.errors()
         tests.wrong_use()
-    print(f"{tests.passed} passed, {tests.failed} failed")
-    sys.exit(1 if tests.failed else 0)
+    tests.end()
 
 
 main()

@@ -9,7 +9,6 @@ import fcntl
 import os
 import random
 import re
-import shutil
 import subprocess
 import sys
 import tempfile
@@ -22,7 +21,11 @@ from states import States
 from texts import text_of
 from weights import Weights
 
-TESTS = os.path.dirname(os.path.dirname(os.path.abspath(__file__)))
+TOP = os.path.dirname(os.path.dirname(os.path.dirname(os.path.abspath(__file__))))
+sys.path.append(f"{TOP}/tests")
+
+import checks  # noqa: E402
+
 BLOCK = 1 << 18
 VARIABLE = "DATASKETCHES_TABLE_KEY"
 HEX = "000102030405060708090a0b0c0d0e0f"
@@ -108,24 +111,11 @@ def unseen_of(inputs, items_of, repeated=False):
     return text_of(written), left_out
 
 
-class Tests:
+class Tests(checks.Checks):
     def __init__(self, program, work):
+        super().__init__(work)
         self.program = os.path.abspath(program)
-        self.work = work
-        self.passed = 0
-        self.failed = 0
-        self.library = os.path.join(work, "alloc_failures.so")
-        names = [os.environ.get("CC", "cc"), "gcc", "clang"]
-        compiler = next(name for name in names if shutil.which(name))
-        source = os.path.join(TESTS, "memory", "alloc_failures.c")
-        subprocess.run([compiler, "-shared", "-fPIC", "-O1", "-o", self.library, source, "-ldl"], check=True)
-
-    def check(self, name, holds, said=""):
-        if holds:
-            self.passed += 1
-        else:
-            self.failed += 1
-            print(f"failed: {name} {str(said)[:600]}")
+        self.library = checks.failing_allocations(work)
 
     def file(self, name, data):
         with open(os.path.join(self.work, name), "wb") as file:
@@ -548,7 +538,7 @@ class Tests:
             said = b"sketches: DATASKETCHES_TABLE_KEY must be plain or 32 hexadecimal digits\n"
             self.check(f"a bad variable {value}", ran[:3] == (2, b"", said), ran)
             self.check("the option comes first", self.run(["top", "--key", "plain"], b"a\n", key=value)[0] == 0)
-        with open(f"{os.path.dirname(TESTS)}/VERSION", "rb") as file:
+        with open(f"{TOP}/VERSION", "rb") as file:
             version = b"sketches " + file.read()
         for words, part in [(["--version"], version), (["--help"], b"Usage"), (["top", "--help"], b"--max-line"), (["help", "top"], b"FILE")]:
             status, out, said, _ = self.run(words)
@@ -628,8 +618,7 @@ def main():
         Layouts(tests).run()
         Messages(tests).run()
         Places(tests).run()
-    print(f"{tests.passed} passed, {tests.failed} failed")
-    sys.exit(1 if tests.failed else 0)
+    tests.end()
 
 
 main()

@@ -5,24 +5,21 @@
 prints a line for each check that failed, and then 'N passed, M failed'.
 """
 import collections
+import os
 import random
 import re
 import subprocess
 import sys
 
+sys.path.append(os.path.dirname(os.path.dirname(os.path.abspath(__file__))))
 
-class Tests:
+import checks  # noqa: E402
+
+
+class Tests(checks.Checks):
     def __init__(self, program):
+        super().__init__()
         self.program = program
-        self.passed = 0
-        self.failed = 0
-
-    def check(self, name, holds, said=""):
-        if holds:
-            self.passed += 1
-        else:
-            self.failed += 1
-            print(f"failed: {name} {said}")
 
     def run(self, words, lines):
         """Runs a job over lines. Returns the exit status and the lines that it wrote."""
@@ -184,8 +181,7 @@ def main():
     tests.takedown()
     tests.admission()
     tests.refusals()
-    print(f"{tests.passed} passed, {tests.failed} failed")
-    sys.exit(1 if tests.failed else 0)
+    tests.end()
 
 
 main()

@@ -21,8 +21,9 @@ import tempfile
 HERE = os.path.dirname(os.path.abspath(__file__))
 C = os.path.dirname(HERE)
 TOP = os.path.dirname(os.path.dirname(C))
-sys.path.insert(0, f"{TOP}/tests/program")
+sys.path[:0] = [f"{TOP}/tests/program", f"{TOP}/tests"]
 
+import checks  # noqa: E402
 import loads  # noqa: E402
 
 CRATE = f"{TOP}/crates/datasketches_c"
@@ -221,22 +222,13 @@ def global_names(path, *flags):
     return {row.split()[2].split("@")[0] for row in listed.stdout.splitlines() if len(row.split()) == 3}
 
 
-class Tests:
+class Tests(checks.Checks):
     def __init__(self, program, archive, work):
+        super().__init__(work)
         self.program = program
-        self.work = work
-        self.passed = 0
-        self.failed = 0
         self.built = os.path.join(work, "built")
         self.archive = archive[0] if archive else f"{CRATE}/out/libdatasketches_c.a"
         subprocess.run(["bash", f"{C}/build.sh", self.built, *archive], check=True)
-
-    def check(self, name, holds, said=""):
-        if holds:
-            self.passed += 1
-        else:
-            self.failed += 1
-            print(f"failed: {name} {said}")
 
     def compile(self, source, *flags, static=True, libraries=None):
         """Compiles a source with the static library, the shared object, or other libraries. Returns the program's path."""
@@ -401,9 +393,7 @@ class Tests:
 
     def refused_in_turn(self):
         """Fails the n-th allocation in the n-th run, until no allocation fails in a run. Returns the number of allocations."""
-        library = os.path.join(self.work, "alloc_failures.so")
-        subprocess.run([COMPILER, "-shared", "-fPIC", "-O1", "-o", library, f"{TOP}/tests/memory/alloc_failures.c", "-ldl"],
-                       check=True)
+        library = checks.failing_allocations(self.work)
         program, report = self.compile(f"{HERE}/memory.c", "-O2"), os.path.join(self.work, "report")
         at, refused = 0, 1
         while refused or at == 1:
@@ -620,8 +610,7 @@ def main():
         tests.many_at_once()
         tests.installed()
         print(f"the library for C: {requests} requests for memory refused in turn")
-        print(f"{tests.passed} passed, {tests.failed} failed")
-    sys.exit(1 if tests.failed else 0)
+        tests.end()
 
 
 main()

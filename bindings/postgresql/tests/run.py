@@ -20,9 +20,10 @@ import time
 HERE = os.path.dirname(os.path.abspath(__file__))
 EXTENSION = os.path.dirname(HERE)
 BINDINGS = os.path.dirname(EXTENSION)
-sys.path.insert(0, HERE)
+sys.path[:0] = [HERE, f"{os.path.dirname(BINDINGS)}/tests"]
 
 import bounds  # noqa: E402
+import checks  # noqa: E402
 import constants  # noqa: E402
 import damage  # noqa: E402
 import ends  # noqa: E402
@@ -43,11 +44,12 @@ PYTHON = "/usr/bin/python3"
 VALGRIND = ["valgrind", "-q", "--trace-children=yes", "--leak-check=no", "--error-limit=no", "--fullpath-after="]
 
 
-class Tests:
+class Tests(checks.Checks):
     """Counts tests. `main` is the server that most groups use, with the extension in the database `postgres`."""
 
     def __init__(self, work, program, archive):
-        self.work, self.program, self.passed, self.failed = work, program, 0, 0
+        super().__init__(work)
+        self.program = program
         self.tree = f"{work}/tree"
         self.built = f"{work}/built"
         self.main = self.checked = None
@@ -60,13 +62,6 @@ class Tests:
     def build(self, tree, **settings):
         """Builds the extension with settings of `make`, and installs it in a tree."""
         server.install(tree, f"{self.built}/libdatasketches.a", self.work, **settings)
-
-    def check(self, name, holds, said=""):
-        if holds:
-            self.passed += 1
-        else:
-            self.failed += 1
-            print(f"failed: {name} {str(said)[:3000]}", flush=True)
 
     def stop(self):
         """Stops the server under valgrind, so that its tests end."""

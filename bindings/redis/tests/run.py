@@ -16,10 +16,11 @@ import time
 HERE = os.path.dirname(os.path.abspath(__file__))
 MODULE = os.path.dirname(HERE)
 BINDINGS = os.path.dirname(MODULE)
-sys.path.insert(0, HERE)
+sys.path[:0] = [HERE, f"{os.path.dirname(BINDINGS)}/tests"]
 
 import changes  # noqa: E402
 import checked  # noqa: E402
+import checks  # noqa: E402
 import clients  # noqa: E402
 import cluster  # noqa: E402
 import commands  # noqa: E402
@@ -38,11 +39,11 @@ import server  # noqa: E402
 import stored  # noqa: E402
 
 
-class Tests:
+class Tests(checks.Checks):
     """Counts tests. `main` is the server that most groups use."""
 
     def __init__(self, work, archive):
-        self.work, self.passed, self.failed = work, 0, 0
+        super().__init__(work)
         self.main = None
         self.built = f"{work}/built"
         subprocess.run(["bash", f"{BINDINGS}/c/build.sh", self.built, archive], check=True, stdout=subprocess.DEVNULL)
@@ -63,13 +64,6 @@ class Tests:
         if made.returncode:
             raise RuntimeError(made.stderr[-4000:])
         return f"{folder}/rattle_sketches.so"
-
-    def check(self, name, holds, said=""):
-        if holds:
-            self.passed += 1
-        else:
-            self.failed += 1
-            print(f"failed: {name} {str(said)[:2000]}", flush=True)
 
     def server(self, name, module=None, **settings):
         return server.Server(f"{self.work}/{name.replace(' ', '_')}", module or self.module, **settings)
@@ -171,8 +165,7 @@ def main():
                 if not only or group.__name__ in only:
                     run_group(tests, group)
             tests.check("the server stops", tests.main.stop() == 0)
-    print(f"{tests.passed} passed, {tests.failed} failed")
-    sys.exit(1 if tests.failed else 0)
+    tests.end()
 
 
 main()

@@ -17,6 +17,10 @@ import tempfile
 HERE = os.path.dirname(os.path.abspath(__file__))
 RUST = os.path.dirname(HERE)
 C = os.path.join(os.path.dirname(RUST), "c")
+sys.path.insert(0, f"{os.path.dirname(os.path.dirname(RUST))}/tests")
+
+import checks  # noqa: E402
+
 CARGO = os.environ.get("CARGO", "/usr/bin/cargo")
 RUSTC = os.environ.get("RUSTC", "/usr/bin/rustc")
 
@@ -133,18 +137,12 @@ def in_header():
     return calls, structures, dict(constants)
 
 
-class Tests:
+class Tests(checks.Checks):
     def __init__(self, program, archive, work):
-        self.program, self.work, self.passed, self.failed = program, work, 0, 0
+        super().__init__(work)
+        self.program = program
         self.built, self.target = os.path.join(work, "built"), os.path.join(work, "target")
         subprocess.run(["bash", f"{C}/build.sh", self.built, *archive], check=True)
-
-    def check(self, name, holds, said=""):
-        if holds:
-            self.passed += 1
-        else:
-            self.failed += 1
-            print(f"failed: {name} {said}")
 
     def run(self, command, timeout=900, **settings):
         """Runs a command, without the folder of the library unless it is set."""
@@ -297,8 +295,7 @@ def main():
         tests = Tests(os.path.abspath(words[0]), [os.path.abspath(word) for word in words[1:]], work)
         for step in [tests.declarations, tests.crate, tests.lines, tests.programs, tests.library, tests.form, tests.memory]:
             step()
-    print(f"{tests.passed} passed, {tests.failed} failed")
-    sys.exit(1 if tests.failed else 0)
+    tests.end()
 
 
 main()
