@@ -12,21 +12,15 @@ import threading
 
 HERE = os.path.dirname(os.path.abspath(__file__))
 TESTS = os.path.dirname(HERE)
-sys.path[:0] = [TESTS, *[os.path.join(TESTS, name) for name in ("docs", "memory")]]
+sys.path[:0] = [TESTS, os.path.join(TESTS, "memory")]
 
 import checks  # noqa: E402
 import cluster  # noqa: E402
 import counted  # noqa: E402
-import examples  # noqa: E402
-import faults  # noqa: E402
 import keys  # noqa: E402
-import links  # noqa: E402
 import loads  # noqa: E402
-import manual  # noqa: E402
 import sessions  # noqa: E402
-import sizes  # noqa: E402
 import streams  # noqa: E402
-import times  # noqa: E402
 import trials  # noqa: E402
 
 NO_MEMORY = b"refused NoMemory"
@@ -603,12 +597,6 @@ def main():
         tests.arguments()
         tests.failing_streams()
         tests.sizes()
-        examples.check(tests)
-        faults.check(tests)
-        links.check(tests)
-        manual.check(tests)
-        sizes.check(tests)
-        times.check(tests)
         print(f"requests refused in turn: {worked} and {many} of the program, {run} of a run of a session")
         tests.end()
 
