@@ -135,6 +135,11 @@ class Messages:
 
     def terminal(self):
         """A terminal gets no control characters but tabs and line feeds, and a pipe gets all bytes."""
+        try:
+            os.close(os.open("/dev/ptmx", os.O_RDWR | os.O_NOCTTY))
+        except OSError as error:
+            print(f"not tested, since this machine gives no terminal: what a terminal gets ({error})")
+            return
         line = b"\x1b[31mred\x07\x7f\tb\x00\r\xc2\x9b31m \xc2\xa0\xc3\x9f\\ \xe2\x80\x9b\n"
         shown = b"\\x1b[31mred\\x07\\x7f\tb\\x00\\x0d\\xc2\\x9b31m \xc2\xa0\xc3\x9f\\ \xe2\x80\x9b\n"
         self.write("line", line)
