@@ -27,10 +27,10 @@ class Checks:
         sys.exit(1 if self.failed else 0)
 
 
-def failing_allocations(work):
-    """Builds the library of `memory/` that counts requests for memory and refuses some. Returns its file."""
-    library = os.path.join(work, "alloc_failures.so")
+def preloaded(work, name="alloc_failures"):
+    """Builds a library of `memory/`, which LD_PRELOAD loads before the C library. Returns its file."""
+    library = os.path.join(work, f"{name}.so")
     compiler = next(name for name in [os.environ.get("CC", "cc"), "gcc", "clang"] if shutil.which(name))
-    source = os.path.join(HERE, "memory", "alloc_failures.c")
+    source = os.path.join(HERE, "memory", f"{name}.c")
     subprocess.run([compiler, "-shared", "-fPIC", "-O1", "-o", library, source, "-ldl"], check=True)
     return library

@@ -6,6 +6,8 @@ import signal
 import subprocess
 import time
 
+import checks
+
 LARGE = ["--items", "200000", "--no-note"]
 HAS_OTHER_SIZE = (b"sketches: --state has a filter of another size than --items or --bits: leave them out, or name another file\n")
 
@@ -58,6 +60,10 @@ class Places:
         for name in names:
             os.remove(self.path(name))
         return names
+
+    def new(self):
+        """Returns the names of files beside the image."""
+        return [name for name in os.listdir(self.folder) if name != "X"]
 
     def names(self):
         """A file with the name of another one with an end is not touched, also through a link, and nothing is left beside."""
@@ -185,21 +191,19 @@ class Places:
 
     def killed(self):
         """A run that a signal ends while it saves leaves the image as it was, and the next run removes what it has left."""
-        large = ["uniq", "--bits", 1 << 31, "--hashes", 1, "--no-note", "--state", "X"]
-        for number in [signal.SIGINT, signal.SIGTERM, signal.SIGHUP, signal.SIGKILL]:
-            for _ in range(20):
-                run = subprocess.Popen([self.tests.program, *map(str, large)], stdin=subprocess.PIPE, stdout=subprocess.DEVNULL, cwd=self.folder,
-                                       env={"PATH": "/usr/bin:/bin"}, preexec_fn=signals_end)
-                while not os.listdir(self.folder):
+        library = checks.preloaded(self.tests.work, "waits_in_a_write")
+        for state in [[], ["X"]]:
+            for number in [signal.SIGINT, signal.SIGTERM, signal.SIGHUP, signal.SIGKILL]:
+                name = f"a run that signal {number} ends while it saves {state or 'a new state'}"
+                for _ in state:
+                    self.ran("uniq", *LARGE, "--state", "X", data=b"b\n")
+                run = subprocess.Popen([self.tests.program, "uniq", *LARGE, "--state", "X"], stdin=subprocess.DEVNULL, stdout=subprocess.DEVNULL,
+                                       cwd=self.folder, env={"PATH": "/usr/bin:/bin", "LD_PRELOAD": library}, preexec_fn=signals_end)
+                while run.poll() is None and not any(os.path.getsize(self.path(new)) for new in self.new()):
                     time.sleep(0.001)
                 run.send_signal(number)
-                run.stdin.close()
-                status = run.wait(timeout=60)
-                left = sorted(os.listdir(self.folder))
-                if status == -number and left and left != ["X"]:
-                    break
-                self.left()
-            self.check(f"a run that signal {number} ends while it saves", status == -number and len(left) == 1 and re.fullmatch(r"X\.[0-9a-f]{16}\.tmp", left[0]), (status, left))
-            ran = self.ran("uniq", *LARGE, "--state", "X")
-            left = self.left()
-            self.check(f"after a run that signal {number} ended", ran == (0, b"a\nb\n", b"") and left == ["X"], (ran, left))
+                status, new = run.wait(timeout=60), self.new()
+                self.check(name, status == -number and len(new) == 1 and re.fullmatch(r"X\.[0-9a-f]{16}\.tmp", new[0]), (status, new))
+                ran = self.ran("uniq", *LARGE, "--state", "X")
+                left = self.left()
+                self.check(f"after {name}", ran == (0, b"a\n" if state else b"a\nb\n", b"") and left == ["X"], (ran, left))

@@ -127,7 +127,7 @@ class Tests(checks.Checks):
         self.program = program
         self.trials = played
         super().__init__(work)
-        self.library = checks.failing_allocations(work)
+        self.library = checks.preloaded(work)
 
     def run(self, lines, refused_at=None, words=None, key="plain", **settings):
         """Runs the program over lines, or the trials with these words. The lines are in a file, so that each run reads

@@ -80,7 +80,7 @@ class Tests(checks.Checks):
     def __init__(self, program, work):
         super().__init__(work)
         self.program = os.path.abspath(program)
-        self.library = checks.failing_allocations(work)
+        self.library = checks.preloaded(work)
 
     def path(self, name):
         return os.path.join(self.work, name)

@@ -13,18 +13,17 @@ import subprocess
 import sys
 import tempfile
 
-from joins import Joins
-from layouts import Layouts
-from messages import Messages
-from places import Places
-from states import States
-from texts import text_of
-from weights import Weights
-
 TOP = os.path.dirname(os.path.dirname(os.path.dirname(os.path.abspath(__file__))))
 sys.path.append(f"{TOP}/tests")
 
 import checks  # noqa: E402
+from joins import Joins  # noqa: E402
+from layouts import Layouts  # noqa: E402
+from messages import Messages  # noqa: E402
+from places import Places  # noqa: E402
+from states import States  # noqa: E402
+from texts import text_of  # noqa: E402
+from weights import Weights  # noqa: E402
 
 BLOCK = 1 << 18
 VARIABLE = "DATASKETCHES_TABLE_KEY"
@@ -115,7 +114,7 @@ class Tests(checks.Checks):
     def __init__(self, program, work):
         super().__init__(work)
         self.program = os.path.abspath(program)
-        self.library = checks.failing_allocations(work)
+        self.library = checks.preloaded(work)
 
     def file(self, name, data):
         with open(os.path.join(self.work, name), "wb") as file:

@@ -393,7 +393,7 @@ class Tests(checks.Checks):
 
     def refused_in_turn(self):
         """Fails the n-th allocation in the n-th run, until no allocation fails in a run. Returns the number of allocations."""
-        library = checks.failing_allocations(self.work)
+        library = checks.preloaded(self.work)
         program, report = self.compile(f"{HERE}/memory.c", "-O2"), os.path.join(self.work, "report")
         at, refused = 0, 1
         while refused or at == 1:
