@@ -142,7 +142,7 @@ abbrev pub Weighs : Weigher → List ℕ → Weigher → Type 0
 Weighs old bytes new = CountsLines old.0.chosen old.0.sketch (records_by old.0.chosen.item bytes) new.0.sketch × (new.0.chosen ≡ old.0.chosen)
 
 abbrev pub FailsWeighs : Weigher → List ℕ → Weigher → Failure → Type 0
-FailsWeighs old bytes new failure = FailsLines old.0.chosen old.0.sketch (records_by old.0.chosen.item bytes) failure
+FailsWeighs old bytes new failure = FailsLines old.0.chosen old.0.sketch.total (records_by old.0.chosen.item bytes) failure
 
 abbrev WeighsAll : WeighedRecord → (old : CountState) → List (List ℕ) → Weigher → Type 0
 WeighsAll p old read new = CountsLines p old (flat_map (records_by p.item) read) new.0.sketch × (new.0.chosen ≡ p)

@@ -8,7 +8,9 @@ use crate::record_options::weighed_record;
 use crate::terminal::StandardOutput;
 use crate::weigh::{WeighOptions, weigh};
 use crate::weigh_options::parts_of;
-use crate::{ERROR, STANDARD_INPUT, end, end_of_files, fail, max_line_of, message_of};
+use crate::{
+    ERROR, STANDARD_INPUT, end, end_of_files, fail, max_line_of, message_of, note_unweighed,
+};
 use clap::ArgMatches;
 use std::io;
 
@@ -72,10 +74,15 @@ pub fn run_weigh(rt: &HostRuntime, matches: &ArgMatches<'_>) -> u8 {
         &mut keys,
         &mut Watched::new(StandardOutput::new(rt)),
     ) {
-        Ok(done) => match done.failure {
-            Some(error) => unread(rt, keys_name, error),
-            None => u8::from(!done.complete || files.has_failed()),
-        },
+        Ok(done) => {
+            if !matches.get_flag("no-note") {
+                note_unweighed(rt, done.unweighed);
+            }
+            match done.failure {
+                Some(error) => unread(rt, keys_name, error),
+                None => u8::from(!done.complete || files.has_failed()),
+            }
+        }
         Err(failure) if files.is_done() => end(rt, failure, keys_name, BAD_SKETCH),
         Err(failure) => end_of_files(rt, failure, &files, BAD_SKETCH),
     }

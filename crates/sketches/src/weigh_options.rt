@@ -1,7 +1,7 @@
 //! The command line of `sketches weigh`.
 ghost use Rattle.std.specs.Prelude.{◌*◌, ◌^◌, ◌<◌, ◌≤◌, ℕ};
 
-use crate::csv_options::{with_fields, with_weight};
+use crate::csv_options::{with_bad_weight, with_fields, with_weight};
 use crate::keyed_options::with_keys;
 use crate::options::{with_files, with_max_line};
 use crate::percent::{Percent, WHOLE};
@@ -17,7 +17,7 @@ pub fn weigh_command<'a>(alloc: Global) -> Result<Command<'a>, AllocError> {
     let command = with_fields(alloc, with_keys(alloc, command)?)?;
     let command = with_weight(alloc, command)?;
     let command = with_error(alloc, command)?;
-    let command = with_max_line(alloc, command)?
+    let command = with_bad_weight(alloc, with_max_line(alloc, command)?)?
         .arg(key(alloc))?
         .arg(
             Arg::new(alloc, "no-header")
@@ -25,7 +25,13 @@ pub fn weigh_command<'a>(alloc: Global) -> Result<Command<'a>, AllocError> {
                 .action(ArgAction::SetTrue)
                 .help("Omits the first line, which has the total"),
         )?
-        .arg(escape(alloc))?;
+        .arg(escape(alloc))?
+        .arg(
+            Arg::new(alloc, "no-note")
+                .long("no-note")
+                .action(ArgAction::SetTrue)
+                .help("Omits the note at the end on lines that have no weight"),
+        )?;
     with_files(alloc, command)
 }
 
