@@ -66,10 +66,10 @@ records_none (part.Line chosen) = refl
 records_none (part.Csv field) = refl
 
 module _ (p : WeighedRecord) where
-  weighed_append : (xs ys : List (List ℕ)) → weighed_lines p (xs ++ ys) ≡ weighed_lines p xs ++ weighed_lines p ys
+  pub weighed_append : (xs ys : List (List ℕ)) → weighed_lines p (xs ++ ys) ≡ weighed_lines p xs ++ weighed_lines p ys
   weighed_append xs ys = flat_map-append (weighed_line p) xs ys
 
-  unweighed_append : (xs ys : List (List ℕ)) → unweighed_lines p (xs ++ ys) ≡ unweighed_lines p xs ++ unweighed_lines p ys
+  pub unweighed_append : (xs ys : List (List ℕ)) → unweighed_lines p (xs ++ ys) ≡ unweighed_lines p xs ++ unweighed_lines p ys
   unweighed_append xs ys = flat_map-append (unweighed_line p) xs ys
 
   pub no_lines : (a : CountState) → CountsLines p a [] a

@@ -111,7 +111,7 @@ fn add_lines(
 }
 
 /// Returns the number of lines of the first record of bytes, of which others are left after it.
-fn lines_between(part: RecordPart, bytes: &[u8], after: &[u8]) -> u64 {
+pub fn lines_between(part: RecordPart, bytes: &[u8], after: &[u8]) -> u64 {
     match part {
         RecordPart::Line(_) => 1,
         RecordPart::Csv(_) => {

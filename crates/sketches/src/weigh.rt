@@ -148,7 +148,7 @@ fn usable_seed(seed: u64) -> u64
 /// # Errors
 ///
 /// Returns `Memory` if an allocation fails, and `Write` if the writer fails.
-fn write_total<W: Output>(
+pub fn write_total<W: Output>(
     alloc: Global,
     wanted: bool,
     total: u64,
