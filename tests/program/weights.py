@@ -288,10 +288,9 @@ class Weights:
         listed = b"b\nq\na"
         self.tests.file("keys", listed)
         keys = [b"b", b"q", b"a"]
-        of_keys = b"sketches: keys: Input/output error (os error 5)\n"
+        self.tests.file("lines", short)
+        failed = b"sketches: -: Input/output error (os error 5)\n"
         for how in MODES:
-            # the file that is read first, and the number of its reads
-            first = len(short if how else listed) + 1
             for which in ["FAILS_READ_AT", "FAILS_WRITE_AT"]:
                 for interrupted in [{}, {"INTERRUPTED": 1}]:
                     n = 1
@@ -300,17 +299,27 @@ class Weights:
                         name = f"weigh {how}, {which} {n} {interrupted}"
                         if ran[3][1] == 0 or interrupted:
                             self.is_exact(name, ran, keys, self.weights_of([short], whole))
-                        elif which == "FAILS_WRITE_AT":
-                            self.check(name, ran[0] == 2 and ran[2].startswith(b"sketches: output: "), ran)
-                        elif (n <= first) == bool(how):
-                            read = short[: n - 1 if how else n - 1 - first]
-                            said = b"sketches: -: Input/output error (os error 5)\n"
-                            self.is_exact(name, ran, keys, self.weights_of([read[: read.rfind(b"\n") + 1]], whole), status=1, said=said)
-                        elif how:
-                            read = listed[: n - 1 - first]
-                            self.is_exact(name, ran, self.items(read[: read.rfind(b"\n") + 1], whole), self.weights_of([short], whole), status=2, said=of_keys)
+                        elif which == "FAILS_READ_AT":
+                            read = short[: n - 1]
+                            self.is_exact(name, ran, keys, self.weights_of([read[: read.rfind(b"\n") + 1]], whole), status=1, said=failed)
                         else:
-                            self.check(name, ran[:3] == (2, b"", of_keys), ran)
+                            self.check(name, ran[0] == 2 and ran[2].startswith(b"sketches: output: "), ran)
                         if ran[3][1] == 0:
                             break
                         n += 1
+            for interrupted in [{}, {"INTERRUPTED": 1}]:
+                n = 1
+                while True:
+                    ran = self.tests.run(["weigh", *how, "--keys", "-", "lines"], listed, FAILS_READ_AT=n, READ_STEP=1, **interrupted)
+                    name = f"weigh {how}, a read of keys {n} {interrupted}"
+                    if ran[3][1] == 0 or interrupted:
+                        self.is_exact(name, ran, keys, self.weights_of([short], whole))
+                    elif how and n > 1:
+                        # the first read is that of no bytes, which finds folders
+                        read = listed[: n - 2]
+                        self.is_exact(name, ran, self.items(read[: read.rfind(b"\n") + 1], whole), self.weights_of([short], whole), status=2, said=failed)
+                    else:
+                        self.check(name, ran[:3] == (2, b"", failed), ran)
+                    if ran[3][1] == 0:
+                        break
+                    n += 1
