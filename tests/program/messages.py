@@ -22,6 +22,7 @@ class Messages:
         self.names()
         self.options()
         self.folders()
+        self.too_many_keys()
         self.images()
         self.outputs()
         self.terminal()
@@ -93,6 +94,18 @@ class Messages:
             ran = run.returncode, run.stdout, run.stderr
             said = b"sketches: folder: Is a directory (os error 21)\n"
             self.check(f"{words}: a folder of keys", ran == (2, b"", said), ran)
+
+    def too_many_keys(self):
+        """Too many keys are an error before the input is read."""
+        self.write("keys", b"a\nb\na\n")
+        reader, writer = os.pipe()
+        start = time.monotonic()
+        run = subprocess.run([self.tests.program, "weigh", "--max-keys", "1", "--keys", "keys"], stdin=reader, capture_output=True, cwd=self.folder, env=ENVIRONMENT, timeout=20)
+        os.close(reader)
+        os.close(writer)
+        ran = run.returncode, run.stdout, run.stderr
+        said = b"sketches: the file of keys has more distinct keys than --max-keys: use a larger one, or --error for estimates\n"
+        self.check("weigh: too many keys", ran == (2, b"", said) and time.monotonic() - start < 10, ran)
 
     def images(self):
         """An input without end that is no image is not read on."""

@@ -191,10 +191,28 @@ class Tests(checks.Checks):
                     self.check(f"bad weights {number} {words} {value}: notes", said == note and (b"UTF-8" in ran[2]) == (not_utf8 > 0), (ran[2], note))
                     quiet = self.run("top", *words, "-f", 1, "-w", 2, "--bad-weight", value, "--no-note", data=data)
                     self.check(f"bad weights {number} {words} {value}: no note", quiet == (0, ran[1], b""), quiet)
-        ran = self.run("top", "-f", 1, "-w", 2, "--bad-weight", "none", data=b"a 1\n")
-        self.check("another word for bad weights", ran == (2, b"", b"sketches: --bad-weight must be skip or 0\n"), ran)
-        ran = self.run("top", "-f", 1, "--bad-weight", "0", data=b"a 1\n")
-        self.check("bad weights without weights", ran[:2] == (2, b"") and b"--weight" in ran[2], ran)
+                    self.weighed_without(f"bad weights {number} {words} {value}: weigh", [*words, "--bad-weight", value], data, fields, note)
+        for command in [["top"], ["weigh", "--keys", self.file("keys", b"a\n")]]:
+            ran = self.run(*command, "-f", 1, "-w", 2, "--bad-weight", "none", data=b"a 1\n")
+            self.check(f"{command[0]}: another word for bad weights", ran == (2, b"", b"sketches: --bad-weight must be skip or 0\n"), ran)
+            ran = self.run(*command, "-f", 1, "--bad-weight", "0", data=b"a 1\n")
+            self.check(f"{command[0]}: bad weights without weights", ran[:2] == (2, b"") and b"--weight" in ran[2], ran)
+            ran = self.run(*command, "-f", 1, "-w", 2, data=b"a 1\na -\n")
+            self.check(f"{command[0]}: a bad weight without the option", ran == (2, b"", b"sketches: -: line 2: bad weight '-'\n"), ran)
+
+    def weighed_without(self, name, words, data, fields, note):
+        """Checks `weigh` with `--bad-weight` against sums in which a bad weight is 0, and its note."""
+        sums = collections.Counter()
+        for each in fields:
+            sums[each[0]] += (weight_of(each[1]) or 0) if len(each) > 1 else 0
+        keys = [b"a", b"b", b"c", b"d", b"e", b"f", b"\xff", b"other"]
+        options = ["--keys-field", 1] if "--csv" in words else []
+        self.file("keys", b"".join(key + b"\n" for key in keys))
+        wanted = b"# total %d\n" % sums.total() + b"".join(b"%d\t%s\n" % (sums[key], key) for key in keys)
+        ran = self.run("weigh", *words, "-f", 1, "-w", 2, *options, "--keys", "keys", data=data)
+        self.check(name, ran == (0, wanted, note), (ran, wanted, note))
+        quiet = self.run("weigh", *words, "-f", 1, "-w", 2, *options, "--no-note", "--keys", "keys", data=data)
+        self.check(f"{name}, no note", quiet == (0, wanted, b""), quiet)
 
     def bad_weights(self):
         """Checks the message of each bad weight: its file, its line in the file and its text."""

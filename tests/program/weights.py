@@ -5,6 +5,9 @@ import random
 
 BLOCK = 1 << 18
 
+# Exact numbers, and estimates that are exact for few items.
+MODES = [[], ["--error", "0.001%"]]
+
 
 class Weights:
     def __init__(self, tests, selections, pieces, raw_lines_of):
@@ -18,7 +21,9 @@ class Weights:
         self.weighed()
         self.random_bytes()
         self.cuts()
+        self.once()
         self.many_items()
+        self.many_keys()
         self.statuses()
         self.failures_in_turn()
 
@@ -72,8 +77,9 @@ class Weights:
             data = b"".join(item + delimiter + b"%d\n" % weight for item, weight in lines)
             keys = [b"k%d" % n for n in range(60)]
             self.tests.file("keys", b"".join(key + b"\n" for key in keys))
-            ran = self.tests.run(["weigh", *words, "-f", "1", "-w", "2", "--error", "0.001%", "--keys", "keys"], data)
-            self.is_exact(f"weigh 3000 lines {words}", ran, keys, weights)
+            for how in MODES:
+                ran = self.tests.run(["weigh", *words, *how, "-f", "1", "-w", "2", "--keys", "keys"], data)
+                self.is_exact(f"weigh 3000 lines {words} {how}", ran, keys, weights)
 
     def rows(self, name, ran, keys, weights, status=0, said=b""):
         """Checks the status, the header, the keys and their order. Returns the numbers."""
@@ -92,7 +98,7 @@ class Weights:
         return numbers
 
     def is_exact(self, name, ran, keys, weights, status=0, said=b""):
-        """Checks what `weigh` wrote of so few items that no number is above the weight."""
+        """Checks that `weigh` wrote the weight of each key. With `--error` this holds for few items."""
         numbers = self.rows(name, ran, keys, weights, status, said)
         self.check(f"{name}: exact", numbers == [weights[key] for key in keys], (numbers, [weights[key] for key in keys]))
 
@@ -134,9 +140,10 @@ class Weights:
                     self.tests.file("keys", data)
                     field = [keys_words[-1]] if keys_words else []
                     choice = [*words, *(["--keys-field", *field] if field else [])]
-                    name = f"weigh random bytes {round} {choice}"
-                    ran = self.tests.run(["weigh", *choice, "--error", "0.001%", "--keys", "keys", *names], key=rng.choice([None, "plain"]))
-                    self.is_exact(name, ran, self.items(data, keys_of), self.weights_of(inputs, items_of))
+                    for how in MODES:
+                        name = f"weigh random bytes {round} {choice} {how}"
+                        ran = self.tests.run(["weigh", *choice, *how, "--keys", "keys", *names], key=rng.choice([None, "plain"]))
+                        self.is_exact(name, ran, self.items(data, keys_of), self.weights_of(inputs, items_of))
 
     def cuts(self):
         """Cuts the inputs and the keys at each place: by reads of a few bytes, and by a block that ends there."""
@@ -144,28 +151,55 @@ class Weights:
         data = b"ab\r\n\r\n\xe2\x82\xac b\n\xe2\x82\nab\r\na \xf0\x9f\x98\x80 c\r\r\n\n\xe2\x82\xac b\nab"
         self.tests.file("keys", data)
         for step in range(1, len(data) + 1):
-            ran = self.tests.run(["weigh", "--keys", "keys"], data, READ_STEP=step)
-            self.is_exact(f"weigh by reads of {step} bytes", ran, self.items(data, whole), self.weights_of([data], whole))
+            for how in MODES:
+                ran = self.tests.run(["weigh", *how, "--keys", "keys"], data, READ_STEP=step)
+                self.is_exact(f"weigh {how} by reads of {step} bytes", ran, self.items(data, whole), self.weights_of([data], whole))
         for cut in range(len(data) + 1):
             more = b"x" * (BLOCK - cut - 1) + b"\n" + data
             self.tests.file("keys", more)
-            ran = self.tests.run(["weigh", "--keys", "keys"], more)
-            self.is_exact(f"weigh with a block that ends at {cut}", ran, self.items(more, whole), self.weights_of([more], whole))
+            for how in MODES:
+                ran = self.tests.run(["weigh", *how, "--keys", "keys"], more)
+                self.is_exact(f"weigh {how} with a block that ends at {cut}", ran, self.items(more, whole), self.weights_of([more], whole))
         for limit in [1, 5, BLOCK - 1, BLOCK, 3 * BLOCK]:
             for length in [limit - 1, limit, limit + 1]:
                 for end in [b"\n", b""]:
                     long = b"\n" + length * b"x" + end
-                    for keys, data in [(b"\n", long), (long, b"\n")]:
+                    for keys, data, how in [(b"\n", long, []), (long, b"\n", []), (long, b"\n", MODES[1])]:
                         self.tests.file("keys", keys)
-                        ran = self.tests.run(["weigh", "--max-line", limit, "--keys", "keys"], data)
-                        name = f"weigh with limit {limit}, a line of {length} and {end}"
+                        ran = self.tests.run(["weigh", *how, "--max-line", limit, "--keys", "keys"], data)
+                        name = f"weigh {how} with limit {limit}, a line of {length} and {end}"
                         if length <= limit:
                             self.is_exact(name, ran, self.items(keys, whole), self.weights_of([data], whole))
                         else:
                             place = b"-" if data == long else b"keys"
                             said = b"sketches: %s: a line is longer than --max-line\n" % place
                             self.check(name, ran[0] == 2 and ran[2] == said, ran)
-                            self.check(f"{name}: nothing printed", place == b"keys" or ran[1] == b"", ran)
+                            self.check(f"{name}: nothing printed", bool(how) or ran[1] == b"", ran)
+
+    def once(self):
+        """Checks 100,000 keys that occur once each."""
+        keys = [b"item%d" % n for n in range(100000)]
+        data = b"".join(key + b"\n" for key in keys)
+        self.tests.file("keys", data)
+        ran = self.tests.run(["weigh", "--keys", "keys"], data)
+        self.check("weigh keys that occur once", ran[:3] == (0, b"# total 100000\n" + b"".join(b"1\t" + key + b"\n" for key in keys), b""), ran[1][:100])
+
+    def many_keys(self):
+        """Checks the maximum number of distinct keys: an error comes before the input is read."""
+        said = b"sketches: the file of keys has more distinct keys than --max-keys: use a larger one, or --error for estimates\n"
+        for keys, distinct in [(b"", 0), (b"a", 1), (b"a\na\na\n", 1), (b"a\nb\na\n\n", 3), (b"".join(b"%d\n" % (n % 5000) for n in range(9000)), 5000)]:
+            self.tests.file("keys", keys)
+            words = keys.split(b"\n")[: keys.count(b"\n")] + ([b"a"] if keys == b"a" else [])
+            for most in {0, 1, max(distinct - 1, 0), distinct, distinct + 1, 2**32 - 1}:
+                name = f"weigh {distinct} distinct keys, at most {most}"
+                ran = self.tests.run(["weigh", "--max-keys", most, "--keys", "keys"], b"a\nb\na\n")
+                if distinct <= most:
+                    self.is_exact(name, ran, words, collections.Counter([b"a", b"b", b"a"]))
+                else:
+                    self.check(name, ran[:3] == (2, b"", said), ran)
+        for words in [["--max-keys", "x"], ["--max-keys", "-1"], ["--max-keys", "4294967296"], ["--max-keys", "5", "--error", "1%"], ["--max-keys", "5", "--outliers", "9"]]:
+            ran = self.tests.run(["weigh", *words, "--keys", "keys"], b"a\n")
+            self.check(f"weigh {words}", ran[:2] == (2, b"") and ran[2], ran)
 
     def many_items(self):
         """Checks bounds over more items than buckets, and the share of numbers above the error."""
@@ -186,6 +220,8 @@ class Weights:
                     self.check(f"{name}: none above the total", max(numbers) <= 60000)
                     above = sum(n > weights[k] + 60000 // parts for n, k in zip(numbers, keys))
                     self.check(f"{name}: few outliers", above * outliers <= 2 * len(keys), above)
+        for key in ["plain", None]:
+            self.is_exact(f"weigh 22000 keys, key {key}", self.tests.run(["weigh", "--keys", "keys"], data, key=key), keys, weights)
 
     def statuses(self):
         """Checks files that cannot be read, wrong use, and devices that fail."""
@@ -235,40 +271,55 @@ class Weights:
         whole = lambda line: [line]
         data = b"".join(b"line %d\xff %d\n" % (n % 40, n) for n in range(200)) + 20 * b"\n" + b"x" * BLOCK
         self.tests.file("keys", data)
-        words = ["weigh", "--error", "1%", "--keys", "keys"]
-        done = self.tests.run(words, data)
-        n = 1
-        while True:
-            ran = self.tests.run(words, data, REFUSED_AT=n)
-            self.check(f"weigh, allocation {n}: all memory is freed", ran[3][2] == 0, ran)
-            if ran[3][1] == 0:
-                self.check("weigh, no allocation fails", ran[:3] == done[:3], ran)
-                break
-            ended = ran[0] == 2 and done[1].startswith(ran[1]) and ran[2]
-            self.check(f"weigh, allocation {n}", ended or ran[:3] == done[:3], ran)
-            n += 1
+        for how in [[], ["--error", "1%"]]:
+            words = ["weigh", *how, "--keys", "keys"]
+            done = self.tests.run(words, data)
+            n = 1
+            while True:
+                ran = self.tests.run(words, data, REFUSED_AT=n)
+                self.check(f"weigh {how}, allocation {n}: all memory is freed", ran[3][2] == 0, ran)
+                if ran[3][1] == 0:
+                    self.check(f"weigh {how}, no allocation fails", ran[:3] == done[:3], ran)
+                    break
+                ended = ran[0] == 2 and done[1].startswith(ran[1]) and ran[2]
+                self.check(f"weigh {how}, allocation {n}", ended or ran[:3] == done[:3], ran)
+                n += 1
         short = b"a\nb\na\nb\nc"
-        self.tests.file("keys", b"b\nq\na")
+        listed = b"b\nq\na"
+        self.tests.file("keys", listed)
         keys = [b"b", b"q", b"a"]
-        reads = len(short) + 1
-        for which in ["FAILS_READ_AT", "FAILS_WRITE_AT"]:
+        self.tests.file("lines", short)
+        failed = b"sketches: -: Input/output error (os error 5)\n"
+        for how in MODES:
+            for which in ["FAILS_READ_AT", "FAILS_WRITE_AT"]:
+                for interrupted in [{}, {"INTERRUPTED": 1}]:
+                    n = 1
+                    while True:
+                        ran = self.tests.run(["weigh", *how, "--keys", "keys"], short, **{which: n, "READ_STEP": 1, **interrupted})
+                        name = f"weigh {how}, {which} {n} {interrupted}"
+                        if ran[3][1] == 0 or interrupted:
+                            self.is_exact(name, ran, keys, self.weights_of([short], whole))
+                        elif which == "FAILS_READ_AT":
+                            read = short[: n - 1]
+                            self.is_exact(name, ran, keys, self.weights_of([read[: read.rfind(b"\n") + 1]], whole), status=1, said=failed)
+                        else:
+                            self.check(name, ran[0] == 2 and ran[2].startswith(b"sketches: output: "), ran)
+                        if ran[3][1] == 0:
+                            break
+                        n += 1
             for interrupted in [{}, {"INTERRUPTED": 1}]:
                 n = 1
                 while True:
-                    ran = self.tests.run(["weigh", "--keys", "keys"], short, **{which: n, "READ_STEP": 1, **interrupted})
-                    name = f"weigh, {which} {n} {interrupted}"
+                    ran = self.tests.run(["weigh", *how, "--keys", "-", "lines"], listed, FAILS_READ_AT=n, READ_STEP=1, **interrupted)
+                    name = f"weigh {how}, a read of keys {n} {interrupted}"
                     if ran[3][1] == 0 or interrupted:
                         self.is_exact(name, ran, keys, self.weights_of([short], whole))
-                    elif which == "FAILS_READ_AT" and n <= reads:
-                        read = short[: n - 1]
-                        said = b"sketches: -: Input/output error (os error 5)\n"
-                        self.is_exact(name, ran, keys, self.weights_of([read[: read.rfind(b"\n") + 1]], whole), status=1, said=said)
-                    elif which == "FAILS_READ_AT":
-                        read = b"b\nq\na"[: n - 1 - reads]
-                        said = b"sketches: keys: Input/output error (os error 5)\n"
-                        self.is_exact(name, ran, self.items(read[: read.rfind(b"\n") + 1], whole), self.weights_of([short], whole), status=2, said=said)
+                    elif how and n > 1:
+                        # the first read is that of no bytes, which finds folders
+                        read = listed[: n - 2]
+                        self.is_exact(name, ran, self.items(read[: read.rfind(b"\n") + 1], whole), self.weights_of([short], whole), status=2, said=failed)
                     else:
-                        self.check(name, ran[0] == 2 and ran[2].startswith(b"sketches: output: "), ran)
+                        self.check(name, ran[:3] == (2, b"", failed), ran)
                     if ran[3][1] == 0:
                         break
                     n += 1

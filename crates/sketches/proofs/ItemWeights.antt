@@ -49,10 +49,10 @@ pub lines_all : (chosen : WeighedRecord) (old new : CountState) (all left : List
 lines_all chosen old new all left so none = subst (λ l. CountsLines chosen old l new) (sym (so.parts ∙ (ap (λ l. so.done ++ l) none ∙ append-nil so.done))) so.counts
 
 -- a failure at one more record
-pub lines_failed : (chosen : WeighedRecord) (old mid : CountState) (all left later : List (List ℕ)) (line : List ℕ) (e : Failure) → HasCountedLines chosen old all left mid → left ≡ line ∷ later → FailsCounting mid (weighed_line chosen line) (unweighed_line chosen line) e → FailsLines chosen old all e
+pub lines_failed : (chosen : WeighedRecord) (old mid : CountState) (all left later : List (List ℕ)) (line : List ℕ) (e : Failure) → HasCountedLines chosen old all left mid → left ≡ line ∷ later → FailsCounting mid.total (weighed_line chosen line) (unweighed_line chosen line) e → FailsLines chosen old.total all e
 lines_failed chosen old mid all left later line e so next f =
-    subst (λ l. FailsLines chosen old l e) (sym (so.parts ∙ ap (λ l. so.done ++ l) next))
-    (lines_later chosen old mid so.done (line ∷ later) e so.counts (lines_sooner chosen mid (line ∷ []) later e (one_fails chosen mid line e f)))
+    subst (λ l. FailsLines chosen old.total l e) (sym (so.parts ∙ ap (λ l. so.done ++ l) next))
+    (lines_later chosen old.total mid.total so.done (line ∷ later) e so.counts.0.total (lines_sooner chosen mid.total (line ∷ []) later e (one_fails chosen mid.total line e f)))
 
 -- ---- the keys of records
 

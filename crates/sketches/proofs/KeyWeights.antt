@@ -73,7 +73,7 @@ weight_mono f g (x ∷ items) more =
     let second : List ℕ × ℕ → ℕ = λ pair. cond (g pair.0) pair.1 0 in
     omega (arith, weight_mono f g items more, one_mono (f x.0) (g x.0) x.1 (more x.0), sum_by-cons first x items, sum_by-cons second x items)
 
-weight_within : (f : List ℕ → Bool) (items : Weighed) → weight_where f items ≤ total_of items
+pub weight_within : (f : List ℕ → Bool) (items : Weighed) → weight_where f items ≤ total_of items
 weight_within f [] = omega arith
 weight_within f (x ∷ items) =
     let weight : List ℕ × ℕ → ℕ = λ pair. cond (f pair.0) pair.1 0 in
@@ -142,7 +142,7 @@ abbrev pub Weighs : Weigher → List ℕ → Weigher → Type 0
 Weighs old bytes new = CountsLines old.0.chosen old.0.sketch (records_by old.0.chosen.item bytes) new.0.sketch × (new.0.chosen ≡ old.0.chosen)
 
 abbrev pub FailsWeighs : Weigher → List ℕ → Weigher → Failure → Type 0
-FailsWeighs old bytes new failure = FailsLines old.0.chosen old.0.sketch (records_by old.0.chosen.item bytes) failure
+FailsWeighs old bytes new failure = FailsLines old.0.chosen old.0.sketch.total (records_by old.0.chosen.item bytes) failure
 
 abbrev WeighsAll : WeighedRecord → (old : CountState) → List (List ℕ) → Weigher → Type 0
 WeighsAll p old read new = CountsLines p old (flat_map (records_by p.item) read) new.0.sketch × (new.0.chosen ≡ p)
@@ -314,7 +314,7 @@ module _ (p : WeighedRecord) where
       let both = ap (λ (l : Weighed). total_of l) (ap (λ (l : List ℕ). weighed_lines p (records l)) parts ∙ (ap (weighed_lines p) (records_both (splits_by p.item) read (x ∷ rest) (whole (omega arith))) ∙ flat_map-append (weighed_line p) (records read) (records (x ∷ rest)))) in
       omega (arith, both, total_both (weighed_lines p (records read)) (weighed_lines p (records (x ∷ rest))))
 
-  few_of_each : (inputs read : List (List ℕ)) → AllZip (AreFirstRecords (splits_by p.item)) inputs read → total_of (weighed_in p read) ≤ total_of (weighed_in p inputs)
+  pub few_of_each : (inputs read : List (List ℕ)) → AllZip (AreFirstRecords (splits_by p.item)) inputs read → total_of (weighed_in p read) ≤ total_of (weighed_in p inputs)
   few_of_each [] [] fronts = omega arith
   few_of_each [] (r ∷ read) fronts = absurd fronts
   few_of_each (bytes ∷ inputs) [] fronts = absurd fronts
@@ -327,12 +327,12 @@ module _ (p : WeighedRecord) where
   records_among : (earlier later : List (List ℕ)) (input : List ℕ) → flat_map records (earlier ++ input ∷ later) ≡ flat_map records earlier ++ (records input ++ flat_map records later)
   records_among earlier later input = flat_map-append records earlier (input ∷ later)
 
-  weighed_among : (earlier later : List (List ℕ)) (input : List ℕ) → weighed_in p (earlier ++ input ∷ later) ≡ weighed_in p earlier ++ (weighed_lines p (records input) ++ weighed_in p later)
+  pub weighed_among : (earlier later : List (List ℕ)) (input : List ℕ) → weighed_in p (earlier ++ input ∷ later) ≡ weighed_in p earlier ++ (weighed_lines p (records input) ++ weighed_in p later)
   weighed_among earlier later input =
       ap (weighed_lines p) (records_among earlier later input)
       ∙ (flat_map-append (weighed_line p) (flat_map records earlier) (records input ++ flat_map records later) ∙ ap (λ l. weighed_in p earlier ++ l) (flat_map-append (weighed_line p) (records input) (flat_map records later)))
 
-  unweighed_among : (earlier later : List (List ℕ)) (input : List ℕ) → unweighed_in p (earlier ++ input ∷ later) ≡ unweighed_in p earlier ++ (unweighed_lines p (records input) ++ unweighed_in p later)
+  pub unweighed_among : (earlier later : List (List ℕ)) (input : List ℕ) → unweighed_in p (earlier ++ input ∷ later) ≡ unweighed_in p earlier ++ (unweighed_lines p (records input) ++ unweighed_in p later)
   unweighed_among earlier later input =
       ap (unweighed_lines p) (records_among earlier later input)
       ∙ (flat_map-append (unweighed_line p) (flat_map records earlier) (records input ++ flat_map records later) ∙ ap (λ l. unweighed_in p earlier ++ l) (flat_map-append (unweighed_line p) (records input) (flat_map records later)))

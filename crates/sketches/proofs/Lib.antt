@@ -17,7 +17,9 @@ pub mod Reported
 pub mod Results
 pub mod RowOrder
 pub mod Saved
+pub mod SummedInputs
 pub mod TakenBatches
+pub mod TakenKeys
 pub mod Utf8Strings
 pub mod WeighedLines
 pub mod Shares

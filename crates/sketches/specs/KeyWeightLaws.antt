@@ -1,5 +1,5 @@
 -- The laws of items with weights that are added one after another, and of estimates that are written.
-use Rattle.std.proofs.Common.{◌≡◌, ℕ, Bool, List, [], ◌∷◌, ◌++◌, map, Option, Some, ℤ, append_assoc, append-nil, refl, sym, ◌∙◌, ap, subst, arith, length-append}
+use Rattle.std.proofs.Common.{◌≡◌, ℕ, ◌+◌, Bool, List, [], ◌∷◌, ◌++◌, map, Option, Some, ℤ, append_assoc, append-nil, refl, sym, ◌∙◌, ap, subst, arith, length-append}
 use Rattle.std.proofs.lemmas.List.{map-append}
 use Rattle.std.proofs.lemmas.List.Concat.{flat_map-append}
 use Rattle.std.proofs.lemmas.List.Elements.{All-append, All-nil}
@@ -42,7 +42,7 @@ weighed_both a b c xs ys s t = record {
 }
 
 -- a failure may come if more items follow
-fails_more : (a : CountState) (xs ys : Weighed) (us vs : List (List ℕ)) (e : Failure) → FailsCounting a xs us e → FailsCounting a (xs ++ ys) (us ++ vs) e
+fails_more : (a : ℕ) (xs ys : Weighed) (us vs : List (List ℕ)) (e : Failure) → FailsCounting a xs us e → FailsCounting a (xs ++ ys) (us ++ vs) e
 fails_more a xs ys us vs Memory f = tt
 fails_more a xs ys us vs LineTooLong f = f
 fails_more a xs ys us vs TooManyItems f = omega (arith, f, total_both xs ys)
@@ -51,10 +51,10 @@ fails_more a xs ys us vs (BadWeight found) f = omega (arith, f, length-append us
 fails_more a xs ys us vs (Write error) f = f
 
 -- a failure may come if more items are added before
-fails_after : (a b : CountState) (xs ys : Weighed) (us vs : List (List ℕ)) (e : Failure) → CountsWeighed a xs b → FailsCounting b ys vs e → FailsCounting a (xs ++ ys) (us ++ vs) e
+fails_after : (a b : ℕ) (xs ys : Weighed) (us vs : List (List ℕ)) (e : Failure) → b ≡ a + total_of xs → FailsCounting b ys vs e → FailsCounting a (xs ++ ys) (us ++ vs) e
 fails_after a b xs ys us vs Memory s f = tt
 fails_after a b xs ys us vs LineTooLong s f = f
-fails_after a b xs ys us vs TooManyItems s f = omega (arith, f, s.total, total_both xs ys)
+fails_after a b xs ys us vs TooManyItems s f = omega (arith, f, s, total_both xs ys)
 fails_after a b xs ys us vs BadSize s f = f
 fails_after a b xs ys us vs (BadWeight found) s f = omega (arith, f, length-append us vs)
 fails_after a b xs ys us vs (Write error) s f = f
@@ -66,10 +66,10 @@ records_none (part.Line chosen) = refl
 records_none (part.Csv field) = refl
 
 module _ (p : WeighedRecord) where
-  weighed_append : (xs ys : List (List ℕ)) → weighed_lines p (xs ++ ys) ≡ weighed_lines p xs ++ weighed_lines p ys
+  pub weighed_append : (xs ys : List (List ℕ)) → weighed_lines p (xs ++ ys) ≡ weighed_lines p xs ++ weighed_lines p ys
   weighed_append xs ys = flat_map-append (weighed_line p) xs ys
 
-  unweighed_append : (xs ys : List (List ℕ)) → unweighed_lines p (xs ++ ys) ≡ unweighed_lines p xs ++ unweighed_lines p ys
+  pub unweighed_append : (xs ys : List (List ℕ)) → unweighed_lines p (xs ++ ys) ≡ unweighed_lines p xs ++ unweighed_lines p ys
   unweighed_append xs ys = flat_map-append (unweighed_line p) xs ys
 
   pub no_lines : (a : CountState) → CountsLines p a [] a
@@ -84,14 +84,14 @@ module _ (p : WeighedRecord) where
     unweighed_append xs ys ∙ (ap (λ l. l ++ unweighed_lines p ys) each ∙ each'),
   )
 
-  pub one_fails : (a : CountState) (line : List ℕ) (e : Failure) → FailsCounting a (weighed_line p line) (unweighed_line p line) e → FailsLines p a (line ∷ []) e
+  pub one_fails : (a : ℕ) (line : List ℕ) (e : Failure) → FailsCounting a (weighed_line p line) (unweighed_line p line) e → FailsLines p a (line ∷ []) e
   one_fails a line e f = fails_more a (weighed_line p line) [] (unweighed_line p line) [] e f
 
-  pub lines_sooner : (a : CountState) (xs ys : List (List ℕ)) (e : Failure) → FailsLines p a xs e → FailsLines p a (xs ++ ys) e
+  pub lines_sooner : (a : ℕ) (xs ys : List (List ℕ)) (e : Failure) → FailsLines p a xs e → FailsLines p a (xs ++ ys) e
   lines_sooner a xs ys e f = rw (weighed_append xs ys, unweighed_append xs ys) (fails_more a (weighed_lines p xs) (weighed_lines p ys) (unweighed_lines p xs) (unweighed_lines p ys) e f)
 
-  pub lines_later : (a b : CountState) (xs ys : List (List ℕ)) (e : Failure) → CountsLines p a xs b → FailsLines p b ys e → FailsLines p a (xs ++ ys) e
-  lines_later a b xs ys e adds f = rw (weighed_append xs ys, unweighed_append xs ys) (fails_after a b (weighed_lines p xs) (weighed_lines p ys) (unweighed_lines p xs) (unweighed_lines p ys) e adds.0 f)
+  pub lines_later : (a b : ℕ) (xs ys : List (List ℕ)) (e : Failure) → b ≡ a + total_of (weighed_lines p xs) → FailsLines p b ys e → FailsLines p a (xs ++ ys) e
+  lines_later a b xs ys e adds f = rw (weighed_append xs ys, unweighed_append xs ys) (fails_after a b (weighed_lines p xs) (weighed_lines p ys) (unweighed_lines p xs) (unweighed_lines p ys) e adds f)
 
 -- ---- the records of bytes
 
@@ -112,11 +112,11 @@ module _ (p : WeighedRecord) (xs ys : List ℕ) (whole : AreWholeRecords (splits
     same' ∙ same,
   )
 
-  pub counts_sooner : (a : CountState) (e : Failure) → FailsLines p a (records_by p.item xs) e → FailsLines p a (records_by p.item (xs ++ ys)) e
+  pub counts_sooner : (a : ℕ) (e : Failure) → FailsLines p a (records_by p.item xs) e → FailsLines p a (records_by p.item (xs ++ ys)) e
   counts_sooner a e f = subst (λ l. FailsLines p a l e) (sym both_records) (lines_sooner p a (records_by p.item xs) (records_by p.item ys) e f)
 
-  pub counts_later : (a b : CountState) (q : WeighedRecord) (e : Failure) → Weighs p a b xs q → FailsLines q b (records_by q.item ys) e → FailsLines p a (records_by p.item (xs ++ ys)) e
-  counts_later a b q e (first, same) f =
+  pub counts_later : (a b : ℕ) (q : WeighedRecord) (e : Failure) → b ≡ a + total_of (weighed_lines p (records_by p.item xs)) → q ≡ p → FailsLines q b (records_by q.item ys) e → FailsLines p a (records_by p.item (xs ++ ys)) e
+  counts_later a b q e first same f =
       subst (λ l. FailsLines p a l e) (sym both_records) (lines_later p a b (records_by p.item xs) (records_by p.item ys) e first (subst (λ (s : WeighedRecord). FailsLines s b (records_by s.item ys) e) same f))
 
 -- the parts of whole records and of the bytes after them

@@ -19,6 +19,7 @@ use Rattle.sketch_base.specs.Records.{part_in, records_by, splits_by}
 use Rattle.sketches.specs.TextEscapes.{text_escaped}
 use Rattle.sketches.specs.Unseen.{hashed}
 use Rattle.sketches.specs.Weighed.{Weighed, total_of, weight_of, without_weight}
+use Rattle.sketches.specs.Weights.{taken_weight}
 use Rattle.sketches.specs.declared.item_weigher.WeighedRecord.{WeighedRecord}
 use Rattle.sketch_base.specs.declared.record_part.RecordPart.{RecordPart}
 use Rattle.sketches.specs.declared.weigh.WeighOptions.{WeighOptions}
@@ -28,18 +29,22 @@ abbrev pub weight_on : Option RecordPart → List ℕ → Option ℕ
 weight_on None row = Some 1
 weight_on (Some part) row = option_and_then number_in (slice_get (part_in part row) 0)
 
+-- the weight that counts of a record
+abbrev pub counted_weight : WeighedRecord → List ℕ → Option ℕ
+counted_weight chosen row = taken_weight chosen.unweighed (weight_on chosen.weight row)
+
 -- the items with a weight, if there is one
 abbrev pub weigh : List (List ℕ) → Option ℕ → Weighed
 weigh items None = []
 weigh items (Some weight) = map (λ item. (item, weight)) items
 
--- the item of a record with its weight, if the record has both
+-- the item of a record with its weight, if the record has an item and a weight that counts
 abbrev pub weighed_line : WeighedRecord → List ℕ → Weighed
-weighed_line chosen row = weigh (part_in chosen.item row) (weight_on chosen.weight row)
+weighed_line chosen row = weigh (part_in chosen.item row) (counted_weight chosen row)
 
--- the item of a record that has no weight
+-- the item of a record that has no weight that counts
 abbrev pub unweighed_line : WeighedRecord → List ℕ → List (List ℕ)
-unweighed_line chosen row = without_weight (part_in chosen.item row) (weight_on chosen.weight row)
+unweighed_line chosen row = without_weight (part_in chosen.item row) (counted_weight chosen row)
 
 -- the items of records with their weights, and those without
 abbrev pub weighed_lines : WeighedRecord → List (List ℕ) → Weighed

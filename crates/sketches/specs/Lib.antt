@@ -16,6 +16,8 @@ pub mod JoinFailures
 pub mod Joined
 pub mod JoinedLaws
 pub mod Json
+pub mod KeySumLaws
+pub mod KeySums
 pub mod KeyWeightLaws
 pub mod KeyWeights
 pub mod Keys

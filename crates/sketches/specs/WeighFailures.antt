@@ -1,7 +1,6 @@
 -- When each error of a run that prints the weights of keys comes.
 use Rattle.std.specs.Prelude.{◌≡◌, ◌⊎◌, ℕ, ◌+◌, ◌*◌, ◌^◌, ◌<◌, ◌≤◌, Bool, true, List, length, Option, IfSome}
 use Rattle.sketch_countmin.specs.Sizes.{IsETimesWithin}
-use Rattle.sketch_countmin.specs.State.{CountState}
 use Rattle.sketches.specs.Inputs.{HaveLongRecord}
 use Rattle.sketches.specs.Reading.{HasLongRecord}
 use Rattle.sketch_base.specs.Records.{splits_by}
@@ -12,16 +11,16 @@ use Rattle.sketches.specs.declared.failure.Failure.TheVariants.{Memory, LineTooL
 use Rattle.sketches.specs.declared.item_weigher.WeighedRecord.{WeighedRecord}
 use Rattle.sketches.specs.declared.weigh.WeighOptions.{WeighOptions}
 
--- while items are added with their weights, the memory is exhausted, the total would exceed `u64::MAX`, or an item has no weight
-abbrev pub FailsCounting : CountState → Weighed → (unweighed : List (List ℕ)) → Failure → Type 0
-FailsCounting old items unweighed Memory = Unit {0}
-FailsCounting old items unweighed TooManyItems = 2 ^ 64 ≤ old.total + total_of items
-FailsCounting old items unweighed (BadWeight found) = 0 < length unweighed
-FailsCounting old items unweighed _ = ⊥
+-- while items are added with their weights to a total, the memory is exhausted, the total would exceed `u64::MAX`, or an item has no weight
+abbrev pub FailsCounting : (total : ℕ) → Weighed → (unweighed : List (List ℕ)) → Failure → Type 0
+FailsCounting total items unweighed Memory = Unit {0}
+FailsCounting total items unweighed TooManyItems = 2 ^ 64 ≤ total + total_of items
+FailsCounting total items unweighed (BadWeight found) = 0 < length unweighed
+FailsCounting total items unweighed _ = ⊥
 
 -- why the items of records are not added
-abbrev pub FailsLines : WeighedRecord → CountState → List (List ℕ) → Failure → Type 0
-FailsLines chosen old all failure = FailsCounting old (weighed_lines chosen all) (unweighed_lines chosen all) failure
+abbrev pub FailsLines : WeighedRecord → (total : ℕ) → List (List ℕ) → Failure → Type 0
+FailsLines chosen total all failure = FailsCounting total (weighed_lines chosen all) (unweighed_lines chosen all) failure
 
 -- Memory is exhausted while a table is made, or a table of this size is not allowed: for no parts, for fewer than 2 questions, with
 -- 2^30 buckets or more in a row, or with 2^30 cells or more.

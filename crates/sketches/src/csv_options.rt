@@ -260,6 +260,7 @@ pub fn weighed_line(matches: &ArgMatches<'_>) -> Result<WeighedRecord, &'static 
     Ok(WeighedRecord {
         item: RecordPart::Line(item),
         weight,
+        unweighed: unweighed_of(matches)?,
     })
 }
 

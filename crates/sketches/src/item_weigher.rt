@@ -1,6 +1,6 @@
 //! Adds the items of records with their weights to a Count-Min sketch.
-ghost use Rattle.std.specs.Prelude.{◌≡◌, Some, [], ◌∷◌, IfErr, IfOk, OnOk};
-ghost use Rattle.sketches.specs.KeyWeights.{CountsLines, CountsWeighed, unweighed_line, weight_on, weighed_line};
+ghost use Rattle.std.specs.Prelude.{◌≡◌, [], ◌∷◌, IfErr, IfOk, OnOk};
+ghost use Rattle.sketches.specs.KeyWeights.{CountsLines, CountsWeighed, counted_weight, unweighed_line, weight_on, weighed_line};
 ghost use Rattle.sketch_base.specs.Records.{records_by};
 ghost use Rattle.sketches.specs.Failures.{IsBadWeight};
 ghost use Rattle.sketches.specs.WeighFailures.{FailsCounting, FailsLines};
@@ -10,6 +10,8 @@ use crate::failure::Failure;
 use crate::line_sink::LineSink;
 use crate::raw_item::RawItem;
 use crate::weighed_lines::bad_field;
+use crate::weighing::Unweighed;
+use crate::weights::taken_weight;
 use sketch_base::from_utf8;
 use sketch_base::records::{RecordPart, Records, next_record, number_of, record_part_of};
 use sketch_countmin::CountMinSketch;
@@ -20,6 +22,8 @@ use std::alloc::{AllocError, Global};
 pub struct WeighedRecord {
     pub item: RecordPart,
     pub weight: Option<RecordPart>,
+    /// What is done with a record that has an item and no weight.
+    pub unweighed: Unweighed,
 }
 
 /// Adds the items of the records that it takes, with their weights.
@@ -29,6 +33,8 @@ pub struct ItemWeigher {
     pub chosen: WeighedRecord,
     /// The number of lines of this input that were taken.
     pub count: u64,
+    /// The number of records that have an item and no weight, and whose weight is 0, at most `u64::MAX`.
+    pub unweighed: u64,
 }
 
 impl LineSink<()> for ItemWeigher {
@@ -42,7 +48,7 @@ impl LineSink<()> for ItemWeigher {
     ghost takes = { λ old bytes new. CountsLines old.0.chosen old.0.sketch (records_by old.0.chosen.item bytes) new.0.sketch
         × (new.0.chosen ≡ old.0.chosen) };
 
-    ghost fails = { λ old bytes new failure. FailsLines old.0.chosen old.0.sketch (records_by old.0.chosen.item bytes) failure };
+    ghost fails = { λ old bytes new failure. FailsLines old.0.chosen old.0.sketch.total (records_by old.0.chosen.item bytes) failure };
 
     ghost takes_same = { λ r s xs taken. ap (λ (p : WeighedRecord). splits_by p.item) taken.1 };
 
@@ -51,9 +57,9 @@ impl LineSink<()> for ItemWeigher {
     ghost takes_both = { λ r s t xs ys whole. counts_both r.0.chosen xs ys whole
         r.0.sketch s.0.sketch t.0.sketch s.0.chosen t.0.chosen };
 
-    ghost fails_sooner = { λ r t xs ys e whole. counts_sooner r.0.chosen xs ys whole r.0.sketch e };
+    ghost fails_sooner = { λ r t xs ys e whole. counts_sooner r.0.chosen xs ys whole r.0.sketch.total e };
 
-    ghost fails_later = { λ r s t xs ys e whole. counts_later r.0.chosen xs ys whole r.0.sketch s.0.sketch s.0.chosen e };
+    ghost fails_later = { λ r s t xs ys e whole takes. counts_later r.0.chosen xs ys whole r.0.sketch.total s.0.sketch.total s.0.chosen e takes.0.0.total takes.1 };
 
     fn records(&self) -> Records {
         self.chosen.item.records()
@@ -64,39 +70,48 @@ impl LineSink<()> for ItemWeigher {
     }
 
     fn take(&mut self, alloc: Global, _output: &mut (), bytes: &[u8]) -> Result<(), Failure> {
-        add_lines(alloc, &mut self.sketch, self.chosen, bytes, &mut self.count)
+        add_lines(
+            alloc,
+            &mut self.sketch,
+            self.chosen,
+            bytes,
+            &mut self.count,
+            &mut self.unweighed,
+        )
     }
 }
 
-/// Adds the item of each record of bytes with the weight of the record. Adds to `count` the number of lines of each record.
+/// Adds the item of each record of bytes with the weight of the record. Adds to `count` the number of lines of each record. Increments
+/// `bad` for each record that has an item and no weight.
 ///
 /// # Errors
 ///
-/// Returns `BadWeight` at the first record with an item and without a weight, with the number of its first line. Returns `TooManyItems`
-/// if the total would exceed `u64::MAX`, and `Memory` if an allocation fails.
+/// Returns `BadWeight` at the first record with an item and without a weight, if this is an error. It has the number of the record's first
+/// line. Returns `TooManyItems` if the total would exceed `u64::MAX`, and `Memory` if an allocation fails.
 fn add_lines(
     alloc: Global,
     sketch: &mut CountMinSketch<u64>,
     chosen: WeighedRecord,
     bytes: &[u8],
     count: &mut u64,
+    bad: &mut u64,
 ) -> Result<(), Failure>
     ensures added { OnOk result (CountsLines chosen sketch.old (records_by chosen.item bytes.now) sketch.new) }
-    ensures failed { IfErr result (FailsLines chosen sketch.old (records_by chosen.item bytes.now)) }
+    ensures failed { IfErr result (FailsLines chosen sketch.old.total (records_by chosen.item bytes.now)) }
 {
     let mut rest = bytes;
     'each: loop {
         let Some((row, after)) = next_record(chosen.item, rest) else {
             return Ok(());
         };
-        add_line(alloc, sketch, chosen, row, count.saturating_add(1))?;
+        add_line(alloc, sketch, chosen, row, count.saturating_add(1), bad)?;
         *count = count.saturating_add(lines_between(chosen.item, rest, after));
         rest = after;
     }
 }
 
 /// Returns the number of lines of the first record of bytes, of which others are left after it.
-fn lines_between(part: RecordPart, bytes: &[u8], after: &[u8]) -> u64 {
+pub fn lines_between(part: RecordPart, bytes: &[u8], after: &[u8]) -> u64 {
     match part {
         RecordPart::Line(_) => 1,
         RecordPart::Csv(_) => {
@@ -114,28 +129,47 @@ fn add_line(
     chosen: WeighedRecord,
     row: &[u8],
     number: u64,
+    bad: &mut u64,
 ) -> Result<(), Failure>
     ensures added { OnOk result (CountsWeighed sketch.old (weighed_line chosen row.now) sketch.new × (unweighed_line chosen row.now ≡ [])) }
-    ensures failed { IfErr result (FailsCounting sketch.old (weighed_line chosen row.now) (unweighed_line chosen row.now)) }
+    ensures failed { IfErr result (FailsCounting sketch.old.total (weighed_line chosen row.now) (unweighed_line chosen row.now)) }
 {
     let mut text = Vec::new(alloc);
     let Some(item) = record_part_of(chosen.item, row, &mut text)? else {
         return Ok(());
     };
-    let Some(part) = chosen.weight else {
-        return add_item(sketch, item, 1);
-    };
-    let Some(weight) = weight_of(alloc, part, row)? else {
-        return Err(bad_weight(alloc, part, row, number));
+    let Some(weight) = counted_weight(alloc, chosen, row, bad)? else {
+        return Err(bad_weight(alloc, chosen.weight, row, number));
     };
     add_item(sketch, item, weight)
 }
 
-/// Returns the weight in a part of a record, or `None` if the record does not have it or it is not a number below 2^64.
+/// Returns the weight that counts of a record that has an item, or `None` if it has none. Increments `bad` if it has none and this is no
+/// error.
 #[inline(always)]
-fn weight_of(alloc: Global, part: RecordPart, row: &[u8]) -> Result<Option<u64>, AllocError>
-    ensures { IfOk result (λ weight. weight ≡ weight_on (Some part) row.now) }
+pub fn counted_weight(
+    alloc: Global,
+    chosen: WeighedRecord,
+    row: &[u8],
+    bad: &mut u64,
+) -> Result<Option<u64>, AllocError>
+    ensures { IfOk result (λ weight. weight ≡ counted_weight chosen row.now) }
 {
+    match weight_of(alloc, chosen.weight, row)? {
+        Some(weight) => Ok(Some(weight)),
+        None => Ok(taken_weight(chosen.unweighed, bad)),
+    }
+}
+
+/// Returns the weight of a record: 1, or the number that a part spells. Returns `None` if the record does not have the part, or if the part
+/// is not a number below 2^64.
+#[inline(always)]
+fn weight_of(alloc: Global, part: Option<RecordPart>, row: &[u8]) -> Result<Option<u64>, AllocError>
+    ensures { IfOk result (λ weight. weight ≡ weight_on part row.now) }
+{
+    let Some(part) = part else {
+        return Ok(Some(1));
+    };
     let mut text = Vec::new(alloc);
     match record_part_of(part, row, &mut text)? {
         Some(digits) => Ok(number_of(digits)),
@@ -144,9 +178,12 @@ fn weight_of(alloc: Global, part: RecordPart, row: &[u8]) -> Result<Option<u64>,
 }
 
 /// Returns the error of a record that has no weight in a part.
-fn bad_weight(alloc: Global, part: RecordPart, row: &[u8], number: u64) -> Failure
+pub fn bad_weight(alloc: Global, part: Option<RecordPart>, row: &[u8], number: u64) -> Failure
     ensures { IsBadWeight result }
 {
+    let Some(part) = part else {
+        return bad_field(alloc, b"".as_slice(), number);
+    };
     let mut text = Vec::new(alloc);
     match record_part_of(part, row, &mut text) {
         Ok(found) => bad_field(alloc, found.unwrap_or(b"".as_slice()), number),
@@ -158,7 +195,7 @@ fn bad_weight(alloc: Global, part: RecordPart, row: &[u8], number: u64) -> Failu
 #[inline(always)]
 fn add_item(sketch: &mut CountMinSketch<u64>, item: &[u8], weight: u64) -> Result<(), Failure>
     ensures added { OnOk result (CountsWeighed sketch.old ((item.now, weight) ∷ []) sketch.new) }
-    ensures failed { IfErr result (FailsCounting sketch.old ((item.now, weight) ∷ []) []) }
+    ensures failed { IfErr result (FailsCounting sketch.old.total ((item.now, weight) ∷ []) []) }
 {
     match from_utf8(item) {
         Ok(text) => sketch.update_item_with_weight(text, weight)?,

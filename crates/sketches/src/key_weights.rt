@@ -135,7 +135,7 @@ fn estimate_of(sketch: &CountMinSketch<u64>, item: &[u8]) -> u64
 }
 
 /// Appends the line of a key: its number, a tab and the key, which is escaped if `escaped`.
-fn append_line(
+pub fn append_line(
     weight: u64,
     key: &[u8],
     escaped: bool,

@@ -18,6 +18,7 @@ pub fn weighed_record<'n>(
             Some(part) => Ok(WeighedRecord {
                 item: record_at(part.delimiter, part.item),
                 weight: part.weight.map(|index| record_at(part.delimiter, index)),
+                unweighed: part.unweighed,
             }),
             None => Err(ERROR),
         },

@@ -50,6 +50,8 @@ pub struct WeighOptions {
 pub struct Weighed {
     /// Whether no read of an input failed.
     pub complete: bool,
+    /// The number of records that have an item and no weight, and whose weight is 0, at most `u64::MAX`. No clause states it.
+    pub unweighed: u64,
     /// The error of a read of the file of keys, if any.
     pub failure: Option<io::Error>,
 }
@@ -62,9 +64,9 @@ pub struct Weighed {
 /// # Errors
 ///
 /// Returns `BadSize` if a sketch of this size is not allowed, and then reads and writes nothing. Returns `TooManyItems` if the total
-/// exceeds 2^64 - 1, and `BadWeight` if a record with an item has no weight. The output is not written then. Returns `LineTooLong` if a
-/// record exceeds the limit, `Memory` if an allocation fails, and `Write` if a write fails. Then the output has the front of what would
-/// be written.
+/// exceeds 2^64 - 1, and `BadWeight` if a record with an item has no weight and this is an error. The output is not written then. Returns
+/// `LineTooLong` if a record exceeds the limit, `Memory` if an allocation fails, and `Write` if a write fails. Then the output has the
+/// front of what would be written.
 pub fn weigh<I: Inputs, R: Read, W: Output>(
     alloc: Global,
     options: WeighOptions,
@@ -87,10 +89,12 @@ pub fn weigh<I: Inputs, R: Read, W: Output>(
         sketch,
         chosen: options.chosen,
         count: 0,
+        unweighed: 0,
     };
     let limit = options.max_line as usize + 1;
     let mut buffer = vec![in alloc; 0; limit.min(BLOCK)]?;
     let complete = read_inputs(alloc, &mut weigher, &mut (), inputs, &mut buffer, limit)?;
+    let unweighed = weigher.unweighed;
     let sketch = weigher.sketch;
     write_total(alloc, options.header, sketch.total_weight(), writer)?;
     let mut lines = KeyWeights {
@@ -101,7 +105,11 @@ pub fn weigh<I: Inputs, R: Read, W: Output>(
         number: String::new(alloc),
     };
     let failure = read_lines(alloc, &mut lines, writer, keys, &mut buffer, limit)?;
-    Ok(Weighed { complete, failure })
+    Ok(Weighed {
+        complete,
+        unweighed,
+        failure,
+    })
 }
 
 /// Creates an empty sketch for an error of the total over `parts`, which one of `questions` keys may exceed under ideal hashes.
@@ -140,7 +148,7 @@ fn usable_seed(seed: u64) -> u64
 /// # Errors
 ///
 /// Returns `Memory` if an allocation fails, and `Write` if the writer fails.
-fn write_total<W: Output>(
+pub fn write_total<W: Output>(
     alloc: Global,
     wanted: bool,
     total: u64,

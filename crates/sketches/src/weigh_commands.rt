@@ -1,26 +1,27 @@
 //! Runs `sketches weigh`.
-use crate::files::Files;
+use crate::exact_weights::{ExactFailure, ExactOptions, weigh_exactly};
+use crate::files::{Files, Opened};
 use crate::keyed_options::{open_keys, reads_input_twice};
 use crate::keys::{key_of, seed_of};
 use crate::output::Watched;
-use crate::percent::percent_of;
 use crate::record_options::weighed_record;
 use crate::terminal::StandardOutput;
 use crate::weigh::{WeighOptions, weigh};
-use crate::weigh_options::parts_of;
-use crate::{ERROR, STANDARD_INPUT, end, end_of_files, fail, max_line_of, message_of};
+use crate::weigh_options::{max_keys_of, sketch_size_of};
+use crate::{
+    ERROR, STANDARD_INPUT, end, end_of_files, fail, max_line_of, message_of, note_unweighed,
+};
 use clap::ArgMatches;
+use std::hash::RandomState;
 use std::io;
 
 /// The message of a sketch's size that is not allowed.
 const BAD_SKETCH: &str =
     "the sketch for --error and --outliers has 2^30 cells or more: use a larger --error or a smaller --outliers";
 
-/// The message of a share of keys that is not allowed.
-const BAD_OUTLIERS: &str = "--outliers must be at least 2";
-
-/// The message of an error that is not allowed.
-const BAD_SHARE: &str = "--error must be above 0% and at most 100%, with at most 6 decimals";
+/// The message of a file with too many keys.
+const TOO_MANY_KEYS: &str =
+    "the file of keys has more distinct keys than --max-keys: use a larger one, or --error for estimates";
 
 /// Runs `sketches weigh`. Returns the status.
 pub fn run_weigh(rt: &HostRuntime, matches: &ArgMatches<'_>) -> u8 {
@@ -31,16 +32,10 @@ pub fn run_weigh(rt: &HostRuntime, matches: &ArgMatches<'_>) -> u8 {
     if reads_input_twice(keys_name, names) {
         return fail(rt, "standard input cannot be both FILE and --keys");
     }
-    let Some(error) = percent_of(matches.get_str("error").unwrap_or("")) else {
-        return fail(rt, BAD_SHARE);
+    let size = match sketch_size_of(matches) {
+        Ok(size) => size,
+        Err(message) => return fail(rt, message),
     };
-    if error.millionths == 0 {
-        return fail(rt, BAD_SHARE);
-    }
-    let questions = matches.get_one::<u64>("outliers").unwrap_or(0);
-    if questions < 2 {
-        return fail(rt, BAD_OUTLIERS);
-    }
     let key = match key_of(rt, matches.get_str("key")) {
         Ok(key) => key,
         Err(fault) => return fail(rt, message_of(fault)),
@@ -55,29 +50,97 @@ pub fn run_weigh(rt: &HostRuntime, matches: &ArgMatches<'_>) -> u8 {
         Ok(chosen) => chosen,
         Err(status) => return status,
     };
-    let options = WeighOptions {
-        chosen,
-        keys_part,
-        escaped: matches.get_flag("csv") || matches.get_flag("escape"),
-        parts: parts_of(error),
-        questions,
-        seed: seed_of(key),
-        max_line: max_line_of(matches),
-        header: !matches.get_flag("no-header"),
-    };
+    let escaped = matches.get_flag("csv") || matches.get_flag("escape");
+    let max_line = max_line_of(matches);
+    let header = !matches.get_flag("no-header");
+    let note = !matches.get_flag("no-note");
+    match size {
+        Some(size) => {
+            let options = WeighOptions {
+                chosen,
+                keys_part,
+                escaped,
+                parts: size.parts,
+                questions: size.questions,
+                seed: seed_of(key),
+                max_line,
+                header,
+            };
+            estimate(rt, options, note, keys_name, &mut keys, &mut files)
+        }
+        None => {
+            let options = ExactOptions {
+                chosen,
+                keys_part,
+                max_keys: max_keys_of(matches),
+                escaped,
+                max_line,
+                header,
+            };
+            sum(rt, options, note, keys_name, &mut keys, &mut files)
+        }
+    }
+}
+
+/// Prints estimates of weights. Returns the status.
+fn estimate(
+    rt: &HostRuntime,
+    options: WeighOptions,
+    note: bool,
+    keys_name: &str,
+    keys: &mut Opened<'_>,
+    files: &mut Files<'_, '_, '_>,
+) -> u8 {
     match weigh(
         rt.alloc(),
         options,
-        &mut files,
-        &mut keys,
+        files,
+        keys,
         &mut Watched::new(StandardOutput::new(rt)),
     ) {
-        Ok(done) => match done.failure {
-            Some(error) => unread(rt, keys_name, error),
-            None => u8::from(!done.complete || files.has_failed()),
-        },
+        Ok(done) => {
+            if note {
+                note_unweighed(rt, done.unweighed);
+            }
+            match done.failure {
+                Some(error) => unread(rt, keys_name, error),
+                None => u8::from(!done.complete || files.has_failed()),
+            }
+        }
         Err(failure) if files.is_done() => end(rt, failure, keys_name, BAD_SKETCH),
-        Err(failure) => end_of_files(rt, failure, &files, BAD_SKETCH),
+        Err(failure) => end_of_files(rt, failure, files, BAD_SKETCH),
+    }
+}
+
+/// Prints exact weights. Returns the status.
+fn sum(
+    rt: &HostRuntime,
+    options: ExactOptions,
+    note: bool,
+    keys_name: &str,
+    keys: &mut Opened<'_>,
+    files: &mut Files<'_, '_, '_>,
+) -> u8 {
+    let Ok(state) = RandomState::new(rt) else {
+        return fail(rt, "no random bytes");
+    };
+    match weigh_exactly(
+        rt.alloc(),
+        options,
+        state,
+        keys,
+        files,
+        &mut Watched::new(StandardOutput::new(rt)),
+    ) {
+        Ok(done) => {
+            if note {
+                note_unweighed(rt, done.unweighed);
+            }
+            u8::from(!done.complete || files.has_failed())
+        }
+        Err(ExactFailure::Unread(error)) => unread(rt, keys_name, error),
+        Err(ExactFailure::Keys(failure)) => end(rt, failure, keys_name, TOO_MANY_KEYS),
+        Err(ExactFailure::Weights(failure)) => end_of_files(rt, failure, files, TOO_MANY_KEYS),
     }
 }
 
