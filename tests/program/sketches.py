@@ -17,6 +17,7 @@ import tempfile
 from joins import Joins
 from layouts import Layouts
 from messages import Messages
+from objects import Objects
 from places import Places
 from states import States
 from texts import text_of
@@ -626,6 +627,7 @@ def main():
         Weights(tests, SELECTIONS, PIECES, raw_lines_of).run()
         States(tests, PIECES, raw_lines_of).run()
         Layouts(tests).run()
+        Objects(tests).run()
         Messages(tests).run()
         Places(tests).run()
     print(f"{tests.passed} passed, {tests.failed} failed")

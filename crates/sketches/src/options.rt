@@ -70,7 +70,7 @@ fn top_command<'a>(alloc: Global) -> Result<Command<'a>, AllocError> {
         .arg(key(alloc))?
         .arg(no_header(alloc))?
         .arg(exact(alloc))?
-        .arg(escape(alloc))?
+        .arg(escape(alloc)?)?
         .arg(json(alloc))?
         .arg(
             Arg::new(alloc, "no-note")
@@ -99,6 +99,7 @@ fn uniq_command<'a>(alloc: Global) -> Result<Command<'a>, AllocError> {
     )?;
     let command = with_state(alloc, with_max_line(alloc, command)?)?
         .arg(key(alloc))?
+        .arg(json(alloc))?
         .arg(no_note(alloc))?;
     with_files(alloc, command)
 }

@@ -5,9 +5,11 @@ use crate::keys::{key_of, seed_of};
 use crate::output::Watched;
 use crate::percent::percent_of;
 use crate::record_options::weighed_record;
+use crate::shared_options::style_of;
 use crate::terminal::StandardOutput;
 use crate::weigh::{WeighOptions, weigh};
 use crate::weigh_options::parts_of;
+use crate::words::shown;
 use crate::{ERROR, STANDARD_INPUT, end, end_of_files, fail, max_line_of, message_of};
 use clap::ArgMatches;
 use std::io;
@@ -58,7 +60,7 @@ pub fn run_weigh(rt: &HostRuntime, matches: &ArgMatches<'_>) -> u8 {
     let options = WeighOptions {
         chosen,
         keys_part,
-        escaped: matches.get_flag("csv") || matches.get_flag("escape"),
+        style: style_of(matches, matches.get_flag("csv")),
         parts: parts_of(error),
         questions,
         seed: seed_of(key),
@@ -83,6 +85,6 @@ pub fn run_weigh(rt: &HostRuntime, matches: &ArgMatches<'_>) -> u8 {
 
 /// Prints why the file of keys was not read whole. Returns the status.
 fn unread(rt: &HostRuntime, name: &str, error: io::Error) -> u8 {
-    let _ = eprintln!(rt; "sketches: {name}: {error}");
+    let _ = eprintln!(rt; "sketches: {}: {error}", shown(name));
     ERROR
 }
