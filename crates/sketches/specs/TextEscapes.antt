@@ -1,5 +1,5 @@
 -- Items in lines of text.
-use Rattle.std.specs.Prelude.{ℕ, ◌==◌, Bool, true, false, List, [], ◌∷◌, slice_index, codes, if◌then◌else◌}
+use Rattle.std.specs.Prelude.{ℕ, ◌==◌, ◌||◌, Bool, true, false, List, [], ◌∷◌, slice_index, codes, if◌then◌else◌}
 use Rattle.std.specs.List.{flat_map}
 
 -- a byte of an item: a tab, the bytes of line ends and a backslash after a backslash, others unchanged
@@ -14,6 +14,10 @@ text_byte byte =
 -- an item in a line of text
 abbrev pub text_escaped : List ℕ → List ℕ
 text_escaped item = flat_map text_byte item
+
+-- whether a byte is a tab or of a line end
+abbrev pub ends_part : ℕ → Bool
+ends_part byte = (byte == slice_index (codes "\t") 0 || byte == slice_index (codes "\n") 0) || byte == 13
 
 -- ---- what such a text means
 

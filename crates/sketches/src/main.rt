@@ -235,13 +235,15 @@ fn run_top(rt: &HostRuntime, matches: &ArgMatches<'_>) -> u8 {
     if image.has_failed() { ERROR } else { status }
 }
 
-/// Prints how many lines are not UTF-8, if any.
+/// Prints how many lines or records have items that are not UTF-8, if any.
 fn note_not_utf8(rt: &HostRuntime, lines: u64) {
     let _ = match lines {
         0 => Ok(()),
-        1 => eprintln!(rt; "sketches: 1 line is not UTF-8: its bytes are shown as U+FFFD"),
+        1 => eprintln!(rt;
+            "sketches: 1 line has an item that is not UTF-8: its bytes are shown as U+FFFD"
+        ),
         _ => eprintln!(rt;
-            "sketches: {lines} lines are not UTF-8: their bytes are shown as U+FFFD"
+            "sketches: {lines} lines have items that are not UTF-8: their bytes are shown as U+FFFD"
         ),
     };
 }

@@ -76,7 +76,9 @@ fn top_command<'a>(alloc: Global) -> Result<Command<'a>, AllocError> {
             Arg::new(alloc, "no-note")
                 .long("no-note")
                 .action(ArgAction::SetTrue)
-                .help("Omits the notes at the end on lines that are not UTF-8 or have no weight"),
+                .help(
+                    "Omits the notes at the end on lines whose items are not UTF-8 or have no weight",
+                ),
         )?;
     with_files(alloc, command)
 }
