@@ -24,6 +24,7 @@ class Messages:
         self.folders()
         self.too_many_keys()
         self.images()
+        self.controls()
         self.outputs()
         self.terminal()
 
@@ -31,7 +32,7 @@ class Messages:
         self.tests.check(name, holds, said)
 
     def write(self, name, data):
-        with open(os.path.join(self.folder, name), "wb") as file:
+        with open(os.path.join(self.folder, os.fsdecode(name)), "wb") as file:
             file.write(data)
 
     def ran(self, *words, data=b"", **how):
@@ -115,6 +116,34 @@ class Messages:
         for length in [0, 7, 8, 63, 64, 65, 1000, 1 << 20]:
             ran = self.ran("show", "-", data=bytes([4, 1, 99]) + bytes(length))
             self.check(f"show of {length} bytes", ran[:2] == (2, b"") and ran[2].startswith(b"sketches: -: "), ran)
+
+    def controls(self):
+        """A message is one line, and has no control characters of names and values."""
+        name, shown = b"a\x1b[31m\n\x7f\t\xc2\x9b31m \xc3\xa9", b"a\\x1b[31m\\x0a\\x7f\\x09\\xc2\\x9b31m \xc3\xa9"
+        self.write("row", b"a,b\n1,2\n")
+        absent = b"No such file or directory (os error 2)"
+        self.write(b"bad" + name, b"q w\n")
+        for words, status, said in [
+            (["top", name], 1, shown + b": " + absent),
+            (["uniq", "--no-note", name], 1, shown + b": " + absent),
+            (["join", "--keys", name, "row"], 2, shown + b": " + absent),
+            (["weigh", "--keys", name, "row"], 2, shown + b": " + absent),
+            (["merge", name], 2, shown + b": " + absent),
+            (["show", name], 2, shown + b": " + absent),
+            (["top", "--save", b"no/" + name, "-n", "0", "--no-header", "row"], 2, b"no/" + shown + b": " + absent),
+            (["top", "--csv", "-f", name, "row"], 2, b"row: no column '" + shown + b"'"),
+            (["top", "-f", "1", "-w", "2", b"bad" + name], 2, b"bad" + shown + b": line 1: bad weight 'w'"),
+            (["top", "--max-line", "1", b"bad" + name], 2, b"bad" + shown + b": a line is longer than --max-line"),
+            (["show", b"bad" + name], 2, b"bad" + shown + b": "),
+        ]:
+            ran = self.ran(*words)
+            is_line = ran[2].startswith(b"sketches: " + said) and ran[2].count(b"\n") == 1 and (ran[2].endswith(said + b"\n") or said.endswith(b": "))
+            self.check(f"{words}: a name with control characters", ran[0] == status and is_line, ran)
+        for words in [["top", "--size", name], ["top", b"--" + name], [name], ["weigh", name], ["top", "-n", b"1" + name]]:
+            ran = self.ran(*words)
+            self.check(f"{words}: a value with control characters", ran[0] == 2 and all(byte >= 32 or byte == 10 for byte in ran[2]) and b"\xc2\x9b" not in ran[2], ran)
+        ran = self.ran("top", "--size", name)
+        self.check("the value is shown", b"'" + shown + b"'" in ran[2], ran)
 
     def outputs(self):
         """Texts that are asked for are written, or the status says that they are not."""

@@ -327,9 +327,9 @@ class Tests(checks.Checks):
         self.check("merge --json", sorted(items) == ["a\tb", "c\\d"], ran)
 
     def not_utf8(self):
-        """Checks the note on records that are not UTF-8."""
+        """Checks the note on records that have items that are not UTF-8."""
         data = b'k,v\n"\xff\n",\xff\nx,\xff\ny,z\n'
-        said = b"sketches: 2 lines are not UTF-8: their bytes are shown as U+FFFD\n"
+        said = b"sketches: 1 line has an item that is not UTF-8: its bytes are shown as U+FFFD\n"
         self.is_exact("the note", self.run("top", "--csv", "-f", 1, data=data), counts_of([data], 1, header=True), 10, 0, said)
 
     def records(self):

@@ -20,6 +20,7 @@ import checks  # noqa: E402
 from joins import Joins  # noqa: E402
 from layouts import Layouts  # noqa: E402
 from messages import Messages  # noqa: E402
+from objects import Objects  # noqa: E402
 from places import Places  # noqa: E402
 from states import States  # noqa: E402
 from texts import text_of  # noqa: E402
@@ -61,15 +62,15 @@ def lines_of(data):
     return [line.decode("utf-8", "replace").encode() for line in lines]
 
 
-def note_of(inputs):
-    """Returns the note on the lines of the inputs that are not UTF-8, or nothing if all are."""
-    lines = sum(not is_utf8(line) for data in inputs for _, line in raw_lines_of(data))
+def note_of(inputs, items_of=lambda line: [line]):
+    """Returns the note on the lines of the inputs that have items that are not UTF-8, or nothing if all are."""
+    lines = sum(not all(map(is_utf8, items_of(line))) for data in inputs for _, line in raw_lines_of(data))
     return not_utf8(lines).encode() if lines else b""
 
 
 def not_utf8(lines):
-    """Returns the note on a number of lines that are not UTF-8."""
-    words = "line is not UTF-8: its bytes are" if lines == 1 else "lines are not UTF-8: their bytes are"
+    """Returns the note on a number of lines that have items that are not UTF-8."""
+    words = "line has an item that is not UTF-8: its bytes are" if lines == 1 else "lines have items that are not UTF-8: their bytes are"
     return f"sketches: {lines} {words} shown as U+FFFD\n"
 
 
@@ -189,7 +190,7 @@ class Tests(checks.Checks):
         self.check("ties of the page", {self.run(["top", "-n", 2, "--no-header"], b"b\na\nc\nd\n", key=None)[1] for _ in range(8)} == {b"1\t1\ta\n1\t1\tb\n"})
 
     def notes(self):
-        """Checks the note on lines that are not UTF-8, and that --no-note omits it alone."""
+        """Checks the note on lines that have items that are not UTF-8, and that --no-note omits it alone."""
         for words, inputs, lines in [
             (["top"], [b"a\n"], 0),
             (["top"], [b"\xef\xbf\xbd\n"], 0),
@@ -198,9 +199,14 @@ class Tests(checks.Checks):
             (["top"], [b"\xc3", b"\xa9\n"], 2),
             (["top"], [b"\xff\r\n", b"a", b"\xff"], 2),
             (["top", "--words"], [b"\xff \xff \xff\n"], 1),
-            (["top", "-f", "9"], [b"\xff a\nb\n"], 1),
+            (["top", "-f", "9"], [b"\xff a\nb\n"], 0),
+            (["top", "-f", "2"], [b"\xff a\nb \xff\n\xff \xff\n"], 2),
+            (["top", "-d", ",", "-f", "1"], [b"a,\xff\n\xff\n"], 1),
+            (["top", "-f", "1", "-w", "2"], [b"a 1 \xff\n"], 0),
             (["top", "-f", "1", "-w", "2"], [b"\xff 1\na 2\n\n\xfe\xfe 3\n"], 2),
-            (["top", "-f", "9", "-w", "2"], [b"\xff\n"], 1),
+            (["top", "-f", "9", "-w", "2"], [b"\xff\n"], 0),
+            (["top", "--csv", "-f", "v"], [b"k,v\n\xff,a\n"], 0),
+            (["top", "--csv", "-f", "v"], [b"k,v\n\xff,\"\xff\"\n"], 1),
             (["top"], [b"\xff\n" * 200000 + b"a\n" * BLOCK + b"\xff\n"], 200001),
         ]:
             names = [self.file(f"note{n}", data) for n, data in enumerate(inputs)]
@@ -226,9 +232,9 @@ class Tests(checks.Checks):
                 rows = rng.choice([0, 1, 10, 100000])
                 size = 1 << 16
                 ran = self.run(["top", *words, "-n", rows, "--size", size, *names], key=None)
-                self.is_exact(name, ran, counts_of(inputs, items_of), rows, said=note_of(inputs))
+                self.is_exact(name, ran, counts_of(inputs, items_of), rows, said=note_of(inputs, items_of))
                 ran = self.run(["top", "-n", rows, *words, "--size", size, "-"], inputs[0], key=HEX)
-                self.is_exact(f"{name} -", ran, counts_of(inputs[:1], items_of), rows, said=note_of(inputs[:1]))
+                self.is_exact(f"{name} -", ran, counts_of(inputs[:1], items_of), rows, said=note_of(inputs[:1], items_of))
 
     def cuts(self):
         """Cuts an input at each place: by reads of a few bytes, and by a block that ends there."""
@@ -236,7 +242,7 @@ class Tests(checks.Checks):
         for words, items_of in SELECTIONS:
             for step in range(1, len(data) + 1):
                 ran = self.run(["top", *words], data, READ_STEP=step)
-                self.is_exact(f"reads of {step} bytes {words}", ran, counts_of([data], items_of), said=note_of([data]))
+                self.is_exact(f"reads of {step} bytes {words}", ran, counts_of([data], items_of), said=note_of([data], items_of))
         for cut in range(len(data) + 1):
             for lead in [b"x" * (BLOCK - cut - 1) + b"\n", b"y\n" * ((BLOCK - cut) // 2) + b"\n" * ((BLOCK - cut) % 2)]:
                 whole = lead + data
@@ -615,6 +621,7 @@ def main():
         Weights(tests, SELECTIONS, PIECES, raw_lines_of).run()
         States(tests, PIECES, raw_lines_of).run()
         Layouts(tests).run()
+        Objects(tests).run()
         Messages(tests).run()
         Places(tests).run()
     tests.end()

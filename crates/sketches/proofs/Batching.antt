@@ -5,12 +5,13 @@ use Rattle.std.specs.Borrow.{Bor}
 use Rattle.std.specs.List.{flat_map}
 use Rattle.sketch_base.specs.Strings.{strings_at}
 use Rattle.sketch_bloom.specs.State.{FilterState, all_inserted, answers_in_turn, contains_item, inserted}
-use Rattle.sketches.specs.EndedText.{Prints, is_unended_after, unended_both, prints_none, text_both, text_of}
+use Rattle.sketches.specs.EndedText.{Prints, form_after_all, form_both, prints_none, text_both, text_of}
 use Rattle.sketches.specs.Joined.{joined_lines}
 use Rattle.sketches.specs.RecordParts.{raws_by}
 use Rattle.sketch_base.specs.Records.{part_in, records_by}
 use Rattle.sketches.specs.Unseen.{AreNextLines, hashed, is_seen, item_of, unseen_lines, with_items, with_lines, written_by, written_of}
 use Rattle.sketches.specs.UnseenLaws.{items_both}
+use Rattle.sketches.specs.declared.ended_text.RecordForm.{RecordForm}
 use Rattle.sketch_base.specs.declared.record_part.RecordPart.{RecordPart}
 
 -- the item of a record with its end is that of the record without it
@@ -95,26 +96,26 @@ one_written repeated seens raws i d r less less' =
     ∙ ap (λ (l : List (Bor (List ℕ))). written_by repeated (get_or seens i d ∷ drop (i + 1) seens) (strings_at l)) (drop_more raws i r less')
 
 -- what is left to print after records: all bytes are those that were printed and those that are left
-abbrev pub Leaves : (all : List ℕ) (last : Bool) (now : List ℕ) (unended : Bool) → List (List ℕ) → Type 0
-Leaves all last now unended raws = (all ≡ now ++ text_of unended raws) × (last ≡ is_unended_after unended raws)
+abbrev pub Leaves : (all : List ℕ) (last : RecordForm) (now : List ℕ) (form : RecordForm) → List (List ℕ) → Type 0
+Leaves all last now form raws = (all ≡ now ++ text_of form raws) × (last ≡ form_after_all form raws)
 
-leaves_more : (all held now : List ℕ) (last unended unended' : Bool) (xs ys : List (List ℕ)) → Leaves all last held unended (xs ++ ys) → Prints (Some held) (Some now) unended unended' xs → Leaves all last now unended' ys
-leaves_more all held now last unended unended' xs ys (text, ends) (printed, then) = (
-  text ∙ (ap (λ l. held ++ l) (text_both unended xs ys)
-      ∙ (sym (append_assoc held (text_of unended xs) (text_of (is_unended_after unended xs) ys))
-      ∙ (ap (λ l. l ++ text_of (is_unended_after unended xs) ys) (sym printed) ∙ ap (λ (b : Bool). now ++ text_of b ys) (sym then)))),
-  ends ∙ (unended_both unended xs ys ∙ ap (λ (b : Bool). is_unended_after b ys) (sym then)),
+leaves_more : (all held now : List ℕ) (last form form' : RecordForm) (xs ys : List (List ℕ)) → Leaves all last held form (xs ++ ys) → Prints (Some held) (Some now) form form' xs → Leaves all last now form' ys
+leaves_more all held now last form form' xs ys (text, ends) (printed, then) = (
+  text ∙ (ap (λ l. held ++ l) (text_both form xs ys)
+      ∙ (sym (append_assoc held (text_of form xs) (text_of (form_after_all form xs) ys))
+      ∙ (ap (λ l. l ++ text_of (form_after_all form xs) ys) (sym printed) ∙ ap (λ (b : RecordForm). now ++ text_of b ys) (sym then)))),
+  ends ∙ (form_both form xs ys ∙ ap (λ (b : RecordForm). form_after_all b ys) (sym then)),
 )
 
 -- nothing is left
-pub leaves_none : (all now : List ℕ) (last unended : Bool) → Leaves all last now unended [] → (now ≡ all) × (unended ≡ last)
-leaves_none all now last unended (text, ends) = (sym (text ∙ append-nil now), sym ends)
+pub leaves_none : (all now : List ℕ) (last form : RecordForm) → Leaves all last now form [] → (now ≡ all) × (form ≡ last)
+leaves_none all now last form (text, ends) = (sym (text ∙ append-nil now), sym ends)
 
-pub write_step : (repeated : Bool) (seens : List Bool) (raws : List (Bor (List ℕ))) (i : ℕ) (d : Bool) (r : Bor (List ℕ)) (all held now : List ℕ) (last unended unended' : Bool) → i < length seens → i < length raws
-    → Leaves all last held unended (written_by repeated (drop i seens) (strings_at (drop i raws))) → Prints (Some held) (Some now) unended unended' (written_of repeated (get_or seens i d) (get_or raws i r).now)
-    → Leaves all last now unended' (written_by repeated (drop (i + 1) seens) (strings_at (drop (i + 1) raws)))
-write_step repeated seens raws i d r all held now last unended unended' less less' so printed =
-    leaves_more all held now last unended unended' _ _ (subst (Leaves all last held unended) (one_written repeated seens raws i d r less less') so) printed
+pub write_step : (repeated : Bool) (seens : List Bool) (raws : List (Bor (List ℕ))) (i : ℕ) (d : Bool) (r : Bor (List ℕ)) (all held now : List ℕ) (last form form' : RecordForm) → i < length seens → i < length raws
+    → Leaves all last held form (written_by repeated (drop i seens) (strings_at (drop i raws))) → Prints (Some held) (Some now) form form' (written_of repeated (get_or seens i d) (get_or raws i r).now)
+    → Leaves all last now form' (written_by repeated (drop (i + 1) seens) (strings_at (drop (i + 1) raws)))
+write_step repeated seens raws i d r all held now last form form' less less' so printed =
+    leaves_more all held now last form form' _ _ (subst (Leaves all last held form) (one_written repeated seens raws i d r less less') so) printed
 
 pub taken_more : (part : RecordPart) (bytes rest later line item : List ℕ) (raws items : List (Bor (List ℕ))) (count : ℕ) (r t : Bor (List ℕ)) → count < length raws → count < length items
     → AreNextLines part bytes rest (strings_at (take count raws)) (strings_at (take count items)) → raws_by part rest ≡ r.now ∷ raws_by part later → records_by part r.now ≡ line ∷ [] → part_in part line ≡ item ∷ [] → t.now ≡ item
@@ -132,10 +133,10 @@ not_false true e = refl
 not_false false e = cc
 
 -- a record that is not written
-pub write_skip : (repeated : Bool) (seens : List Bool) (raws : List (Bor (List ℕ))) (i : ℕ) (d : Bool) (all held : List ℕ) (last unended : Bool) → i < length seens → i < length raws
-    → Leaves all last held unended (written_by repeated (drop i seens) (strings_at (drop i raws))) → ((raw : List ℕ) → written_of repeated (get_or seens i d) raw ≡ [])
-    → Leaves all last held unended (written_by repeated (drop (i + 1) seens) (strings_at (drop (i + 1) raws)))
-write_skip repeated seens [] i d all held last unended less less' so none = absurd (omega (arith, less'))
-write_skip repeated seens (r ∷ raws) i d all held last unended less less' so none =
-    write_step repeated seens (r ∷ raws) i d r all held held last unended unended less less' so
-    (subst (Prints (Some held) (Some held) unended unended) (sym (none (get_or (r ∷ raws) i r).now)) (prints_none (Some held) unended))
+pub write_skip : (repeated : Bool) (seens : List Bool) (raws : List (Bor (List ℕ))) (i : ℕ) (d : Bool) (all held : List ℕ) (last form : RecordForm) → i < length seens → i < length raws
+    → Leaves all last held form (written_by repeated (drop i seens) (strings_at (drop i raws))) → ((raw : List ℕ) → written_of repeated (get_or seens i d) raw ≡ [])
+    → Leaves all last held form (written_by repeated (drop (i + 1) seens) (strings_at (drop (i + 1) raws)))
+write_skip repeated seens [] i d all held last form less less' so none = absurd (omega (arith, less'))
+write_skip repeated seens (r ∷ raws) i d all held last form less less' so none =
+    write_step repeated seens (r ∷ raws) i d r all held held last form form less less' so
+    (subst (Prints (Some held) (Some held) form form) (sym (none (get_or (r ∷ raws) i r).now)) (prints_none (Some held) form))

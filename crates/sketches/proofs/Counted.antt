@@ -25,7 +25,7 @@ Counter = ItemCounter × Unit {0}
 abbrev pub Counts : Counter → List ℕ → Counter → Type 0
 Counts old bytes new =
     (AddsLines old.0.weighing old.0.sketch bytes new.0.sketch × (new.0.weighing ≡ old.0.weighing))
-    × GrowsBy old.0.not_utf8 (not_utf8_in (records_of old.0.weighing bytes)) new.0.not_utf8
+    × GrowsBy old.0.not_utf8 (not_utf8_in old.0.weighing (records_of old.0.weighing bytes)) new.0.not_utf8
 
 abbrev pub FailsCounting : Counter → List ℕ → Counter → Failure → Type 0
 FailsCounting old bytes new failure = FailsLines old.0.weighing old.0.sketch bytes failure
@@ -48,18 +48,18 @@ each_counted old new (bytes ∷ read) (mid, ((first, kept), _), rest) =
       kept' ∙ kept,
     )
 
--- the number of lines that are not UTF-8 grew by those of each list
-each_grown : (old new : Counter) (read : List (List ℕ)) → TakesEach Counts old read new → GrowsBy old.0.not_utf8 (not_utf8_in (flat_map (records_of old.0.weighing) read)) new.0.not_utf8
-each_grown old new [] same = subst (λ (s : Counter). GrowsBy old.0.not_utf8 (not_utf8_in []) s.0.not_utf8) (sym same) (grows_none old.0.not_utf8)
+-- the number of records whose items are not UTF-8 grew by those of each list
+each_grown : (old new : Counter) (read : List (List ℕ)) → TakesEach Counts old read new → GrowsBy old.0.not_utf8 (not_utf8_in old.0.weighing (flat_map (records_of old.0.weighing) read)) new.0.not_utf8
+each_grown old new [] same = subst (λ (s : Counter). GrowsBy old.0.not_utf8 (not_utf8_in old.0.weighing []) s.0.not_utf8) (sym same) (grows_none old.0.weighing old.0.not_utf8)
 each_grown old new (bytes ∷ read) (mid, ((_, kept), first), rest) =
     let p : Weighing = old.0.weighing in
-    let later = subst (λ (q : Weighing). GrowsBy mid.0.not_utf8 (not_utf8_in (flat_map (records_of q) read)) new.0.not_utf8) kept (each_grown mid new read rest) in
-    omega (arith, first, later, not_utf8_append (records_of p bytes) (flat_map (records_of p) read))
+    let later = subst (λ (q : Weighing). GrowsBy mid.0.not_utf8 (not_utf8_in q (flat_map (records_of q) read)) new.0.not_utf8) kept (each_grown mid new read rest) in
+    omega (arith, first, later, not_utf8_append p (records_of p bytes) (flat_map (records_of p) read))
 
--- the items of what was read of each input were added, and its lines that are not UTF-8 were counted
+-- the items of what was read of each input were added, and its records whose items are not UTF-8 were counted
 abbrev pub CountsInputs : Weighing → Option (List (List ℕ)) → Bool → (old new : Sketch) → (before after : ℕ) → Type 0
 CountsInputs p was complete old new before after = IfSome was (λ inputs.
-    (read : List (List ℕ)) × AreRead (splits_of p) complete inputs read × AddsEach p old read new × GrowsBy before (not_utf8_in (flat_map (records_of p) read)) after)
+    (read : List (List ℕ)) × AreRead (splits_of p) complete inputs read × AddsEach p old read new × GrowsBy before (not_utf8_in p (flat_map (records_of p) read)) after)
 
 pub counted : (was : Option (List (List ℕ))) (complete : Bool) (old new : Counter) → TakesInputs (splits_of old.0.weighing) Counts was complete old new → CountsInputs old.0.weighing was complete old.0.sketch new.0.sketch old.0.not_utf8 new.0.not_utf8
 counted None complete old new taken = tt

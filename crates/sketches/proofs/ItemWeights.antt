@@ -1,5 +1,5 @@
 -- Items with weights that are added one after another, lines of keys that are written, and the table.
-use Rattle.std.proofs.Common.{◌≡◌, ◌≢◌, ⊎_elim, inl, inr, ◌⊎◌, ℕ, zero, suc, ◌*◌, ◌^◌, ◌<◌, ◌≤◌, Bool, true, false, eqb, List, [], ◌∷◌, ◌++◌, None, Some, pos, append_assoc, append-nil, refl, sym, ◌∙◌, ap, subst, arith}
+use Rattle.std.proofs.Common.{◌≡◌, ◌≢◌, ⊎_elim, inl, inr, ◌⊎◌, ℕ, zero, suc, ◌*◌, ◌^◌, ◌<◌, ◌≤◌, true, false, eqb, List, [], ◌∷◌, ◌++◌, None, Some, pos, append_assoc, append-nil, refl, sym, ◌∙◌, ap, subst, arith}
 use Rattle.std.proofs.lemmas.Bool.{cases_lt, eq-eqb}
 use Rattle.std.proofs.lemmas.Bool.Decides.{nat_tests}
 use Rattle.std.proofs.lemmas.List.Concat.{flat_map-append}
@@ -23,6 +23,7 @@ use Rattle.sketches.specs.Unseen.{hashed}
 use Rattle.sketches.specs.WeighFailures.{FailsCounting, FailsLines, FailsTable}
 use Rattle.sketches.specs.declared.failure.Failure.{Failure}
 use Rattle.sketches.specs.declared.item_weigher.WeighedRecord.{WeighedRecord}
+use Rattle.sketches.specs.declared.layout.Style.{Style}
 use Rattle.sketch_base.specs.declared.record_part.RecordPart.{RecordPart}
 
 -- ---- the items of records
@@ -57,37 +58,37 @@ lines_failed chosen old mid all left later line e so next f =
 -- ---- the keys of records
 
 -- a line for one key
-pub one_written : (escaped : Bool) (s : CountState) (key : List ℕ) (number : ℕ) (held holds : List ℕ) → IsMinCell s (hashed key) (pos number) → holds ≡ held ++ row_line escaped (number, key) → WritesEstimates escaped s (key ∷ []) (Some held) (Some holds)
-one_written escaped s key number held holds least wrote = record {
+pub one_written : (style : Style) (s : CountState) (key : List ℕ) (number : ℕ) (held holds : List ℕ) → IsMinCell s (hashed key) (pos number) → holds ≡ held ++ row_line style (number, key) → WritesEstimates style s (key ∷ []) (Some held) (Some holds)
+one_written style s key number held holds least wrote = record {
   rows = (number, key) ∷ [];
   keys_are = refl;
   estimates = All-cons (λ (row : Row). IsMinCell s (hashed row.1) (pos row.0)) (number, key) [] least (All-nil (λ (row : Row). IsMinCell s (hashed row.1) (pos row.0)));
-  wrote = wrote ∙ ap (λ l. held ++ l) (sym (append-nil (row_line escaped (number, key))));
+  wrote = wrote ∙ ap (λ l. held ++ l) (sym (append-nil (row_line style (number, key))));
 }
 
 -- the lines of the keys of the records before those that are left were written
-pub record HasWrittenKeys (escaped : Bool) (part : RecordPart) (s : CountState) (all left : List (List ℕ)) (held holds : List ℕ) : Type 0 where
+pub record HasWrittenKeys (style : Style) (part : RecordPart) (s : CountState) (all left : List (List ℕ)) (held holds : List ℕ) : Type 0 where
   pub done : List (List ℕ)
   pub parts : all ≡ done ++ left
-  pub wrote : WritesEstimates escaped s (flat_map (part_in part) done) (Some held) (Some holds)
+  pub wrote : WritesEstimates style s (flat_map (part_in part) done) (Some held) (Some holds)
 
-pub keys_none : (escaped : Bool) (part : RecordPart) (s : CountState) (all : List (List ℕ)) (held : List ℕ) → HasWrittenKeys escaped part s all all held held
-keys_none escaped part s all held = record { done = []; parts = refl; wrote = estimates_none escaped s (Some held) }
+pub keys_none : (style : Style) (part : RecordPart) (s : CountState) (all : List (List ℕ)) (held : List ℕ) → HasWrittenKeys style part s all all held held
+keys_none style part s all held = record { done = []; parts = refl; wrote = estimates_none style s (Some held) }
 
 -- one more record
-pub keys_more : (escaped : Bool) (part : RecordPart) (s : CountState) (all left later : List (List ℕ)) (line held holds now : List ℕ) → HasWrittenKeys escaped part s all left held holds → left ≡ line ∷ later → WritesEstimates escaped s (part_in part line) (Some holds) (Some now) → HasWrittenKeys escaped part s all later held now
-keys_more escaped part s all left later line held holds now so next more = record {
+pub keys_more : (style : Style) (part : RecordPart) (s : CountState) (all left later : List (List ℕ)) (line held holds now : List ℕ) → HasWrittenKeys style part s all left held holds → left ≡ line ∷ later → WritesEstimates style s (part_in part line) (Some holds) (Some now) → HasWrittenKeys style part s all later held now
+keys_more style part s all left later line held holds now so next more = record {
   done = so.done ++ line ∷ [];
   parts = so.parts ∙ (ap (λ l. so.done ++ l) next ∙ sym (append_assoc so.done (line ∷ []) later));
   wrote =
-      subst (λ l. WritesEstimates escaped s l (Some held) (Some now)) (sym (flat_map-append (part_in part) so.done (line ∷ []) ∙ ap (λ l. flat_map (part_in part) so.done ++ l) (append-nil (part_in part line))))
-      (estimates_both escaped s (flat_map (part_in part) so.done) (part_in part line) (Some held) (Some holds) (Some now) so.wrote more);
+      subst (λ l. WritesEstimates style s l (Some held) (Some now)) (sym (flat_map-append (part_in part) so.done (line ∷ []) ∙ ap (λ l. flat_map (part_in part) so.done ++ l) (append-nil (part_in part line))))
+      (estimates_both style s (flat_map (part_in part) so.done) (part_in part line) (Some held) (Some holds) (Some now) so.wrote more);
 }
 
 -- all records
-pub keys_all : (escaped : Bool) (part : RecordPart) (s : CountState) (all left : List (List ℕ)) (held holds : List ℕ) → HasWrittenKeys escaped part s all left held holds → left ≡ [] → WritesEstimates escaped s (flat_map (part_in part) all) (Some held) (Some holds)
-keys_all escaped part s all left held holds so none =
-    subst (λ l. WritesEstimates escaped s (flat_map (part_in part) l) (Some held) (Some holds)) (sym (so.parts ∙ (ap (λ l. so.done ++ l) none ∙ append-nil so.done))) so.wrote
+pub keys_all : (style : Style) (part : RecordPart) (s : CountState) (all left : List (List ℕ)) (held holds : List ℕ) → HasWrittenKeys style part s all left held holds → left ≡ [] → WritesEstimates style s (flat_map (part_in part) all) (Some held) (Some holds)
+keys_all style part s all left held holds so none =
+    subst (λ l. WritesEstimates style s (flat_map (part_in part) l) (Some held) (Some holds)) (sym (so.parts ∙ (ap (λ l. so.done ++ l) none ∙ append-nil so.done))) so.wrote
 
 -- ---- the table
 

@@ -15,9 +15,10 @@ use Rattle.sketches.specs.RecordParts.{raws_by}
 use Rattle.sketch_base.specs.Records.{splits_by}
 use Rattle.sketches.specs.Unseen.{item_of, with_items, written_of}
 use Rattle.sketches.specs.Appending.{appends_both, front_after, front_all, front_more, front_same}
-use Rattle.sketches.specs.EndedText.{Prints, is_unended_after, prints_none, prints_both, text_both, text_of}
+use Rattle.sketches.specs.EndedText.{Prints, form_after_all, prints_none, prints_both, text_both, text_of}
 use Rattle.sketches.specs.declared.failure.Failure.{Failure}
 use Rattle.sketches.specs.declared.joined.JoinedLines.{JoinedLines}
+use Rattle.sketches.specs.declared.ended_text.RecordForm.{RecordForm}
 use Rattle.sketch_base.specs.declared.record_part.RecordPart.{RecordPart}
 use Rattle.sketches.proofs.Written.{inserted_is_seen, lines_failed, raws_more, seen_at, writing_failed}
 
@@ -38,12 +39,12 @@ module _ {W : Type 0} (contents : W → Option (List ℕ)) where
   -- what the sink does with bytes of records
   abbrev pub Joins : JoinedLines × W → List ℕ → JoinedLines × W → Type 0
   Joins old bytes new =
-      Prints (contents old.1) (contents new.1) old.0.written.unended new.0.written.unended (joined_lines old.0.wanted old.0.part old.0.filter (raws_by old.0.part bytes))
+      Prints (contents old.1) (contents new.1) old.0.written.form new.0.written.form (joined_lines old.0.wanted old.0.part old.0.filter (raws_by old.0.part bytes))
       × (new.0.filter ≡ old.0.filter) × (new.0.part ≡ old.0.part) × (new.0.wanted ≡ old.0.wanted)
 
   each_joined : (old new : JoinedLines × W) (read : List (List ℕ)) → TakesEach Joins old read new
-      → Prints (contents old.1) (contents new.1) old.0.written.unended new.0.written.unended (joined_lines old.0.wanted old.0.part old.0.filter (flat_map (raws_by old.0.part) read))
-  each_joined old new [] same = subst (λ (s : JoinedLines × W). Prints (contents old.1) (contents s.1) old.0.written.unended s.0.written.unended []) (sym same) (prints_none (contents old.1) old.0.written.unended)
+      → Prints (contents old.1) (contents new.1) old.0.written.form new.0.written.form (joined_lines old.0.wanted old.0.part old.0.filter (flat_map (raws_by old.0.part) read))
+  each_joined old new [] same = subst (λ (s : JoinedLines × W). Prints (contents old.1) (contents s.1) old.0.written.form s.0.written.form []) (sym same) (prints_none (contents old.1) old.0.written.form)
   each_joined old new (bytes ∷ read) (mid, (text, same, same_part, same_wanted), rest) =
       let later = each_joined mid new read rest in
       let w = old.0.wanted in
@@ -51,9 +52,9 @@ module _ {W : Type 0} (contents : W → Option (List ℕ)) where
       let more : joined_lines mid.0.wanted mid.0.part mid.0.filter (flat_map (raws_by mid.0.part) read) ≡ joined_lines w p old.0.filter (flat_map (raws_by p) read) =
       ap (λ (q : Bool). joined_lines q mid.0.part mid.0.filter (flat_map (raws_by mid.0.part) read)) same_wanted
       ∙ (ap (λ (q : RecordPart). joined_lines w q mid.0.filter (flat_map (raws_by q) read)) same_part ∙ ap (λ (s : FilterState). joined_lines w p s (flat_map (raws_by p) read)) same) in
-      subst (Prints (contents old.1) (contents new.1) old.0.written.unended new.0.written.unended)
+      subst (Prints (contents old.1) (contents new.1) old.0.written.form new.0.written.form)
       (ap (λ l. joined_lines w p old.0.filter (raws_by p bytes) ++ l) more ∙ sym (joined_both w p old.0.filter (raws_by p bytes) (flat_map (raws_by p) read)))
-      (prints_both (contents old.1) (contents mid.1) (contents new.1) old.0.written.unended mid.0.written.unended new.0.written.unended _ _ text later)
+      (prints_both (contents old.1) (contents mid.1) (contents new.1) old.0.written.form mid.0.written.form new.0.written.form _ _ text later)
 
   each_kept : (old new : JoinedLines × W) (read : List (List ℕ)) → TakesEach Joins old read new → (new.0.filter ≡ old.0.filter) × (new.0.part ≡ old.0.part) × (new.0.wanted ≡ old.0.wanted)
   each_kept old new [] same = (ap (λ (s : JoinedLines × W). s.0.filter) same, ap (λ (s : JoinedLines × W). s.0.part) same, ap (λ (s : JoinedLines × W). s.0.wanted) same)
@@ -63,18 +64,17 @@ module _ {W : Type 0} (contents : W → Option (List ℕ)) where
 
   -- all records were joined with all keys
   pub joined : (header : List ℕ) (held : Option (List ℕ)) (empty : FilterState) (keys_part : RecordPart) (keys : Option (List ℕ)) (was : Option (List (List ℕ))) (complete : Bool) (old new : JoinedLines × W)
-      → IfSome keys (λ bytes. old.0.filter ≡ with_items empty (keys_of keys_part bytes)) → old.0.written.unended ≡ false → Appends held (contents old.1) header → TakesInputs (splits_by old.0.part) Joins was complete old new
-      → IfSome keys (λ bytes. IfSome was (λ inputs. WritesJoined old.0.wanted old.0.part header empty new.0.filter (keys_of keys_part bytes) inputs complete held (contents new.1)))
-  joined header held empty keys_part None was complete old new inserted ended begins taken = tt
-  joined header held empty keys_part (Some bytes) None complete old new inserted ended begins taken = tt
-  joined header held empty keys_part (Some bytes) (Some inputs) complete old new inserted ended begins (read, are, each) = record {
+      → IfSome keys (λ bytes. old.0.filter ≡ with_items empty (keys_of keys_part bytes)) → Appends held (contents old.1) header → TakesInputs (splits_by old.0.part) Joins was complete old new
+      → IfSome keys (λ bytes. IfSome was (λ inputs. WritesJoined old.0.written.form old.0.wanted old.0.part header empty new.0.filter (keys_of keys_part bytes) inputs complete held (contents new.1)))
+  joined header held empty keys_part None was complete old new inserted begins taken = tt
+  joined header held empty keys_part (Some bytes) None complete old new inserted begins taken = tt
+  joined header held empty keys_part (Some bytes) (Some inputs) complete old new inserted begins (read, are, each) = record {
     read = read;
     are = are;
     written =
         appends_both held (contents old.1) (contents new.1) header _ begins
-        (subst (λ (s : FilterState). Appends (contents old.1) (contents new.1) (text_of false (joined_lines old.0.wanted old.0.part s (flat_map (raws_by old.0.part) read)))) inserted
-        (subst (λ (b : Bool). Appends (contents old.1) (contents new.1) (text_of b (joined_lines old.0.wanted old.0.part old.0.filter (flat_map (raws_by old.0.part) read)))) ended
-        (each_joined old new read each).0));
+        (subst (λ (s : FilterState). Appends (contents old.1) (contents new.1) (text_of old.0.written.form (joined_lines old.0.wanted old.0.part s (flat_map (raws_by old.0.part) read)))) inserted
+        (each_joined old new read each).0);
     finds = finds_keys old.0.wanted old.0.part empty (keys_of keys_part bytes);
     returned = (each_kept old new read each).0 ∙ inserted;
   }
@@ -84,15 +84,15 @@ module _ {W : Type 0} (contents : W → Option (List ℕ)) where
   abbrev pub FailsJoining : (has_failed : W → Bool) → JoinedLines × W → List ℕ → JoinedLines × W → Failure → Type 0
   FailsJoining has_failed old bytes new failure =
       FailsWriting (has_failed new.1) failure
-      × WritesFront (contents old.1) (contents new.1) (text_of old.0.written.unended (joined_lines old.0.wanted old.0.part old.0.filter (raws_by old.0.part bytes)))
+      × WritesFront (contents old.1) (contents new.1) (text_of old.0.written.form (joined_lines old.0.wanted old.0.part old.0.filter (raws_by old.0.part bytes)))
 
   -- the front of the joined records of what was read of the first inputs
   abbrev pub SomeJoined : (header : List ℕ) (held : Option (List ℕ)) (old new : JoinedLines × W) (filter : FilterState) (keys : List (List ℕ)) (inputs : List (List ℕ)) → Type 0
-  SomeJoined header held old new filter keys inputs = WritesSomeJoined old.0.wanted old.0.part header filter keys inputs held (contents new.1)
+  SomeJoined header held old new filter keys inputs = WritesSomeJoined old.0.written.form old.0.wanted old.0.part header filter keys inputs held (contents new.1)
 
-  stopped : (header : List ℕ) (held : Option (List ℕ)) (empty : FilterState) (keys : List (List ℕ)) (old new : JoinedLines × W) (inputs : List (List ℕ)) → old.0.filter ≡ with_items empty keys → old.0.written.unended ≡ false → Appends held (contents old.1) header
+  stopped : (header : List ℕ) (held : Option (List ℕ)) (empty : FilterState) (keys : List (List ℕ)) (old new : JoinedLines × W) (inputs : List (List ℕ)) → old.0.filter ≡ with_items empty keys → Appends held (contents old.1) header
       → TakesFirst (splits_by old.0.part) Joins inputs old new → SomeJoined header held old new empty keys inputs
-  stopped header held empty keys old new inputs inserted ended begins t = record {
+  stopped header held empty keys old new inputs inserted begins t = record {
     first = t.first;
     later = t.later;
     parts = t.parts;
@@ -101,29 +101,28 @@ module _ {W : Type 0} (contents : W → Option (List ℕ)) where
     written =
         front_all held (contents new.1) _
         (appends_both held (contents old.1) (contents new.1) header _ begins
-        (subst (λ (s : FilterState). Appends (contents old.1) (contents new.1) (text_of false (joined_lines old.0.wanted old.0.part s (flat_map (raws_by old.0.part) t.read)))) inserted
-        (subst (λ (b : Bool). Appends (contents old.1) (contents new.1) (text_of b (joined_lines old.0.wanted old.0.part old.0.filter (flat_map (raws_by old.0.part) t.read)))) ended
-        (each_joined old new t.read t.taken).0)));
+        (subst (λ (s : FilterState). Appends (contents old.1) (contents new.1) (text_of old.0.written.form (joined_lines old.0.wanted old.0.part s (flat_map (raws_by old.0.part) t.read)))) inserted
+        (each_joined old new t.read t.taken).0));
   }
 
-  failed_among : (has_failed : W → Bool) (header : List ℕ) (held : Option (List ℕ)) (empty : FilterState) (keys : List (List ℕ)) (old new : JoinedLines × W) (inputs : List (List ℕ)) (e : Failure) → old.0.filter ≡ with_items empty keys → old.0.written.unended ≡ false → Appends held (contents old.1) header
+  failed_among : (has_failed : W → Bool) (header : List ℕ) (held : Option (List ℕ)) (empty : FilterState) (keys : List (List ℕ)) (old new : JoinedLines × W) (inputs : List (List ℕ)) (e : Failure) → old.0.filter ≡ with_items empty keys → Appends held (contents old.1) header
       → FailsAmong (splits_by old.0.part) Joins (FailsJoining has_failed) inputs old new e → SomeJoined header held old new empty keys inputs
-  failed_among has_failed header held empty keys old new inputs e inserted ended begins f =
+  failed_among has_failed header held empty keys old new inputs e inserted begins f =
       let p = old.0.part in
       let w = old.0.wanted in
-      let (text, unended) = each_joined old f.mid f.read f.taken in
+      let (text, form) = each_joined old f.mid f.read f.taken in
       let (same, same_part, same_wanted) = each_kept old f.mid f.read f.taken in
       let before : List (List ℕ) = joined_lines w p old.0.filter (flat_map (raws_by p) f.read) in
       let here : List (List ℕ) = joined_lines w p old.0.filter (raws_by p f.input) in
       let more : joined_lines f.mid.0.wanted f.mid.0.part f.mid.0.filter (raws_by f.mid.0.part f.input) ≡ here =
       ap (λ (q : Bool). joined_lines q f.mid.0.part f.mid.0.filter (raws_by f.mid.0.part f.input)) same_wanted
       ∙ (ap (λ (q : RecordPart). joined_lines w q f.mid.0.filter (raws_by q f.input)) same_part ∙ ap (λ (s : FilterState). joined_lines w p s (raws_by p f.input)) same) in
-      let later : text_of f.mid.0.written.unended (joined_lines f.mid.0.wanted f.mid.0.part f.mid.0.filter (raws_by f.mid.0.part f.input)) ≡ text_of (is_unended_after old.0.written.unended before) here =
-      ap (λ (u : Bool). text_of u (joined_lines f.mid.0.wanted f.mid.0.part f.mid.0.filter (raws_by f.mid.0.part f.input))) unended ∙ ap (text_of (is_unended_after old.0.written.unended before)) more in
+      let later : text_of f.mid.0.written.form (joined_lines f.mid.0.wanted f.mid.0.part f.mid.0.filter (raws_by f.mid.0.part f.input)) ≡ text_of (form_after_all old.0.written.form before) here =
+      ap (λ (u : RecordForm). text_of u (joined_lines f.mid.0.wanted f.mid.0.part f.mid.0.filter (raws_by f.mid.0.part f.input))) form ∙ ap (text_of (form_after_all old.0.written.form before)) more in
       let raws : flat_map (raws_by p) (f.read ++ f.input ∷ []) ≡ flat_map (raws_by p) f.read ++ raws_by p f.input = raws_more p f.read f.input in
       let all : joined_lines w p old.0.filter (flat_map (raws_by p) (f.read ++ f.input ∷ [])) ≡ before ++ here = ap (joined_lines w p old.0.filter) raws ∙ joined_both w p old.0.filter (flat_map (raws_by p) f.read) (raws_by p f.input) in
-      let front : WritesFront (contents old.1) (contents new.1) (text_of old.0.written.unended (joined_lines w p old.0.filter (flat_map (raws_by p) (f.read ++ f.input ∷ [])))) =
-      front_same (contents old.1) (contents new.1) _ _ (sym (ap (text_of old.0.written.unended) all ∙ text_both old.0.written.unended before here))
+      let front : WritesFront (contents old.1) (contents new.1) (text_of old.0.written.form (joined_lines w p old.0.filter (flat_map (raws_by p) (f.read ++ f.input ∷ [])))) =
+      front_same (contents old.1) (contents new.1) _ _ (sym (ap (text_of old.0.written.form) all ∙ text_both old.0.written.form before here))
       (front_after (contents old.1) (contents f.mid.1) (contents new.1) _ _ text (front_same (contents f.mid.1) (contents new.1) _ _ later f.reason.1)) in
       record {
         first = f.earlier ++ f.input ∷ [];
@@ -133,18 +132,18 @@ module _ {W : Type 0} (contents : W → Option (List ℕ)) where
         fronts = all_zip_push (AreFirstRecords (splits_by p)) f.earlier f.read f.input f.input f.fronts ([], sym (append-nil f.input), λ some. absurd (omega arith));
         written =
             front_after held (contents old.1) (contents new.1) header _ begins
-            (subst (λ (s : FilterState). WritesFront (contents old.1) (contents new.1) (text_of false (joined_lines w p s (flat_map (raws_by p) (f.read ++ f.input ∷ []))))) inserted
-            (subst (λ (b : Bool). WritesFront (contents old.1) (contents new.1) (text_of b (joined_lines w p old.0.filter (flat_map (raws_by p) (f.read ++ f.input ∷ []))))) ended front));
+            (subst (λ (s : FilterState). WritesFront (contents old.1) (contents new.1) (text_of old.0.written.form (joined_lines w p s (flat_map (raws_by p) (f.read ++ f.input ∷ []))))) inserted
+            front);
       }
 
   pub some_joined : (has_failed : W → Bool) (limit : ℕ) (header : List ℕ) (held : Option (List ℕ)) (empty : FilterState) (keys_part : RecordPart) (keys : Option (List ℕ)) (was : Option (List (List ℕ))) (old new : JoinedLines × W) (e : Failure)
-      → IfSome keys (λ bytes. old.0.filter ≡ with_items empty (keys_of keys_part bytes)) → old.0.written.unended ≡ false → Appends held (contents old.1) header → FailsInputs (splits_by old.0.part) Joins (FailsJoining has_failed) limit was old new e
+      → IfSome keys (λ bytes. old.0.filter ≡ with_items empty (keys_of keys_part bytes)) → Appends held (contents old.1) header → FailsInputs (splits_by old.0.part) Joins (FailsJoining has_failed) limit was old new e
       → IfSome keys (λ bytes. IfSome was (SomeJoined header held old new empty (keys_of keys_part bytes)))
-  some_joined has_failed limit header held empty keys_part None was old new e inserted ended begins failed = tt
-  some_joined has_failed limit header held empty keys_part (Some bytes) None old new e inserted ended begins failed = tt
-  some_joined has_failed limit header held empty keys_part (Some bytes) (Some inputs) old new e inserted ended begins failed = ⊎_elim
-      (λ stops. stopped header held empty (keys_of keys_part bytes) old new inputs inserted ended begins stops.1)
-      (λ taking. failed_among has_failed header held empty (keys_of keys_part bytes) old new inputs e inserted ended begins taking.known)
+  some_joined has_failed limit header held empty keys_part None was old new e inserted begins failed = tt
+  some_joined has_failed limit header held empty keys_part (Some bytes) None old new e inserted begins failed = tt
+  some_joined has_failed limit header held empty keys_part (Some bytes) (Some inputs) old new e inserted begins failed = ⊎_elim
+      (λ stops. stopped header held empty (keys_of keys_part bytes) old new inputs inserted begins stops.1)
+      (λ taking. failed_among has_failed header held empty (keys_of keys_part bytes) old new inputs e inserted begins taking.known)
       failed
 
   pub joined_failed : (has_failed : W → Bool) (limit : ℕ) (was : Option (List (List ℕ))) (old new : JoinedLines × W) (e : Failure) → FailsInputs (splits_by old.0.part) Joins (FailsJoining has_failed) limit was old new e → FailsWrittenLines old.0.part limit was (has_failed new.1) e
@@ -154,9 +153,9 @@ module _ {W : Type 0} (contents : W → Option (List ℕ)) where
       failed
 
 -- the header alone, or nothing
-pub header_joined : (wanted : Bool) (part : RecordPart) (header : List ℕ) (filter : FilterState) (keys_part : RecordPart) (keys : Option (List ℕ)) (was : Option (List (List ℕ))) (held holds : Option (List ℕ)) → WritesFront held holds header
-    → IfSome keys (λ bytes. IfSome was (λ inputs. WritesSomeJoined wanted part header filter (keys_of keys_part bytes) inputs held holds))
-header_joined wanted part header filter keys_part None was held holds front = tt
-header_joined wanted part header filter keys_part (Some bytes) None held holds front = tt
-header_joined wanted part header filter keys_part (Some bytes) (Some inputs) held holds front =
+pub header_joined : (form : RecordForm) (wanted : Bool) (part : RecordPart) (header : List ℕ) (filter : FilterState) (keys_part : RecordPart) (keys : Option (List ℕ)) (was : Option (List (List ℕ))) (held holds : Option (List ℕ)) → WritesFront held holds header
+    → IfSome keys (λ bytes. IfSome was (λ inputs. WritesSomeJoined form wanted part header filter (keys_of keys_part bytes) inputs held holds))
+header_joined form wanted part header filter keys_part None was held holds front = tt
+header_joined form wanted part header filter keys_part (Some bytes) None held holds front = tt
+header_joined form wanted part header filter keys_part (Some bytes) (Some inputs) held holds front =
     record { first = []; later = inputs; parts = refl; read = []; fronts = tt; written = front_more held holds header [] front }

@@ -35,6 +35,7 @@ use Rattle.sketches.specs.declared.failure.Failure.TheVariants.{Memory, LineTooL
 use Rattle.sketches.specs.declared.item_weigher.ItemWeigher.{ItemWeigher}
 use Rattle.sketches.specs.declared.item_weigher.WeighedRecord.{WeighedRecord}
 use Rattle.sketches.specs.declared.key_weights.KeyWeights.{KeyWeights}
+use Rattle.sketches.specs.declared.layout.Style.{Style}
 use Rattle.sketch_base.specs.declared.record_part.RecordPart.{RecordPart}
 use Rattle.sketches.specs.declared.weigh.WeighOptions.{WeighOptions}
 use Rattle.sketches.proofs.ReadInputs.{IsTaken, taken_one}
@@ -163,12 +164,12 @@ module _ {W : Type 0} (contents : W → Option (List ℕ)) where
   -- what the sink does with records of keys
   abbrev pub WritesKeys : KeyWeights × W → List ℕ → KeyWeights × W → Type 0
   WritesKeys old bytes new =
-      WritesEstimates old.0.escaped old.0.sketch (parts_in old.0.part bytes) (contents old.1) (contents new.1)
-      × (new.0.sketch ≡ old.0.sketch) × (new.0.part ≡ old.0.part) × (new.0.escaped ≡ old.0.escaped)
+      WritesEstimates old.0.style old.0.sketch (parts_in old.0.part bytes) (contents old.1) (contents new.1)
+      × (new.0.sketch ≡ old.0.sketch) × (new.0.part ≡ old.0.part) × (new.0.style ≡ old.0.style)
 
   abbrev pub FailsKeys : (has_failed : W → Bool) → KeyWeights × W → List ℕ → KeyWeights × W → Failure → Type 0
   FailsKeys has_failed old bytes new failure =
-      FailsWriting (has_failed new.1) failure × WritesSomeEstimates old.0.escaped old.0.sketch (parts_in old.0.part bytes) (contents old.1) (contents new.1)
+      FailsWriting (has_failed new.1) failure × WritesSomeEstimates old.0.style old.0.sketch (parts_in old.0.part bytes) (contents old.1) (contents new.1)
 
   -- what was read of the inputs, and its weights in the table
   record HasWeighed (options : WeighOptions) (inputs : List (List ℕ)) (complete : Bool) (made : CountState) (weighed : Weigher) : Type 0 where
@@ -190,7 +191,7 @@ module _ {W : Type 0} (contents : W → Option (List ℕ)) where
   -- the front of the weights of the first keys was written
   some_of_keys : (options : WeighOptions) (inputs : List (List ℕ)) (keys read_keys : List ℕ) (complete : Bool) (made : CountState) (weigher weighed : Weigher) (total : ℕ) (held mid holds : Option (List ℕ))
       → IsEmptyTable options.parts options.questions options.seed made → weigher.0.sketch ≡ made → weigher.0.chosen ≡ options.chosen → TakesInputs (splits_by options.chosen.item) Weighs (Some inputs) complete weigher weighed
-      → pos total ≡ pos weighed.0.sketch.total → Appends held mid (total_line options.header total) → AreFirstRecords (splits_by options.keys_part) keys read_keys → WritesSomeEstimates options.escaped weighed.0.sketch (parts_in options.keys_part read_keys) mid holds
+      → pos total ≡ pos weighed.0.sketch.total → Appends held mid (total_line options.style options.header total) → AreFirstRecords (splits_by options.keys_part) keys read_keys → WritesSomeEstimates options.style weighed.0.sketch (parts_in options.keys_part read_keys) mid holds
       → WritesSomeWeights options inputs keys held holds
   some_of_keys options inputs keys read_keys complete made weigher weighed total held mid holds empty begin part weighs sum wrote front some =
       let so = has_weighed options inputs complete made weigher weighed begin part weighs in
@@ -210,13 +211,13 @@ module _ {W : Type 0} (contents : W → Option (List ℕ)) where
         later = some.later;
         keys_are = some.parts ∙ ap (λ l. l ++ some.later) (sym some.keys_are);
         weights = are_weights made weighed.0.sketch (usable_seed options.seed) items some.rows empty.some_buckets empty.stands so.adds some.estimates;
-        wrote = front_after held mid holds _ _ (subst (λ (n : ℕ). Appends held mid (total_line options.header n)) all wrote) some.wrote;
+        wrote = front_after held mid holds _ _ (subst (λ (n : ℕ). Appends held mid (total_line options.style options.header n)) all wrote) some.wrote;
       }
 
   -- the line of the total, or its front, and no keys
   pub total_written : (options : WeighOptions) (was : Option (List (List ℕ))) (bytes : Option (List ℕ)) (complete : Bool) (made : CountState) (weigher weighed : Weigher) (total : ℕ) (held holds : Option (List ℕ))
       → IsEmptyTable options.parts options.questions options.seed made → weigher.0.sketch ≡ made → weigher.0.chosen ≡ options.chosen → TakesInputs (splits_by options.chosen.item) Weighs was complete weigher weighed
-      → pos total ≡ pos weighed.0.sketch.total → WritesFront held holds (total_line options.header total)
+      → pos total ≡ pos weighed.0.sketch.total → WritesFront held holds (total_line options.style options.header total)
       → IfSome was (λ inputs. IfSome bytes (λ keys. WritesSomeWeights options inputs keys held holds))
   total_written options None bytes complete made weigher weighed total held holds empty begin part weighs sum front = tt
   total_written options (Some inputs) None complete made weigher weighed total held holds empty begin part weighs sum front = tt
@@ -238,47 +239,47 @@ module _ {W : Type 0} (contents : W → Option (List ℕ)) where
         later = parts_in options.keys_part keys;
         keys_are = refl;
         weights = are_weights made weighed.0.sketch (usable_seed options.seed) items [] empty.some_buckets empty.stands so.adds (All-nil (λ (row : Row). IsMinCell weighed.0.sketch (hashed row.1) (pos row.0)));
-        wrote = front_more held holds _ [] (subst (λ (n : ℕ). WritesFront held holds (total_line options.header n)) all front);
+        wrote = front_more held holds _ [] (subst (λ (n : ℕ). WritesFront held holds (total_line options.style options.header n)) all front);
       }
 
   -- a failure while the keys are read
   pub some_weights : (has_failed : W → Bool) (options : WeighOptions) (was : Option (List (List ℕ))) (bytes : Option (List ℕ)) (complete : Bool) (made : CountState) (weigher weighed : Weigher) (total : ℕ) (held : Option (List ℕ)) (old new : KeyWeights × W) (e : Failure)
       → IsEmptyTable options.parts options.questions options.seed made → weigher.0.sketch ≡ made → weigher.0.chosen ≡ options.chosen → TakesInputs (splits_by options.chosen.item) Weighs was complete weigher weighed
-      → pos total ≡ pos weighed.0.sketch.total → Appends held (contents old.1) (total_line options.header total) → old.0.sketch ≡ weighed.0.sketch → old.0.part ≡ options.keys_part → old.0.escaped ≡ options.escaped
+      → pos total ≡ pos weighed.0.sketch.total → Appends held (contents old.1) (total_line options.style options.header total) → old.0.sketch ≡ weighed.0.sketch → old.0.part ≡ options.keys_part → old.0.style ≡ options.style
       → FailsInput (splits_by options.keys_part) WritesKeys (FailsKeys has_failed) (options.max_line + 1) bytes old new e
       → IfSome was (λ inputs. IfSome bytes (λ keys. WritesSomeWeights options inputs keys held (contents new.1)))
-  some_weights has_failed options None bytes complete made weigher weighed total held old new e empty begin part weighs sum wrote sketch keys_part escaped failed = tt
-  some_weights has_failed options (Some inputs) None complete made weigher weighed total held old new e empty begin part weighs sum wrote sketch keys_part escaped failed = tt
-  some_weights has_failed options (Some inputs) (Some keys) complete made weigher weighed total held old new e empty begin part weighs sum wrote sketch keys_part escaped failed =
-      let of_options : (read : List ℕ) → WritesSomeEstimates old.0.escaped old.0.sketch (parts_in old.0.part read) (contents old.1) (contents new.1) → WritesSomeEstimates options.escaped weighed.0.sketch (parts_in options.keys_part read) (contents old.1) (contents new.1) =
-      λ read some. subst (λ (p : RecordPart). WritesSomeEstimates options.escaped weighed.0.sketch (parts_in p read) (contents old.1) (contents new.1)) keys_part
-      (subst (λ (s : CountState). WritesSomeEstimates options.escaped s (parts_in old.0.part read) (contents old.1) (contents new.1)) sketch
-      (subst (λ (b : Bool). WritesSomeEstimates b old.0.sketch (parts_in old.0.part read) (contents old.1) (contents new.1)) escaped some)) in
+  some_weights has_failed options None bytes complete made weigher weighed total held old new e empty begin part weighs sum wrote sketch keys_part style failed = tt
+  some_weights has_failed options (Some inputs) None complete made weigher weighed total held old new e empty begin part weighs sum wrote sketch keys_part style failed = tt
+  some_weights has_failed options (Some inputs) (Some keys) complete made weigher weighed total held old new e empty begin part weighs sum wrote sketch keys_part style failed =
+      let of_options : (read : List ℕ) → WritesSomeEstimates old.0.style old.0.sketch (parts_in old.0.part read) (contents old.1) (contents new.1) → WritesSomeEstimates options.style weighed.0.sketch (parts_in options.keys_part read) (contents old.1) (contents new.1) =
+      λ read some. subst (λ (p : RecordPart). WritesSomeEstimates options.style weighed.0.sketch (parts_in p read) (contents old.1) (contents new.1)) keys_part
+      (subst (λ (s : CountState). WritesSomeEstimates options.style s (parts_in old.0.part read) (contents old.1) (contents new.1)) sketch
+      (subst (λ (b : Style). WritesSomeEstimates b old.0.sketch (parts_in old.0.part read) (contents old.1) (contents new.1)) style some)) in
       ⊎_elim
       (λ stops.
       let (read, front, taken) = stops.1 in
-      some_of_keys options inputs keys read complete made weigher weighed total held (contents old.1) (contents new.1) empty begin part weighs sum wrote front (of_options read (some_whole old.0.escaped old.0.sketch (parts_in old.0.part read) (contents old.1) (contents new.1) taken.0)))
+      some_of_keys options inputs keys read complete made weigher weighed total held (contents old.1) (contents new.1) empty begin part weighs sum wrote front (of_options read (some_whole old.0.style old.0.sketch (parts_in old.0.part read) (contents old.1) (contents new.1) taken.0)))
       (λ taking.
       some_of_keys options inputs keys keys complete made weigher weighed total held (contents old.1) (contents new.1) empty begin part weighs sum wrote ([], sym (append-nil keys), λ some. absurd (omega arith)) (of_options keys taking.known.1))
       failed
 
   pub weights_written : {E : Type 0} (options : WeighOptions) (was : Option (List (List ℕ))) (bytes : Option (List ℕ)) (complete : Bool) (failure : Option E) (made : CountState) (weigher weighed : Weigher) (total : ℕ) (held : Option (List ℕ)) (old new : KeyWeights × W)
       → IsEmptyTable options.parts options.questions options.seed made → weigher.0.sketch ≡ made → weigher.0.chosen ≡ options.chosen → TakesInputs (splits_by options.chosen.item) Weighs was complete weigher weighed
-      → pos total ≡ pos weighed.0.sketch.total → Appends held (contents old.1) (total_line options.header total) → old.0.sketch ≡ weighed.0.sketch → old.0.part ≡ options.keys_part → old.0.escaped ≡ options.escaped → TakesInput (splits_by options.keys_part) WritesKeys bytes failure old new
+      → pos total ≡ pos weighed.0.sketch.total → Appends held (contents old.1) (total_line options.style options.header total) → old.0.sketch ≡ weighed.0.sketch → old.0.part ≡ options.keys_part → old.0.style ≡ options.style → TakesInput (splits_by options.keys_part) WritesKeys bytes failure old new
       → IfSome was (λ inputs. IfSome bytes (λ keys. WritesWeights options inputs complete keys failure held (contents new.1)))
-  weights_written options None bytes complete failure made weigher weighed total held old new empty begin part weighs sum wrote sketch keys_part escaped taken = tt
-  weights_written options (Some inputs) None complete failure made weigher weighed total held old new empty begin part weighs sum wrote sketch keys_part escaped taken = tt
-  weights_written {E = E} options (Some inputs) (Some keys) complete failure made weigher weighed total held old new empty begin part (read, are, each) sum wrote sketch keys_part escaped taken =
+  weights_written options None bytes complete failure made weigher weighed total held old new empty begin part weighs sum wrote sketch keys_part style taken = tt
+  weights_written options (Some inputs) None complete failure made weigher weighed total held old new empty begin part weighs sum wrote sketch keys_part style taken = tt
+  weights_written {E = E} options (Some inputs) (Some keys) complete failure made weigher weighed total held old new empty begin part (read, are, each) sum wrote sketch keys_part style taken =
       let split = splits_by options.keys_part in
       let one : IsTaken split WritesKeys keys (failure ≡ None) old new = taken_one split WritesKeys keys failure old new taken in
       let items : Weighed = weighed_in options.chosen read in
       let counts : CountsLines options.chosen made (flat_map (records_by options.chosen.item) read) weighed.0.sketch =
       subst (λ (p : WeighedRecord). CountsLines p made (flat_map (records_by p.item) read) weighed.0.sketch) part (subst (λ (s : CountState). CountsLines weigher.0.chosen s (flat_map (records_by weigher.0.chosen.item) read) weighed.0.sketch) begin (each_weighed weigher weighed read each).0) in
       let adds : CountsWeighed made items weighed.0.sketch = counts.0 in
-      let written : WritesEstimates options.escaped weighed.0.sketch (parts_in options.keys_part one.got) (contents old.1) (contents new.1) =
-      subst (λ (p : RecordPart). WritesEstimates options.escaped weighed.0.sketch (parts_in p one.got) (contents old.1) (contents new.1)) keys_part
-      (subst (λ (s : CountState). WritesEstimates options.escaped s (parts_in old.0.part one.got) (contents old.1) (contents new.1)) sketch
-      (subst (λ (b : Bool). WritesEstimates b old.0.sketch (parts_in old.0.part one.got) (contents old.1) (contents new.1)) escaped one.taken.0)) in
+      let written : WritesEstimates options.style weighed.0.sketch (parts_in options.keys_part one.got) (contents old.1) (contents new.1) =
+      subst (λ (p : RecordPart). WritesEstimates options.style weighed.0.sketch (parts_in p one.got) (contents old.1) (contents new.1)) keys_part
+      (subst (λ (s : CountState). WritesEstimates options.style s (parts_in old.0.part one.got) (contents old.1) (contents new.1)) sketch
+      (subst (λ (b : Style). WritesEstimates b old.0.sketch (parts_in old.0.part one.got) (contents old.1) (contents new.1)) style one.taken.0)) in
       let none : made.total ≡ 0 = ap (λ (s : CountState). s.total) empty.is in
       let all : total ≡ total_of items = omega (arith, ints, sum, adds.total, none) in
       record {
@@ -294,7 +295,7 @@ module _ {W : Type 0} (contents : W → Option (List ℕ)) where
         keys_are = written.keys_are;
         each = counts.1;
         weights = are_weights made weighed.0.sketch (usable_seed options.seed) items written.rows empty.some_buckets empty.stands adds written.estimates;
-        wrote = appends_both held (contents old.1) (contents new.1) _ _ (subst (λ (n : ℕ). Appends held (contents old.1) (total_line options.header n)) all wrote) written.wrote;
+        wrote = appends_both held (contents old.1) (contents new.1) _ _ (subst (λ (n : ℕ). Appends held (contents old.1) (total_line options.style options.header n)) all wrote) written.wrote;
       }
 
 -- ---- failures

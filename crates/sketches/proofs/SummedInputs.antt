@@ -27,6 +27,7 @@ use Rattle.sketches.specs.declared.failure.Failure.TheVariants.{Memory, LineTooL
 use Rattle.sketches.specs.declared.file_keys.FileKeys.{FileKeys}
 use Rattle.sketches.specs.declared.item_weigher.WeighedRecord.{WeighedRecord}
 use Rattle.sketches.specs.declared.key_sums.KeySums.{KeySums}
+use Rattle.sketches.specs.declared.layout.Style.{Style}
 
 -- ---- rows that are written
 
@@ -34,9 +35,9 @@ pub no_items : (xs : List ℕ) → length xs ≡ 0 → xs ≡ []
 no_items [] e = refl
 no_items (x ∷ xs) e = absurd (omega (arith, e))
 
-module _ (escaped : Bool) (sums : Sums) (order : List ℕ) where
+module _ (style : Style) (sums : Sums) (order : List ℕ) where
   abbrev lines_of : List ℕ → List ℕ
-  lines_of indices = flat_map (row_line escaped) (rows_at sums indices)
+  lines_of indices = flat_map (row_line style) (rows_at sums indices)
 
   -- the lines of the indices before those that are left were written, but for the last of their bytes
   pub record HasSentRows (left : List ℕ) (held holds : Option (List ℕ)) (written : List ℕ) : Type 0 where
@@ -51,25 +52,25 @@ module _ (escaped : Bool) (sums : Sums) (order : List ℕ) where
 
   lines_both : (xs ys : List ℕ) → lines_of (xs ++ ys) ≡ lines_of xs ++ lines_of ys
   lines_both xs ys =
-      ap (flat_map (row_line escaped)) (flat_map-append (λ (index : ℕ). row_of (slice_get sums index)) xs ys)
-      ∙ flat_map-append (row_line escaped) (rows_at sums xs) (rows_at sums ys)
+      ap (flat_map (row_line style)) (flat_map-append (λ (index : ℕ). row_of (slice_get sums index)) xs ys)
+      ∙ flat_map-append (row_line style) (rows_at sums xs) (rows_at sums ys)
 
-  line_is : (i : ℕ) → lines_of (i ∷ []) ≡ flat_map (row_line escaped) (row_of (slice_get sums i))
-  line_is i = ap (flat_map (row_line escaped)) (append-nil (row_of (slice_get sums i)))
+  line_is : (i : ℕ) → lines_of (i ∷ []) ≡ flat_map (row_line style) (row_of (slice_get sums i))
+  line_is i = ap (flat_map (row_line style)) (append-nil (row_of (slice_get sums i)))
 
   module _ (left : List ℕ) (held holds : Option (List ℕ)) (written : List ℕ) (so : HasSentRows left held holds written) where
     -- one more row is appended
-    with_row : (i : ℕ) (more : List ℕ) → more ≡ written ++ flat_map (row_line escaped) (row_of (slice_get sums i)) → lines_of (so.done ++ i ∷ []) ≡ so.sent ++ more
+    with_row : (i : ℕ) (more : List ℕ) → more ≡ written ++ flat_map (row_line style) (row_of (slice_get sums i)) → lines_of (so.done ++ i ∷ []) ≡ so.sent ++ more
     with_row i more is =
         lines_both so.done (i ∷ [])
         ∙ (ap (λ l. lines_of so.done ++ l) (line_is i)
-        ∙ (ap (λ l. l ++ flat_map (row_line escaped) (row_of (slice_get sums i))) so.text
-        ∙ (append_assoc so.sent written (flat_map (row_line escaped) (row_of (slice_get sums i))) ∙ ap (λ l. so.sent ++ l) (sym is))))
+        ∙ (ap (λ l. l ++ flat_map (row_line style) (row_of (slice_get sums i))) so.text
+        ∙ (append_assoc so.sent written (flat_map (row_line style) (row_of (slice_get sums i))) ∙ ap (λ l. so.sent ++ l) (sym is))))
 
     all_with : (i : ℕ) (later : List ℕ) → left ≡ i ∷ later → order ≡ (so.done ++ i ∷ []) ++ later
     all_with i later next = so.parts ∙ (ap (λ l. so.done ++ l) next ∙ sym (append_assoc so.done (i ∷ []) later))
 
-    pub rows_more : (i : ℕ) (later more : List ℕ) (least : ℕ) (now : Option (List ℕ)) (rest : List ℕ) → left ≡ i ∷ later → more ≡ written ++ flat_map (row_line escaped) (row_of (slice_get sums i)) → Sends least holds more now rest → HasSentRows later held now rest
+    pub rows_more : (i : ℕ) (later more : List ℕ) (least : ℕ) (now : Option (List ℕ)) (rest : List ℕ) → left ≡ i ∷ later → more ≡ written ++ flat_map (row_line style) (row_of (slice_get sums i)) → Sends least holds more now rest → HasSentRows later held now rest
     rows_more i later more least now rest next is s = record {
       done = so.done ++ i ∷ [];
       parts = all_with i later next;
@@ -92,7 +93,7 @@ module _ (escaped : Bool) (sums : Sums) (order : List ℕ) where
     rows_cut now none front = front_same held now _ _ (sym (whole none)) (front_after held holds now so.sent written so.sends front)
 
     -- a row is appended, and bytes are not written
-    pub rows_cut_at : (i : ℕ) (later more : List ℕ) (now : Option (List ℕ)) → left ≡ i ∷ later → more ≡ written ++ flat_map (row_line escaped) (row_of (slice_get sums i)) → WritesFront holds now more → WritesFront held now (lines_of order)
+    pub rows_cut_at : (i : ℕ) (later more : List ℕ) (now : Option (List ℕ)) → left ≡ i ∷ later → more ≡ written ++ flat_map (row_line style) (row_of (slice_get sums i)) → WritesFront holds now more → WritesFront held now (lines_of order)
     rows_cut_at i later more now next is front =
         front_same held now _ _ (sym (ap lines_of (all_with i later next) ∙ (lines_both (so.done ++ i ∷ []) later ∙ ap (λ l. l ++ lines_of later) (with_row i more is))))
         (front_more held now (so.sent ++ more) (lines_of later) (front_after held holds now so.sent more so.sends front))
@@ -111,23 +112,23 @@ row_named (x ∷ sums) items zero k holds e =
     ap (λ (n : ℕ). (n, x.0.items) ∷ []) holds.0 ∙ ap (λ (o : Option (List ℕ)). (weight_of items (unwrap_or o k), unwrap_or o k) ∷ []) e
 row_named (x ∷ sums) items (suc i) k holds e = row_named sums items i k holds.1 e
 
-rows_named : (escaped : Bool) (sums : Sums) (items : Weighed) (order : List ℕ) (keys : List (List ℕ)) → HoldsSums items sums → AllZip (λ i k. slice_get (names sums) i ≡ Some k) order keys → flat_map (row_line escaped) (rows_at sums order) ≡ sum_lines escaped items keys
-rows_named escaped sums items [] [] holds all = refl
-rows_named escaped sums items [] (k ∷ keys) holds all = absurd all
-rows_named escaped sums items (i ∷ order) [] holds all = absurd all
-rows_named escaped sums items (i ∷ order) (k ∷ keys) holds all =
-    flat_map-append (row_line escaped) (row_of (slice_get sums i)) (rows_at sums order)
-    ∙ (ap (λ (rows : List Row). flat_map (row_line escaped) rows ++ flat_map (row_line escaped) (rows_at sums order)) (row_named sums items i k holds all.0)
-    ∙ (ap (λ l. l ++ flat_map (row_line escaped) (rows_at sums order)) (append-nil (row_line escaped (weight_of items k, k)))
-    ∙ ap (λ l. row_line escaped (weight_of items k, k) ++ l) (rows_named escaped sums items order keys holds all.1)))
+rows_named : (style : Style) (sums : Sums) (items : Weighed) (order : List ℕ) (keys : List (List ℕ)) → HoldsSums items sums → AllZip (λ i k. slice_get (names sums) i ≡ Some k) order keys → flat_map (row_line style) (rows_at sums order) ≡ sum_lines style items keys
+rows_named style sums items [] [] holds all = refl
+rows_named style sums items [] (k ∷ keys) holds all = absurd all
+rows_named style sums items (i ∷ order) [] holds all = absurd all
+rows_named style sums items (i ∷ order) (k ∷ keys) holds all =
+    flat_map-append (row_line style) (row_of (slice_get sums i)) (rows_at sums order)
+    ∙ (ap (λ (rows : List Row). flat_map (row_line style) rows ++ flat_map (row_line style) (rows_at sums order)) (row_named sums items i k holds all.0)
+    ∙ (ap (λ l. l ++ flat_map (row_line style) (rows_at sums order)) (append-nil (row_line style (weight_of items k, k)))
+    ∙ ap (λ l. row_line style (weight_of items k, k) ++ l) (rows_named style sums items order keys holds all.1)))
 
 sums_printed : (options : ExactOptions) (sums sums' : Sums) (order : List ℕ) (keys : List (List ℕ)) (items : Weighed) (total : ℕ) → HoldsKeys sums order keys → AddsItems sums 0 items sums' total
-    → rows_text options total sums' order ≡ total_line options.header (total_of items) ++ sum_lines options.escaped items keys
+    → rows_text options total sums' order ≡ total_line options.style options.header (total_of items) ++ sum_lines options.style items keys
 sums_printed options sums sums' order keys items total held adds =
     let is : total ≡ total_of items = omega (arith, adds.total_is) in
     let all : AllZip (λ i k. slice_get (names sums') i ≡ Some k) order keys = subst (λ l. AllZip (λ i k. slice_get l i ≡ Some k) order keys) (sym adds.names_are) held.named in
-    ap (λ n. total_line options.header n ++ flat_map (row_line options.escaped) (rows_at sums' order)) is
-    ∙ ap (λ l. total_line options.header (total_of items) ++ l) (rows_named options.escaped sums' items order keys (adds.adds [] refl held.empty) all)
+    ap (λ n. total_line options.style options.header n ++ flat_map (row_line options.style) (rows_at sums' order)) is
+    ∙ ap (λ l. total_line options.style options.header (total_of items) ++ l) (rows_named options.style sums' items order keys (adds.adds [] refl held.empty) all)
 
 pub exact_written : (options : ExactOptions) (keys : Option (List ℕ)) (was : Option (List (List ℕ))) (complete : Bool) (sums sums' : Sums) (order : List ℕ) (total : ℕ) (held holds : Option (List ℕ))
     → IfSome keys (λ bytes. HoldsKeys sums order (parts_in options.keys_part bytes)) → IfSome was (λ inputs. SumsInputs options.chosen sums inputs complete sums' total) → Appends held holds (rows_text options total sums' order)
@@ -191,8 +192,8 @@ file_failed options limit keys old LineTooLong part max none empty some known = 
 file_failed options limit keys old TooManyItems part max none empty some known = absurd some.2
 file_failed options limit None old BadSize part max none empty some known = tt
 file_failed options limit (Some bytes) old BadSize part max none empty some known =
-    subst (λ (m : ℕ). FailsKeys (record { chosen = options.chosen; keys_part = options.keys_part; max_keys = m; escaped = options.escaped; max_line = options.max_line; header = options.header }) limit (Some bytes) BadSize) max
-    (subst (λ (p : RecordPart). FailsKeys (record { chosen = options.chosen; keys_part = p; max_keys = old.0.max_keys; escaped = options.escaped; max_line = options.max_line; header = options.header }) limit (Some bytes) BadSize) part
+    subst (λ (m : ℕ). FailsKeys (record { chosen = options.chosen; keys_part = options.keys_part; max_keys = m; style = options.style; max_line = options.max_line; header = options.header }) limit (Some bytes) BadSize) max
+    (subst (λ (p : RecordPart). FailsKeys (record { chosen = options.chosen; keys_part = p; max_keys = old.0.max_keys; style = options.style; max_line = options.max_line; header = options.header }) limit (Some bytes) BadSize) part
     (known [] (no_keys old.0.sums.entries old.0.order.items none empty)))
 file_failed options limit keys old (BadWeight found) part max none empty some known = absurd some.2
 file_failed options limit keys old (Write error) part max none empty some known = absurd some.2

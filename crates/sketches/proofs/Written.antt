@@ -1,5 +1,5 @@
 -- The records of inputs that are written.
-use Rattle.std.proofs.Common.{◌≡◌, ◌⊎◌, ⊎_elim, ℕ, zero, suc, ◌<◌, Bool, true, false, List, [], ◌∷◌, ◌++◌, length, get_or, map, Option, None, Some, IfSome, append_assoc, append-nil, refl, sym, ◌∙◌, ap, subst, arith}
+use Rattle.std.proofs.Common.{◌≡◌, ◌⊎◌, ⊎_elim, ℕ, zero, suc, ◌<◌, Bool, true, List, [], ◌∷◌, ◌++◌, length, get_or, map, Option, None, Some, IfSome, append_assoc, append-nil, refl, sym, ◌∙◌, ap, subst, arith}
 use Rattle.std.proofs.lemmas.Bool.{false≢true}
 use Rattle.std.proofs.lemmas.List.Concat.{flat_map-append}
 use Rattle.std.proofs.lemmas.List.Folds.{list_any_at}
@@ -16,8 +16,9 @@ use Rattle.sketches.specs.RecordParts.{raws_by}
 use Rattle.sketch_base.specs.Records.{splits_by}
 use Rattle.sketches.specs.Unseen.{AreFirst, WritesSomeUnseen, WritesUnseen, hashed, is_seen, item_of, unseen_lines, with_items, with_lines}
 use Rattle.sketches.specs.Appending.{appends_both, front_after, front_all, front_more, front_same}
-use Rattle.sketches.specs.EndedText.{Prints, is_unended_after, prints_none, prints_both, text_both, text_of}
+use Rattle.sketches.specs.EndedText.{Prints, form_after_all, prints_none, prints_both, text_both, text_of}
 use Rattle.sketches.specs.UnseenLaws.{unseen_both, with_both}
+use Rattle.sketches.specs.declared.ended_text.RecordForm.{RecordForm}
 use Rattle.sketch_base.specs.declared.record_part.RecordPart.{RecordPart}
 use Rattle.sketches.specs.declared.failure.Failure.{Failure}
 use Rattle.sketches.specs.declared.failure.Failure.TheVariants.{Memory, LineTooLong, TooManyItems, BadSize, BadWeight, Write}
@@ -58,13 +59,13 @@ module _ {W : Type 0} (contents : W → Option (List ℕ)) where
   abbrev pub Chooses : UnseenLines × W → List ℕ → UnseenLines × W → Type 0
   Chooses old bytes new =
       (new.0.filter ≡ with_lines old.0.part old.0.filter (raws_by old.0.part bytes))
-      × Prints (contents old.1) (contents new.1) old.0.written.unended new.0.written.unended (unseen_lines old.0.repeated old.0.part old.0.filter (raws_by old.0.part bytes))
+      × Prints (contents old.1) (contents new.1) old.0.written.form new.0.written.form (unseen_lines old.0.repeated old.0.part old.0.filter (raws_by old.0.part bytes))
       × (new.0.part ≡ old.0.part) × (new.0.repeated ≡ old.0.repeated)
 
   -- the unseen records of all lists were written
   each_written : (old new : UnseenLines × W) (read : List (List ℕ)) → TakesEach Chooses old read new
-      → Prints (contents old.1) (contents new.1) old.0.written.unended new.0.written.unended (unseen_lines old.0.repeated old.0.part old.0.filter (flat_map (raws_by old.0.part) read))
-  each_written old new [] same = subst (λ (s : UnseenLines × W). Prints (contents old.1) (contents s.1) old.0.written.unended s.0.written.unended []) (sym same) (prints_none (contents old.1) old.0.written.unended)
+      → Prints (contents old.1) (contents new.1) old.0.written.form new.0.written.form (unseen_lines old.0.repeated old.0.part old.0.filter (flat_map (raws_by old.0.part) read))
+  each_written old new [] same = subst (λ (s : UnseenLines × W). Prints (contents old.1) (contents s.1) old.0.written.form s.0.written.form []) (sym same) (prints_none (contents old.1) old.0.written.form)
   each_written old new (bytes ∷ read) (mid, (filter, text, same_part, same_repeated), rest) =
       let later = each_written mid new read rest in
       let r = old.0.repeated in
@@ -72,9 +73,9 @@ module _ {W : Type 0} (contents : W → Option (List ℕ)) where
       let more : unseen_lines mid.0.repeated mid.0.part mid.0.filter (flat_map (raws_by mid.0.part) read) ≡ unseen_lines r p (with_lines p old.0.filter (raws_by p bytes)) (flat_map (raws_by p) read) =
       ap (λ (q : Bool). unseen_lines q mid.0.part mid.0.filter (flat_map (raws_by mid.0.part) read)) same_repeated
       ∙ (ap (λ (q : RecordPart). unseen_lines r q mid.0.filter (flat_map (raws_by q) read)) same_part ∙ ap (λ (s : FilterState). unseen_lines r p s (flat_map (raws_by p) read)) filter) in
-      subst (Prints (contents old.1) (contents new.1) old.0.written.unended new.0.written.unended)
+      subst (Prints (contents old.1) (contents new.1) old.0.written.form new.0.written.form)
       (ap (λ l. unseen_lines r p old.0.filter (raws_by p bytes) ++ l) more ∙ sym (unseen_both r p old.0.filter (raws_by p bytes) (flat_map (raws_by p) read)))
-      (prints_both (contents old.1) (contents mid.1) (contents new.1) old.0.written.unended mid.0.written.unended new.0.written.unended _ _ text later)
+      (prints_both (contents old.1) (contents mid.1) (contents new.1) old.0.written.form mid.0.written.form new.0.written.form _ _ text later)
 
   -- and their items inserted
   each_inserted : (old new : UnseenLines × W) (read : List (List ℕ)) → TakesEach Chooses old read new → new.0.filter ≡ with_lines old.0.part old.0.filter (flat_map (raws_by old.0.part) read)
@@ -92,16 +93,15 @@ module _ {W : Type 0} (contents : W → Option (List ℕ)) where
       (part ∙ same_part, repeated ∙ same_repeated)
 
   pub written : (header : List ℕ) (held : Option (List ℕ)) (was : Option (List (List ℕ))) (complete : Bool) (old new : UnseenLines × W)
-      → old.0.written.unended ≡ false → Appends held (contents old.1) header → TakesInputs (splits_by old.0.part) Chooses was complete old new
-      → IfSome was (λ inputs. WritesUnseen old.0.repeated old.0.part header old.0.filter new.0.filter inputs complete held (contents new.1))
-  written header held None complete old new ended begins taken = tt
-  written header held (Some inputs) complete old new ended begins (read, are, each) = record {
+      → Appends held (contents old.1) header → TakesInputs (splits_by old.0.part) Chooses was complete old new
+      → IfSome was (λ inputs. WritesUnseen old.0.written.form old.0.repeated old.0.part header old.0.filter new.0.filter inputs complete held (contents new.1))
+  written header held None complete old new begins taken = tt
+  written header held (Some inputs) complete old new begins (read, are, each) = record {
     read = read;
     are = are;
     written =
         appends_both held (contents old.1) (contents new.1) header _ begins
-        (subst (λ (b : Bool). Appends (contents old.1) (contents new.1) (text_of b (unseen_lines old.0.repeated old.0.part old.0.filter (flat_map (raws_by old.0.part) read)))) ended
-        (each_written old new read each).0);
+        (each_written old new read each).0;
     first = are_first old.0.part old.0.filter (flat_map (raws_by old.0.part) read);
     kept = each_inserted old new read each;
   }
@@ -110,15 +110,15 @@ module _ {W : Type 0} (contents : W → Option (List ℕ)) where
 
   -- the front of the unseen records of what was read of the first inputs
   abbrev SomeUnseen : (header : List ℕ) (held : Option (List ℕ)) (old new : UnseenLines × W) (inputs : List (List ℕ)) → Type 0
-  SomeUnseen header held old new inputs = WritesSomeUnseen old.0.repeated old.0.part header old.0.filter inputs held (contents new.1)
+  SomeUnseen header held old new inputs = WritesSomeUnseen old.0.written.form old.0.repeated old.0.part header old.0.filter inputs held (contents new.1)
 
   abbrev pub FailsChoosing : (has_failed : W → Bool) → UnseenLines × W → List ℕ → UnseenLines × W → Failure → Type 0
   FailsChoosing has_failed old bytes new failure =
       FailsWriting (has_failed new.1) failure
-      × WritesFront (contents old.1) (contents new.1) (text_of old.0.written.unended (unseen_lines old.0.repeated old.0.part old.0.filter (raws_by old.0.part bytes)))
+      × WritesFront (contents old.1) (contents new.1) (text_of old.0.written.form (unseen_lines old.0.repeated old.0.part old.0.filter (raws_by old.0.part bytes)))
 
-  stopped : (header : List ℕ) (held : Option (List ℕ)) (old new : UnseenLines × W) (inputs : List (List ℕ)) → old.0.written.unended ≡ false → Appends held (contents old.1) header → TakesFirst (splits_by old.0.part) Chooses inputs old new → SomeUnseen header held old new inputs
-  stopped header held old new inputs ended begins t = record {
+  stopped : (header : List ℕ) (held : Option (List ℕ)) (old new : UnseenLines × W) (inputs : List (List ℕ)) → Appends held (contents old.1) header → TakesFirst (splits_by old.0.part) Chooses inputs old new → SomeUnseen header held old new inputs
+  stopped header held old new inputs begins t = record {
     first = t.first;
     later = t.later;
     parts = t.parts;
@@ -127,29 +127,28 @@ module _ {W : Type 0} (contents : W → Option (List ℕ)) where
     written =
         front_all held (contents new.1) _
         (appends_both held (contents old.1) (contents new.1) header _ begins
-        (subst (λ (b : Bool). Appends (contents old.1) (contents new.1) (text_of b (unseen_lines old.0.repeated old.0.part old.0.filter (flat_map (raws_by old.0.part) t.read)))) ended
-        (each_written old new t.read t.taken).0));
+        (each_written old new t.read t.taken).0);
   }
 
-  failed_among : (has_failed : W → Bool) (header : List ℕ) (held : Option (List ℕ)) (old new : UnseenLines × W) (inputs : List (List ℕ)) (e : Failure) → old.0.written.unended ≡ false → Appends held (contents old.1) header
+  failed_among : (has_failed : W → Bool) (header : List ℕ) (held : Option (List ℕ)) (old new : UnseenLines × W) (inputs : List (List ℕ)) (e : Failure) → Appends held (contents old.1) header
       → FailsAmong (splits_by old.0.part) Chooses (FailsChoosing has_failed) inputs old new e → SomeUnseen header held old new inputs
-  failed_among has_failed header held old new inputs e ended begins f =
+  failed_among has_failed header held old new inputs e begins f =
       let p = old.0.part in
       let r = old.0.repeated in
       let earlier : List (List ℕ) = flat_map (raws_by p) f.read in
       let here : List (List ℕ) = raws_by p f.input in
       let filter : FilterState = with_lines p old.0.filter earlier in
-      let (text, unended) = each_written old f.mid f.read f.taken in
+      let (text, form) = each_written old f.mid f.read f.taken in
       let (same_part, same_repeated) = each_kept old f.mid f.read f.taken in
       let before : List (List ℕ) = unseen_lines r p old.0.filter earlier in
       let more : unseen_lines f.mid.0.repeated f.mid.0.part f.mid.0.filter (raws_by f.mid.0.part f.input) ≡ unseen_lines r p filter here =
       ap (λ (q : Bool). unseen_lines q f.mid.0.part f.mid.0.filter (raws_by f.mid.0.part f.input)) same_repeated
       ∙ (ap (λ (q : RecordPart). unseen_lines r q f.mid.0.filter (raws_by q f.input)) same_part ∙ ap (λ (s : FilterState). unseen_lines r p s here) (each_inserted old f.mid f.read f.taken)) in
-      let later : text_of f.mid.0.written.unended (unseen_lines f.mid.0.repeated f.mid.0.part f.mid.0.filter (raws_by f.mid.0.part f.input)) ≡ text_of (is_unended_after old.0.written.unended before) (unseen_lines r p filter here) =
-      ap (λ (u : Bool). text_of u (unseen_lines f.mid.0.repeated f.mid.0.part f.mid.0.filter (raws_by f.mid.0.part f.input))) unended ∙ ap (text_of (is_unended_after old.0.written.unended before)) more in
+      let later : text_of f.mid.0.written.form (unseen_lines f.mid.0.repeated f.mid.0.part f.mid.0.filter (raws_by f.mid.0.part f.input)) ≡ text_of (form_after_all old.0.written.form before) (unseen_lines r p filter here) =
+      ap (λ (u : RecordForm). text_of u (unseen_lines f.mid.0.repeated f.mid.0.part f.mid.0.filter (raws_by f.mid.0.part f.input))) form ∙ ap (text_of (form_after_all old.0.written.form before)) more in
       let all : unseen_lines r p old.0.filter (flat_map (raws_by p) (f.read ++ f.input ∷ [])) ≡ before ++ unseen_lines r p filter here = ap (unseen_lines r p old.0.filter) (raws_more p f.read f.input) ∙ unseen_both r p old.0.filter earlier here in
-      let front : WritesFront (contents old.1) (contents new.1) (text_of old.0.written.unended (unseen_lines r p old.0.filter (flat_map (raws_by p) (f.read ++ f.input ∷ [])))) =
-      front_same (contents old.1) (contents new.1) _ _ (sym (ap (text_of old.0.written.unended) all ∙ text_both old.0.written.unended before (unseen_lines r p filter here)))
+      let front : WritesFront (contents old.1) (contents new.1) (text_of old.0.written.form (unseen_lines r p old.0.filter (flat_map (raws_by p) (f.read ++ f.input ∷ [])))) =
+      front_same (contents old.1) (contents new.1) _ _ (sym (ap (text_of old.0.written.form) all ∙ text_both old.0.written.form before (unseen_lines r p filter here)))
       (front_after (contents old.1) (contents f.mid.1) (contents new.1) _ _ text (front_same (contents f.mid.1) (contents new.1) _ _ later f.reason.1)) in
       record {
         first = f.earlier ++ f.input ∷ [];
@@ -159,21 +158,21 @@ module _ {W : Type 0} (contents : W → Option (List ℕ)) where
         fronts = all_zip_push (AreFirstRecords (splits_by p)) f.earlier f.read f.input f.input f.fronts ([], sym (append-nil f.input), λ some. absurd (omega arith));
         written =
             front_after held (contents old.1) (contents new.1) header _ begins
-            (subst (λ (b : Bool). WritesFront (contents old.1) (contents new.1) (text_of b (unseen_lines r p old.0.filter (flat_map (raws_by p) (f.read ++ f.input ∷ []))))) ended front);
+            front;
       }
 
-  pub some_written : (has_failed : W → Bool) (limit : ℕ) (header : List ℕ) (held : Option (List ℕ)) (was : Option (List (List ℕ))) (old new : UnseenLines × W) (e : Failure) → old.0.written.unended ≡ false → Appends held (contents old.1) header
+  pub some_written : (has_failed : W → Bool) (limit : ℕ) (header : List ℕ) (held : Option (List ℕ)) (was : Option (List (List ℕ))) (old new : UnseenLines × W) (e : Failure) → Appends held (contents old.1) header
       → FailsInputs (splits_by old.0.part) Chooses (FailsChoosing has_failed) limit was old new e → IfSome was (SomeUnseen header held old new)
-  some_written has_failed limit header held None old new e ended begins failed = tt
-  some_written has_failed limit header held (Some inputs) old new e ended begins failed = ⊎_elim
-      (λ stops. stopped header held old new inputs ended begins stops.1)
-      (λ taking. failed_among has_failed header held old new inputs e ended begins taking.known)
+  some_written has_failed limit header held None old new e begins failed = tt
+  some_written has_failed limit header held (Some inputs) old new e begins failed = ⊎_elim
+      (λ stops. stopped header held old new inputs begins stops.1)
+      (λ taking. failed_among has_failed header held old new inputs e begins taking.known)
       failed
 
 -- the header alone, or nothing
-pub header_written : (repeated : Bool) (part : RecordPart) (header : List ℕ) (filter : FilterState) (was : Option (List (List ℕ))) (held holds : Option (List ℕ)) → WritesFront held holds header → IfSome was (λ inputs. WritesSomeUnseen repeated part header filter inputs held holds)
-header_written repeated part header filter None held holds front = tt
-header_written repeated part header filter (Some inputs) held holds front =
+pub header_written : (form : RecordForm) (repeated : Bool) (part : RecordPart) (header : List ℕ) (filter : FilterState) (was : Option (List (List ℕ))) (held holds : Option (List ℕ)) → WritesFront held holds header → IfSome was (λ inputs. WritesSomeUnseen form repeated part header filter inputs held holds)
+header_written form repeated part header filter None held holds front = tt
+header_written form repeated part header filter (Some inputs) held holds front =
     record { first = []; later = inputs; parts = refl; read = []; fronts = tt; written = front_more held holds header [] front }
 
 -- why a run that writes records failed

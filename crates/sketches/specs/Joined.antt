@@ -1,5 +1,5 @@
 -- The records whose items are in a file of keys.
-use Rattle.std.specs.Prelude.{◌≡◌, ℕ, Bool, false, List, [], ◌∷◌, ◌++◌, Contains, Option, if◌then◌else◌}
+use Rattle.std.specs.Prelude.{◌≡◌, ℕ, Bool, List, [], ◌∷◌, ◌++◌, Contains, Option, if◌then◌else◌}
 use Rattle.std.specs.Io.KnownBytes.{Appends}
 use Rattle.std.specs.List.{AllZip, flat_map}
 use Rattle.sketch_bloom.specs.State.{FilterState}
@@ -10,6 +10,7 @@ use Rattle.sketches.specs.Reading.{AreFirstRecords}
 use Rattle.sketches.specs.RecordParts.{raws_by}
 use Rattle.sketch_base.specs.Records.{splits_by}
 use Rattle.sketches.specs.Unseen.{is_seen, item_of, with_items, written_of}
+use Rattle.sketches.specs.declared.ended_text.RecordForm.{RecordForm}
 use Rattle.sketch_base.specs.declared.record_part.RecordPart.{RecordPart}
 
 -- the keys in a file of keys: the items of its records
@@ -29,18 +30,18 @@ FindsKeys wanted part filter keys = (raw key : List ℕ) → Contains keys key �
 -- The writer received a header, and then those records of what was read of each input whose items the filter of all keys contains, or,
 -- unless `wanted`, the others. One that its input ends without a line feed gets one before the next. The filter is returned.
 -- What the run did is `are`, `written` and `returned`; `finds` is the law above for these keys.
-pub record WritesJoined (wanted : Bool) (part : RecordPart) (header : List ℕ) (filter filter' : FilterState) (keys : List (List ℕ)) (inputs : List (List ℕ)) (complete : Bool) (held holds : Option (List ℕ)) : Type 0 where
+pub record WritesJoined (form : RecordForm) (wanted : Bool) (part : RecordPart) (header : List ℕ) (filter filter' : FilterState) (keys : List (List ℕ)) (inputs : List (List ℕ)) (complete : Bool) (held holds : Option (List ℕ)) : Type 0 where
   pub read : List (List ℕ)
   pub are : AreRead (splits_by part) complete inputs read
-  pub written : Appends held holds (header ++ text_of false (joined_lines wanted part (with_items filter keys) (flat_map (raws_by part) read)))
+  pub written : Appends held holds (header ++ text_of form (joined_lines wanted part (with_items filter keys) (flat_map (raws_by part) read)))
   pub finds : FindsKeys wanted part (with_items filter keys) keys
   pub returned : filter' ≡ with_items filter keys
 
 -- The writer received the front of that, for what was read of the first of these inputs.
-pub record WritesSomeJoined (wanted : Bool) (part : RecordPart) (header : List ℕ) (filter : FilterState) (keys : List (List ℕ)) (inputs : List (List ℕ)) (held holds : Option (List ℕ)) : Type 0 where
+pub record WritesSomeJoined (form : RecordForm) (wanted : Bool) (part : RecordPart) (header : List ℕ) (filter : FilterState) (keys : List (List ℕ)) (inputs : List (List ℕ)) (held holds : Option (List ℕ)) : Type 0 where
   pub first : List (List ℕ)
   pub later : List (List ℕ)
   pub parts : inputs ≡ first ++ later
   pub read : List (List ℕ)
   pub fronts : AllZip (AreFirstRecords (splits_by part)) first read
-  pub written : WritesFront held holds (header ++ text_of false (joined_lines wanted part (with_items filter keys) (flat_map (raws_by part) read)))
+  pub written : WritesFront held holds (header ++ text_of form (joined_lines wanted part (with_items filter keys) (flat_map (raws_by part) read)))

@@ -17,18 +17,19 @@ use Rattle.sketches.specs.declared.exact_weights.ExactOptions.{ExactOptions}
 use Rattle.sketches.specs.declared.failure.Failure.{Failure}
 use Rattle.sketches.specs.declared.failure.Failure.TheVariants.{Memory, LineTooLong, TooManyItems, BadSize, BadWeight, Write}
 use Rattle.sketches.specs.declared.item_weigher.WeighedRecord.{WeighedRecord}
+use Rattle.sketches.specs.declared.layout.Style.{Style}
 
 -- ---- what is printed
 
 -- the line of each key: the sum of the weights of the items that are equal to it
-abbrev pub sum_lines : (escaped : Bool) → Weighed → List (List ℕ) → List ℕ
-sum_lines escaped items keys = flat_map (λ key. row_line escaped (weight_of items key, key)) keys
+abbrev pub sum_lines : Style → Weighed → List (List ℕ) → List ℕ
+sum_lines style items keys = flat_map (λ key. row_line style (weight_of items key, key)) keys
 
 -- all lines, for what was read of the inputs and the bytes of the file of keys
 abbrev pub sums_text : ExactOptions → (read : List (List ℕ)) → (keys : List ℕ) → List ℕ
 sums_text options read keys =
-    total_line options.header (total_of (weighed_in options.chosen read))
-    ++ sum_lines options.escaped (weighed_in options.chosen read) (parts_in options.keys_part keys)
+    total_line options.style options.header (total_of (weighed_in options.chosen read))
+    ++ sum_lines options.style (weighed_in options.chosen read) (parts_in options.keys_part keys)
 
 -- The writer received the total weight of what was read of the inputs, and the line of each key of the file, in its order. Each record
 -- of the inputs with an item has a weight that counts.
@@ -164,7 +165,7 @@ rows_at sums order = flat_map (λ index. row_of (slice_get sums index)) order
 
 -- the line of the total, and those rows
 abbrev pub rows_text : ExactOptions → (total : ℕ) → Sums → (order : List ℕ) → List ℕ
-rows_text options total sums order = total_line options.header total ++ flat_map (row_line options.escaped) (rows_at sums order)
+rows_text options total sums order = total_line options.style options.header total ++ flat_map (row_line options.style) (rows_at sums order)
 
 -- The first of these bytes were written, and the others stay. All were written if `least` is 0.
 pub record Sends (least : ℕ) (held : Option (List ℕ)) (bytes : List ℕ) (holds : Option (List ℕ)) (left : List ℕ) : Type 0 where

@@ -23,6 +23,7 @@ use Rattle.sketches.specs.WeighingLaws.{total_both}
 use Rattle.sketches.specs.declared.failure.Failure.{Failure}
 use Rattle.sketches.specs.declared.failure.Failure.TheVariants.{Memory, LineTooLong, TooManyItems, BadSize, BadWeight, Write}
 use Rattle.sketches.specs.declared.item_weigher.WeighedRecord.{WeighedRecord}
+use Rattle.sketches.specs.declared.layout.Style.{Style}
 use Rattle.sketch_base.specs.declared.record_part.RecordPart.{RecordPart}
 use Rattle.sketch_base.specs.declared.record_part.RecordPart.TheVariants as part
 
@@ -125,44 +126,44 @@ parts_append part read more whole = ap (flat_map (part_in part)) (records_both (
 
 -- ---- estimates that are written
 
-pub estimates_none : (escaped : Bool) (s : CountState) (held : Option (List ℕ)) → WritesEstimates escaped s [] held held
-estimates_none escaped s held = record { rows = []; keys_are = refl; estimates = All-nil (λ (row : Row). IsMinCell s (hashed row.1) (pos row.0)); wrote = appends_none held }
+pub estimates_none : (style : Style) (s : CountState) (held : Option (List ℕ)) → WritesEstimates style s [] held held
+estimates_none style s held = record { rows = []; keys_are = refl; estimates = All-nil (λ (row : Row). IsMinCell s (hashed row.1) (pos row.0)); wrote = appends_none held }
 
-pub estimates_both : (escaped : Bool) (s : CountState) (xs ys : List (List ℕ)) (a b c : Option (List ℕ)) → WritesEstimates escaped s xs a b → WritesEstimates escaped s ys b c → WritesEstimates escaped s (xs ++ ys) a c
-estimates_both escaped s xs ys a b c first second = record {
+pub estimates_both : (style : Style) (s : CountState) (xs ys : List (List ℕ)) (a b c : Option (List ℕ)) → WritesEstimates style s xs a b → WritesEstimates style s ys b c → WritesEstimates style s (xs ++ ys) a c
+estimates_both style s xs ys a b c first second = record {
   rows = first.rows ++ second.rows;
   keys_are =
       map-append (λ (row : Row). row.1) first.rows second.rows
       ∙ (ap (λ l. l ++ map (λ (row : Row). row.1) second.rows) first.keys_are ∙ ap (λ l. xs ++ l) second.keys_are);
   estimates = All-append (λ (row : Row). IsMinCell s (hashed row.1) (pos row.0)) first.rows second.rows first.estimates second.estimates;
-  wrote = subst (Appends a c) (sym (flat_map-append (row_line escaped) first.rows second.rows)) (appends_both a b c _ _ first.wrote second.wrote);
+  wrote = subst (Appends a c) (sym (flat_map-append (row_line style) first.rows second.rows)) (appends_both a b c _ _ first.wrote second.wrote);
 }
 
 -- what a sink that writes estimates does with records
-abbrev TakesKeys : (escaped escaped' : Bool) (s s' : CountState) (part part' : RecordPart) (held holds : Option (List ℕ)) → List ℕ → Type 0
-TakesKeys escaped escaped' s s' part part' held holds bytes =
-    WritesEstimates escaped s (parts_in part bytes) held holds × (s' ≡ s) × (part' ≡ part) × (escaped' ≡ escaped)
+abbrev TakesKeys : (style style' : Style) (s s' : CountState) (part part' : RecordPart) (held holds : Option (List ℕ)) → List ℕ → Type 0
+TakesKeys style style' s s' part part' held holds bytes =
+    WritesEstimates style s (parts_in part bytes) held holds × (s' ≡ s) × (part' ≡ part) × (style' ≡ style)
 
-pub keys_none : (escaped : Bool) (s : CountState) (part : RecordPart) (held : Option (List ℕ)) → TakesKeys escaped escaped s s part part held held []
-keys_none escaped s part held = rw (records_none part) (estimates_none escaped s held, refl, refl, refl)
+pub keys_none : (style : Style) (s : CountState) (part : RecordPart) (held : Option (List ℕ)) → TakesKeys style style s s part part held held []
+keys_none style s part held = rw (records_none part) (estimates_none style s held, refl, refl, refl)
 
-pub keys_both : (xs ys : List ℕ) (d e f : Bool) (a b c : CountState) (p q r : RecordPart) → AreWholeRecords (splits_by p) xs → (held mid holds : Option (List ℕ)) → TakesKeys d e a b p q held mid xs → TakesKeys e f b c q r mid holds ys → TakesKeys d f a c p r held holds (xs ++ ys)
-keys_both xs ys d e f a b c p q r whole held mid holds (first, same, same_part, same_escaped) (second, same', same_part', same_escaped') = (
+pub keys_both : (xs ys : List ℕ) (d e f : Style) (a b c : CountState) (p q r : RecordPart) → AreWholeRecords (splits_by p) xs → (held mid holds : Option (List ℕ)) → TakesKeys d e a b p q held mid xs → TakesKeys e f b c q r mid holds ys → TakesKeys d f a c p r held holds (xs ++ ys)
+keys_both xs ys d e f a b c p q r whole held mid holds (first, same, same_part, same_style) (second, same', same_part', same_style') = (
   subst (λ l. WritesEstimates d a l held holds) (sym (parts_append p xs ys whole))
       (estimates_both d a (parts_in p xs) (parts_in p ys) held mid holds first
       (subst (λ (t : RecordPart). WritesEstimates d a (parts_in t ys) mid holds) same_part
       (subst (λ (t : CountState). WritesEstimates d t (parts_in q ys) mid holds) same
-      (subst (λ (t : Bool). WritesEstimates t b (parts_in q ys) mid holds) same_escaped second)))),
+      (subst (λ (t : Style). WritesEstimates t b (parts_in q ys) mid holds) same_style second)))),
   same' ∙ same,
   same_part' ∙ same_part,
-  same_escaped' ∙ same_escaped,
+  same_style' ∙ same_style,
 )
 
 -- ---- the front of estimates
 
 -- nothing was written
-pub some_none : (escaped : Bool) (s : CountState) (keys : List (List ℕ)) (held : Option (List ℕ)) → WritesSomeEstimates escaped s keys held held
-some_none escaped s keys held = record {
+pub some_none : (style : Style) (s : CountState) (keys : List (List ℕ)) (held : Option (List ℕ)) → WritesSomeEstimates style s keys held held
+some_none style s keys held = record {
   first = [];
   later = keys;
   parts = refl;
@@ -173,8 +174,8 @@ some_none escaped s keys held = record {
 }
 
 -- the front of the lines of these keys was written
-pub some_front : (escaped : Bool) (s : CountState) (keys : List (List ℕ)) (a b : Option (List ℕ)) (text : List ℕ) → WritesEstimates escaped s keys (Some []) (Some text) → WritesFront a b text → WritesSomeEstimates escaped s keys a b
-some_front escaped s keys a b text all front = record {
+pub some_front : (style : Style) (s : CountState) (keys : List (List ℕ)) (a b : Option (List ℕ)) (text : List ℕ) → WritesEstimates style s keys (Some []) (Some text) → WritesFront a b text → WritesSomeEstimates style s keys a b
+some_front style s keys a b text all front = record {
   first = keys;
   later = [];
   parts = sym (append-nil keys);
@@ -185,8 +186,8 @@ some_front escaped s keys a b text all front = record {
 }
 
 -- all of the lines of these keys were written
-pub some_whole : (escaped : Bool) (s : CountState) (keys : List (List ℕ)) (a b : Option (List ℕ)) → WritesEstimates escaped s keys a b → WritesSomeEstimates escaped s keys a b
-some_whole escaped s keys a b all = record {
+pub some_whole : (style : Style) (s : CountState) (keys : List (List ℕ)) (a b : Option (List ℕ)) → WritesEstimates style s keys a b → WritesSomeEstimates style s keys a b
+some_whole style s keys a b all = record {
   first = keys;
   later = [];
   parts = sym (append-nil keys);
@@ -196,8 +197,8 @@ some_whole escaped s keys a b all = record {
   wrote = front_all a b _ all.wrote;
 }
 
-some_more : (escaped : Bool) (s : CountState) (keys more : List (List ℕ)) (a b : Option (List ℕ)) → WritesSomeEstimates escaped s keys a b → WritesSomeEstimates escaped s (keys ++ more) a b
-some_more escaped s keys more a b so = record {
+some_more : (style : Style) (s : CountState) (keys more : List (List ℕ)) (a b : Option (List ℕ)) → WritesSomeEstimates style s keys a b → WritesSomeEstimates style s (keys ++ more) a b
+some_more style s keys more a b so = record {
   first = so.first;
   later = so.later ++ more;
   parts = ap (λ l. l ++ more) so.parts ∙ append_assoc so.first so.later more;
@@ -207,8 +208,8 @@ some_more escaped s keys more a b so = record {
   wrote = so.wrote;
 }
 
-pub some_after : (escaped : Bool) (s : CountState) (xs ys : List (List ℕ)) (a b c : Option (List ℕ)) → WritesEstimates escaped s xs a b → WritesSomeEstimates escaped s ys b c → WritesSomeEstimates escaped s (xs ++ ys) a c
-some_after escaped s xs ys a b c all so = record {
+pub some_after : (style : Style) (s : CountState) (xs ys : List (List ℕ)) (a b c : Option (List ℕ)) → WritesEstimates style s xs a b → WritesSomeEstimates style s ys b c → WritesSomeEstimates style s (xs ++ ys) a c
+some_after style s xs ys a b c all so = record {
   first = xs ++ so.first;
   later = so.later;
   parts = ap (λ l. xs ++ l) so.parts ∙ sym (append_assoc xs so.first so.later);
@@ -217,17 +218,17 @@ some_after escaped s xs ys a b c all so = record {
       map-append (λ (row : Row). row.1) all.rows so.rows
       ∙ (ap (λ l. l ++ map (λ (row : Row). row.1) so.rows) all.keys_are ∙ ap (λ l. xs ++ l) so.keys_are);
   estimates = All-append (λ (row : Row). IsMinCell s (hashed row.1) (pos row.0)) all.rows so.rows all.estimates so.estimates;
-  wrote = subst (WritesFront a c) (sym (flat_map-append (row_line escaped) all.rows so.rows)) (front_after a b c _ _ all.wrote so.wrote);
+  wrote = subst (WritesFront a c) (sym (flat_map-append (row_line style) all.rows so.rows)) (front_after a b c _ _ all.wrote so.wrote);
 }
 
-pub some_sooner : (xs ys : List ℕ) (d : Bool) (a : CountState) (p : RecordPart) → AreWholeRecords (splits_by p) xs → (held holds : Option (List ℕ)) → WritesSomeEstimates d a (parts_in p xs) held holds → WritesSomeEstimates d a (parts_in p (xs ++ ys)) held holds
+pub some_sooner : (xs ys : List ℕ) (d : Style) (a : CountState) (p : RecordPart) → AreWholeRecords (splits_by p) xs → (held holds : Option (List ℕ)) → WritesSomeEstimates d a (parts_in p xs) held holds → WritesSomeEstimates d a (parts_in p (xs ++ ys)) held holds
 some_sooner xs ys d a p whole held holds so =
     subst (λ l. WritesSomeEstimates d a l held holds) (sym (parts_append p xs ys whole)) (some_more d a (parts_in p xs) (parts_in p ys) held holds so)
 
-pub some_later : (xs ys : List ℕ) (d e : Bool) (a b : CountState) (p q : RecordPart) → AreWholeRecords (splits_by p) xs → (held mid holds : Option (List ℕ)) → TakesKeys d e a b p q held mid xs → WritesSomeEstimates e b (parts_in q ys) mid holds → WritesSomeEstimates d a (parts_in p (xs ++ ys)) held holds
-some_later xs ys d e a b p q whole held mid holds (first, same, same_part, same_escaped) so =
+pub some_later : (xs ys : List ℕ) (d e : Style) (a b : CountState) (p q : RecordPart) → AreWholeRecords (splits_by p) xs → (held mid holds : Option (List ℕ)) → TakesKeys d e a b p q held mid xs → WritesSomeEstimates e b (parts_in q ys) mid holds → WritesSomeEstimates d a (parts_in p (xs ++ ys)) held holds
+some_later xs ys d e a b p q whole held mid holds (first, same, same_part, same_style) so =
     subst (λ l. WritesSomeEstimates d a l held holds) (sym (parts_append p xs ys whole))
     (some_after d a (parts_in p xs) (parts_in p ys) held mid holds first
     (subst (λ (t : RecordPart). WritesSomeEstimates d a (parts_in t ys) mid holds) same_part
     (subst (λ (t : CountState). WritesSomeEstimates d t (parts_in q ys) mid holds) same
-    (subst (λ (t : Bool). WritesSomeEstimates t b (parts_in q ys) mid holds) same_escaped so))))
+    (subst (λ (t : Style). WritesSomeEstimates t b (parts_in q ys) mid holds) same_style so))))

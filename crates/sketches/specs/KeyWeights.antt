@@ -12,6 +12,7 @@ use Rattle.sketch_countmin.specs.Sizes.{IsETimesWithin, IsWithinPowerOfE}
 use Rattle.sketch_countmin.specs.Stands.{Extends, StandsFor}
 use Rattle.sketch_countmin.specs.State.{CountState, IsMinCell, empty_state}
 use Rattle.sketches.specs.Inputs.{AreRead}
+use Rattle.sketches.specs.Json.{json_lossy}
 use Rattle.sketches.specs.Outputs.{WritesFront}
 use Rattle.sketches.specs.Reading.{AreFirstRecords}
 use Rattle.sketch_base.specs.Decimals.{number_in}
@@ -21,6 +22,8 @@ use Rattle.sketches.specs.Unseen.{hashed}
 use Rattle.sketches.specs.Weighed.{Weighed, total_of, weight_of, without_weight}
 use Rattle.sketches.specs.Weights.{taken_weight}
 use Rattle.sketches.specs.declared.item_weigher.WeighedRecord.{WeighedRecord}
+use Rattle.sketches.specs.declared.layout.Style.{Style}
+use Rattle.sketches.specs.declared.layout.Style.TheVariants.{Plain, Escaped, Json}
 use Rattle.sketch_base.specs.declared.record_part.RecordPart.{RecordPart}
 use Rattle.sketches.specs.declared.weigh.WeighOptions.{WeighOptions}
 
@@ -110,30 +113,38 @@ pub record IsEmptyTable (parts questions seed : ℕ) (s : CountState) : Type 0 w
 abbrev pub Row : Type 0
 Row = ℕ × List ℕ
 
--- the line of a key: its number, a tab and the key, which may be escaped
-abbrev pub row_line : (escaped : Bool) → Row → List ℕ
-row_line escaped row = decimal row.0 ++ codes "\t" ++ (if escaped then text_escaped row.1 else row.1) ++ codes "\n"
+-- the line of a key: its number, a tab and the key, which may be escaped, or a JSON object
+abbrev pub row_line : Style → Row → List ℕ
+row_line Plain row = decimal row.0 ++ codes "\t" ++ row.1 ++ codes "\n"
+row_line Escaped row = decimal row.0 ++ codes "\t" ++ text_escaped row.1 ++ codes "\n"
+row_line Json row = codes "{\"weight\":" ++ decimal row.0 ++ codes ",\"item\":\"" ++ json_lossy row.1 ++ codes "\"}\n"
 
--- the first line, if it is wanted: the total weight
-abbrev pub total_line : Bool → ℕ → List ℕ
-total_line wanted total = if wanted then codes "# total " ++ decimal total ++ codes "\n" else []
+-- the line of the total weight
+abbrev pub total_in : Style → ℕ → List ℕ
+total_in Plain total = codes "# total " ++ decimal total ++ codes "\n"
+total_in Escaped total = codes "# total " ++ decimal total ++ codes "\n"
+total_in Json total = codes "{\"total\":" ++ decimal total ++ codes "}\n"
+
+-- the first line, if it is wanted
+abbrev pub total_line : Style → Bool → ℕ → List ℕ
+total_line style wanted total = if wanted then total_in style total else []
 
 -- The lines of these keys were written, in order, each with the estimate of a sketch.
-pub record WritesEstimates (escaped : Bool) (s : CountState) (keys : List (List ℕ)) (held holds : Option (List ℕ)) : Type 0 where
+pub record WritesEstimates (style : Style) (s : CountState) (keys : List (List ℕ)) (held holds : Option (List ℕ)) : Type 0 where
   pub rows : List Row
   pub keys_are : map (λ row. row.1) rows ≡ keys
   pub estimates : All (λ row. IsMinCell s (hashed row.1) (pos row.0)) rows
-  pub wrote : Appends held holds (flat_map (row_line escaped) rows)
+  pub wrote : Appends held holds (flat_map (row_line style) rows)
 
 -- The same for the first of these keys, of whose lines the front was written.
-pub record WritesSomeEstimates (escaped : Bool) (s : CountState) (keys : List (List ℕ)) (held holds : Option (List ℕ)) : Type 0 where
+pub record WritesSomeEstimates (style : Style) (s : CountState) (keys : List (List ℕ)) (held holds : Option (List ℕ)) : Type 0 where
   pub first : List (List ℕ)
   pub later : List (List ℕ)
   pub parts : keys ≡ first ++ later
   pub rows : List Row
   pub keys_are : map (λ row. row.1) rows ≡ first
   pub estimates : All (λ row. IsMinCell s (hashed row.1) (pos row.0)) rows
-  pub wrote : WritesFront held holds (flat_map (row_line escaped) rows)
+  pub wrote : WritesFront held holds (flat_map (row_line style) rows)
 
 -- The number is at least the weight of the key, and at most the total of all weights. It is the least, over the rows, of the weight
 -- of all items in the key's bucket. So it is exact if some row has no other item in that bucket. `below` and `reached` fix the number;
@@ -161,7 +172,7 @@ pub record WritesWeights {E : Type 0} (options : WeighOptions) (inputs : List (L
   pub weights : All (IsWeightOf hashes buckets (usable_seed options.seed) (weighed_in options.chosen read)) rows
   pub wrote :
       Appends held holds
-      (total_line options.header (total_of (weighed_in options.chosen read)) ++ flat_map (row_line options.escaped) rows)
+      (total_line options.style options.header (total_of (weighed_in options.chosen read)) ++ flat_map (row_line options.style) rows)
 
 -- The writer received the front of that. The front has lines of the first keys of the file.
 pub record WritesSomeWeights (options : WeighOptions) (inputs : List (List ℕ)) (keys : List ℕ) (held holds : Option (List ℕ)) : Type 0 where
@@ -180,4 +191,4 @@ pub record WritesSomeWeights (options : WeighOptions) (inputs : List (List ℕ))
   pub weights : All (IsWeightOf hashes buckets (usable_seed options.seed) (weighed_in options.chosen read)) rows
   pub wrote :
       WritesFront held holds
-      (total_line options.header (total_of (weighed_in options.chosen read)) ++ flat_map (row_line options.escaped) rows)
+      (total_line options.style options.header (total_of (weighed_in options.chosen read)) ++ flat_map (row_line options.style) rows)

@@ -16,6 +16,7 @@ pub mod JoinFailures
 pub mod Joined
 pub mod JoinedLaws
 pub mod Json
+pub mod JsonLaws
 pub mod KeySumLaws
 pub mod KeySums
 pub mod KeyWeightLaws
@@ -28,6 +29,7 @@ pub mod RecordParts
 pub mod Reports
 pub mod SaveFailures
 pub mod Shown
+pub mod TextEscapeLaws
 pub mod TextEscapes
 pub mod Thresholds
 pub mod Unseen

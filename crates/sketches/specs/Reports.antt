@@ -128,11 +128,11 @@ Counts options read s =
     AddsWeighed (empty_state options.size (max_sample_size options.size) options.key) (flat_map (weighed_of options.weighing) read) s
 
 -- The text is a report on the items of what was read of the inputs, whose records all have weights. Its error is that of the sketch
--- that counts them. If exact numbers are wanted, it is 0. The summary has the number of these records that are not UTF-8.
+-- that counts them. If exact numbers are wanted, it is 0. The summary has the number of these records whose items are not UTF-8.
 abbrev pub IsReport : Options → List (List ℕ) → Summary → List ℕ → Type 0
 IsReport options inputs summary text =
     (read : List (List ℕ)) × (s : Sketch) × (rows : List Row) × AreRead (splits_of options.weighing) summary.complete inputs read
-    × (summary.not_utf8 ≡ min (not_utf8_in (flat_map (records_of options.weighing) read)) (2 ^ 64 - 1))
+    × (summary.not_utf8 ≡ min (not_utf8_in options.weighing (flat_map (records_of options.weighing) read)) (2 ^ 64 - 1))
     × (flat_map (unweighed_of options.weighing) read ≡ []) × Counts options read s
     × (text ≡ report_text options.layout s.error (total_of (flat_map (weighed_of options.weighing) read)) rows)
     × Reports (flat_map (weighed_of options.weighing) read) options.size options.threshold options.rows s.error rows

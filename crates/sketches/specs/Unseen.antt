@@ -11,6 +11,7 @@ use Rattle.sketches.specs.Outputs.{WritesFront}
 use Rattle.sketches.specs.Reading.{AreFirstRecords}
 use Rattle.sketches.specs.RecordParts.{raws_by}
 use Rattle.sketch_base.specs.Records.{part_in, records_by, splits_by}
+use Rattle.sketches.specs.declared.ended_text.RecordForm.{RecordForm}
 use Rattle.sketch_base.specs.declared.record_part.RecordPart.{RecordPart}
 
 -- the item of a record with its end: a part of the record without it, if the record has this part
@@ -69,18 +70,18 @@ AreFirst part filter raws =
 -- The writer received a header, and then the records of what was read of each input whose items were not seen before, or, with
 -- `repeated`, the others. One that its input ends without a line feed gets one before the next. The filter has taken the items of all
 -- records that were read. What the run did is `are`, `written` and `kept`; `first` is the law above for these records.
-pub record WritesUnseen (repeated : Bool) (part : RecordPart) (header : List ℕ) (filter filter' : FilterState) (inputs : List (List ℕ)) (complete : Bool) (held holds : Option (List ℕ)) : Type 0 where
+pub record WritesUnseen (form : RecordForm) (repeated : Bool) (part : RecordPart) (header : List ℕ) (filter filter' : FilterState) (inputs : List (List ℕ)) (complete : Bool) (held holds : Option (List ℕ)) : Type 0 where
   pub read : List (List ℕ)
   pub are : AreRead (splits_by part) complete inputs read
-  pub written : Appends held holds (header ++ text_of false (unseen_lines repeated part filter (flat_map (raws_by part) read)))
+  pub written : Appends held holds (header ++ text_of form (unseen_lines repeated part filter (flat_map (raws_by part) read)))
   pub first : AreFirst part filter (flat_map (raws_by part) read)
   pub kept : filter' ≡ with_lines part filter (flat_map (raws_by part) read)
 
 -- The writer received the front of that, for what was read of the first of these inputs.
-pub record WritesSomeUnseen (repeated : Bool) (part : RecordPart) (header : List ℕ) (filter : FilterState) (inputs : List (List ℕ)) (held holds : Option (List ℕ)) : Type 0 where
+pub record WritesSomeUnseen (form : RecordForm) (repeated : Bool) (part : RecordPart) (header : List ℕ) (filter : FilterState) (inputs : List (List ℕ)) (held holds : Option (List ℕ)) : Type 0 where
   pub first : List (List ℕ)
   pub later : List (List ℕ)
   pub parts : inputs ≡ first ++ later
   pub read : List (List ℕ)
   pub fronts : AllZip (AreFirstRecords (splits_by part)) first read
-  pub written : WritesFront held holds (header ++ text_of false (unseen_lines repeated part filter (flat_map (raws_by part) read)))
+  pub written : WritesFront held holds (header ++ text_of form (unseen_lines repeated part filter (flat_map (raws_by part) read)))

@@ -8,13 +8,14 @@ use Rattle.std.specs.Prelude.{if◌then◌else◌}
 use Rattle.sketch_base.proofs.CsvBoth.{raw_csv_both}
 use Rattle.sketch_bloom.specs.State.{FilterState, all_inserted, inserted}
 use Rattle.sketches.specs.Appending.{front_after, front_more, front_same}
-use Rattle.sketches.specs.EndedText.{Prints, is_unended_after, prints_none, prints_both, text_both, text_of}
+use Rattle.sketches.specs.EndedText.{Prints, form_after_all, prints_none, prints_both, text_both, text_of}
 use Rattle.sketches.specs.Outputs.{WritesFront}
 use Rattle.sketches.specs.RawLines.{raw_lines, raw_lines_of_parts}
 use Rattle.sketches.specs.Reading.{AreWholeLines, AreWholeRecords}
 use Rattle.sketches.specs.RecordParts.{raw_records_in, raws_by}
 use Rattle.sketch_base.specs.Records.{splits_by}
 use Rattle.sketches.specs.Unseen.{hashed, is_seen, is_written, item_of, unseen_lines, with_items, with_lines}
+use Rattle.sketches.specs.declared.ended_text.RecordForm.{RecordForm}
 use Rattle.sketch_base.specs.declared.record_part.RecordPart.{RecordPart}
 use Rattle.sketch_base.specs.declared.record_part.RecordPart.TheVariants as part
 use Rattle.sketch_base.specs.declared.records.Records.{Records}
@@ -102,15 +103,15 @@ unseen_both repeated part filter (raw ∷ xs) ys =
 -- ---- the laws of a sink that writes unseen records
 
 -- what the sink does with records
-abbrev TakesUnseen : (repeated : Bool) (part : RecordPart) (filter filter' : FilterState) (held holds : Option (List ℕ)) (unended unended' : Bool) → List ℕ → (part' : RecordPart) (repeated' : Bool) → Type 0
-TakesUnseen repeated part filter filter' held holds unended unended' bytes part' repeated' =
-    (filter' ≡ with_lines part filter (raws_by part bytes)) × Prints held holds unended unended' (unseen_lines repeated part filter (raws_by part bytes)) × (part' ≡ part) × (repeated' ≡ repeated)
+abbrev TakesUnseen : (repeated : Bool) (part : RecordPart) (filter filter' : FilterState) (held holds : Option (List ℕ)) (form form' : RecordForm) → List ℕ → (part' : RecordPart) (repeated' : Bool) → Type 0
+TakesUnseen repeated part filter filter' held holds form form' bytes part' repeated' =
+    (filter' ≡ with_lines part filter (raws_by part bytes)) × Prints held holds form form' (unseen_lines repeated part filter (raws_by part bytes)) × (part' ≡ part) × (repeated' ≡ repeated)
 
-pub takes_nothing : (filter : FilterState) (part : RecordPart) (repeated : Bool) (held : Option (List ℕ)) (unended : Bool)
-    → TakesUnseen repeated part filter filter held held unended unended [] part repeated
-takes_nothing filter part repeated held unended = rw (raws_none part) (refl, prints_none held unended, refl, refl)
+pub takes_nothing : (filter : FilterState) (part : RecordPart) (repeated : Bool) (held : Option (List ℕ)) (form : RecordForm)
+    → TakesUnseen repeated part filter filter held held form form [] part repeated
+takes_nothing filter part repeated held form = rw (raws_none part) (refl, prints_none held form, refl, refl)
 
-pub takes_lines : (xs ys : List ℕ) (r : Bool) (p : RecordPart) → AreWholeRecords (splits_by p) xs → (r' : Bool) (p' : RecordPart) (r'' : Bool) (p'' : RecordPart) (a b c : FilterState) (held mid holds : Option (List ℕ)) (o o' o'' : Bool)
+pub takes_lines : (xs ys : List ℕ) (r : Bool) (p : RecordPart) → AreWholeRecords (splits_by p) xs → (r' : Bool) (p' : RecordPart) (r'' : Bool) (p'' : RecordPart) (a b c : FilterState) (held mid holds : Option (List ℕ)) (o o' o'' : RecordForm)
     → TakesUnseen r p a b held mid o o' xs p' r' → TakesUnseen r' p' b c mid holds o' o'' ys p'' r'' → TakesUnseen r p a c held holds o o'' (xs ++ ys) p'' r''
 takes_lines xs ys r p whole r' p' r'' p'' a b c held mid holds o o' o'' (filter, text, same_part, same_repeated) (filter', text', same_part', same_repeated') =
     let here : List (List ℕ) = raws_by p xs in
@@ -127,7 +128,7 @@ takes_lines xs ys r p whole r' p' r'' p'' a b c held mid holds o o' o'' (filter,
     )
 
 -- the front of what is written of whole records is that of what is written if records follow
-pub front_sooner : (xs ys : List ℕ) (r : Bool) (p : RecordPart) → AreWholeRecords (splits_by p) xs → (a : FilterState) (held holds : Option (List ℕ)) (o : Bool)
+pub front_sooner : (xs ys : List ℕ) (r : Bool) (p : RecordPart) → AreWholeRecords (splits_by p) xs → (a : FilterState) (held holds : Option (List ℕ)) (o : RecordForm)
     → WritesFront held holds (text_of o (unseen_lines r p a (raws_by p xs))) → WritesFront held holds (text_of o (unseen_lines r p a (raws_by p (xs ++ ys))))
 front_sooner xs ys r p whole a held holds o front =
     let here : List (List ℕ) = raws_by p xs in
@@ -137,31 +138,31 @@ front_sooner xs ys r p whole a held holds o front =
     front_same held holds _ _ (sym (ap (text_of o) both ∙ text_both o (unseen_lines r p a here) (unseen_lines r p (with_lines p a here) there))) (front_more held holds _ _ front)
 
 -- after whole records, the front of what is written of the records after them
-pub front_later : (xs ys : List ℕ) (r : Bool) (p : RecordPart) → AreWholeRecords (splits_by p) xs → (r' : Bool) (p' : RecordPart) (a b : FilterState) (held mid holds : Option (List ℕ)) (o o' : Bool)
+pub front_later : (xs ys : List ℕ) (r : Bool) (p : RecordPart) → AreWholeRecords (splits_by p) xs → (r' : Bool) (p' : RecordPart) (a b : FilterState) (held mid holds : Option (List ℕ)) (o o' : RecordForm)
     → TakesUnseen r p a b held mid o o' xs p' r' → WritesFront mid holds (text_of o' (unseen_lines r' p' b (raws_by p' ys))) → WritesFront held holds (text_of o (unseen_lines r p a (raws_by p (xs ++ ys))))
-front_later xs ys r p whole r' p' a b held mid holds o o' (filter, (text, unended), same_part, same_repeated) front =
+front_later xs ys r p whole r' p' a b held mid holds o o' (filter, (text, form), same_part, same_repeated) front =
     let here : List (List ℕ) = raws_by p xs in
     let there : List (List ℕ) = raws_by p ys in
     let both : unseen_lines r p a (raws_by p (xs ++ ys)) ≡ unseen_lines r p a here ++ unseen_lines r p (with_lines p a here) there =
     ap (unseen_lines r p a) (raw_records_both (splits_by p) xs ys whole) ∙ unseen_both r p a here there in
     let more : unseen_lines r' p' b (raws_by p' ys) ≡ unseen_lines r p (with_lines p a here) there =
     ap (λ (q : Bool). unseen_lines q p' b (raws_by p' ys)) same_repeated ∙ (ap (λ (q : RecordPart). unseen_lines r q b (raws_by q ys)) same_part ∙ ap (λ (s : FilterState). unseen_lines r p s there) filter) in
-    let later : text_of o' (unseen_lines r' p' b (raws_by p' ys)) ≡ text_of (is_unended_after o (unseen_lines r p a here)) (unseen_lines r p (with_lines p a here) there) =
-    ap (λ (u : Bool). text_of u (unseen_lines r' p' b (raws_by p' ys))) unended ∙ ap (text_of (is_unended_after o (unseen_lines r p a here))) more in
+    let later : text_of o' (unseen_lines r' p' b (raws_by p' ys)) ≡ text_of (form_after_all o (unseen_lines r p a here)) (unseen_lines r p (with_lines p a here) there) =
+    ap (λ (u : RecordForm). text_of u (unseen_lines r' p' b (raws_by p' ys))) form ∙ ap (text_of (form_after_all o (unseen_lines r p a here))) more in
     front_same held holds _ _ (sym (ap (text_of o) both ∙ text_both o (unseen_lines r p a here) (unseen_lines r p (with_lines p a here) there)))
     (front_after held mid holds _ _ text (front_same mid holds _ _ later front))
 
 -- ---- the same of records that are taken apart
 
-pub takes_no_lines : (filter : FilterState) (part : RecordPart) (repeated : Bool) (own : RecordPart) (held : List ℕ) (unended : Bool)
-    → (filter ≡ with_lines part filter []) × Prints (Some held) (Some held) unended unended (unseen_lines repeated part filter []) × (own ≡ own) × (repeated ≡ repeated)
-takes_no_lines filter part repeated own held unended = (refl, prints_none (Some held) unended, refl, refl)
+pub takes_no_lines : (filter : FilterState) (part : RecordPart) (repeated : Bool) (own : RecordPart) (held : List ℕ) (form : RecordForm)
+    → (filter ≡ with_lines part filter []) × Prints (Some held) (Some held) form form (unseen_lines repeated part filter []) × (own ≡ own) × (repeated ≡ repeated)
+takes_no_lines filter part repeated own held form = (refl, prints_none (Some held) form, refl, refl)
 
-abbrev TakesParted : (part : RecordPart) (repeated : Bool) (own : RecordPart) (filter filter' : FilterState) (held holds : List ℕ) (unended unended' : Bool) → List (List ℕ) → (own' : RecordPart) (repeated' : Bool) → Type 0
-TakesParted part repeated own filter filter' held holds unended unended' raws own' repeated' =
-    (filter' ≡ with_lines part filter raws) × Prints (Some held) (Some holds) unended unended' (unseen_lines repeated part filter raws) × (own' ≡ own) × (repeated' ≡ repeated)
+abbrev TakesParted : (part : RecordPart) (repeated : Bool) (own : RecordPart) (filter filter' : FilterState) (held holds : List ℕ) (form form' : RecordForm) → List (List ℕ) → (own' : RecordPart) (repeated' : Bool) → Type 0
+TakesParted part repeated own filter filter' held holds form form' raws own' repeated' =
+    (filter' ≡ with_lines part filter raws) × Prints (Some held) (Some holds) form form' (unseen_lines repeated part filter raws) × (own' ≡ own) × (repeated' ≡ repeated)
 
-pub takes_more_lines : (xs ys : List (List ℕ)) (part : RecordPart) (r : Bool) (p : RecordPart) (r' : Bool) (p' : RecordPart) (r'' : Bool) (p'' : RecordPart) (a b c : FilterState) (held mid holds : List ℕ) (o o' o'' : Bool)
+pub takes_more_lines : (xs ys : List (List ℕ)) (part : RecordPart) (r : Bool) (p : RecordPart) (r' : Bool) (p' : RecordPart) (r'' : Bool) (p'' : RecordPart) (a b c : FilterState) (held mid holds : List ℕ) (o o' o'' : RecordForm)
     → TakesParted part r p a b held mid o o' xs p' r' → TakesParted part r' p' b c mid holds o' o'' ys p'' r'' → TakesParted part r p a c held holds o o'' (xs ++ ys) p'' r''
 takes_more_lines xs ys part r p r' p' r'' p'' a b c held mid holds o o' o'' (filter, text, same_part, same_repeated) (filter', text', same_part', same_repeated') =
     let more : unseen_lines r' part b ys ≡ unseen_lines r part (with_lines part a xs) ys =

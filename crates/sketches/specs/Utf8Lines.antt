@@ -1,11 +1,32 @@
--- How many lines are not UTF-8.
-use Rattle.std.specs.Prelude.{◌≡◌, ℕ, ◌+◌, ◌-◌, ◌^◌, List, min, not}
-use Rattle.std.specs.List.{count_by}
+-- How many records have items that are not UTF-8.
+use Rattle.std.specs.Prelude.{◌≡◌, ℕ, ◌+◌, ◌-◌, ◌^◌, List, [], ◌∷◌, min, not, if◌then◌else◌}
+use Rattle.std.specs.List.{count_by, list_all}
 use Rattle.std.specs.Str.{is_utf8}
+use Rattle.sketch_base.specs.Csv.{field_text}
+use Rattle.sketch_base.specs.Records.{part_of}
+use Rattle.sketches.specs.declared.selection.Selection.{Selection}
+use Rattle.sketches.specs.declared.selection.Selection.TheVariants as selection
+use Rattle.sketches.specs.declared.weighing.Weighing.{Weighing}
+use Rattle.sketches.specs.declared.weighing.Weighing.TheVariants as weighing
 
--- the number of lines whose bytes are not UTF-8
-abbrev pub not_utf8_in : List (List ℕ) → ℕ
-not_utf8_in lines = count_by (λ line. not (is_utf8 line)) lines
+-- the bytes of a line that its items are made of: its words are made of the whole line
+abbrev pub bytes_of_line : Selection → List ℕ → List (List ℕ)
+bytes_of_line selection.Words line = line ∷ []
+bytes_of_line (selection.Part part) line = part_of part line
+
+-- the bytes of a record that its items are made of
+abbrev pub bytes_of : Weighing → List ℕ → List (List ℕ)
+bytes_of (weighing.Once chosen) line = bytes_of_line chosen line
+bytes_of (weighing.Field part) line = part_of part.item line
+bytes_of (weighing.Csv part) row = field_text part.delimiter part.item row
+
+-- the number of records with items that are made of bytes that are not UTF-8
+abbrev pub not_utf8_in : Weighing → List (List ℕ) → ℕ
+not_utf8_in chosen records = count_by (λ row. not (list_all is_utf8 (bytes_of chosen row))) records
+
+-- the same of one item
+abbrev pub not_utf8_of : List ℕ → ℕ
+not_utf8_of item = if is_utf8 item then 0 else 1
 
 -- a number grew by `count`, up to `u64::MAX`
 abbrev pub GrowsBy : (old count new : ℕ) → Type 0

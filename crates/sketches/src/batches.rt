@@ -100,7 +100,7 @@ pub fn write_batch(
     written: &mut EndedText,
 ) -> Result<u64, Failure>
     requires { length answers.now ≡ length raws.now }
-    ensures written { OnOk result (Prints (Some written.old.bytes.items) (Some written.new.bytes.items) written.old.unended written.new.unended
+    ensures written { OnOk result (Prints (Some written.old.bytes.items) (Some written.new.bytes.items) written.old.form written.new.form
         (written_by wanted answers.now (strings_at raws.now))) }
     ensures failed { IfErr result (λ failure. failure ≡ Failure.Memory) }
 {

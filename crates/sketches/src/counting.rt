@@ -27,15 +27,15 @@ pub struct ItemCounter {
     pub weighing: Weighing,
     /// The number of lines of this input that were taken, if weights stand in them.
     pub count: u64,
-    /// The number of records that are not UTF-8, at most `u64::MAX`.
+    /// The number of records whose items are not UTF-8, at most `u64::MAX`.
     pub not_utf8: u64,
     /// The number of records that have an item and no weight, and whose weight is 0, at most `u64::MAX`.
     pub unweighed: u64,
 }
 
 impl ItemCounter {
-    /// Returns the number of lines that are not UTF-8, at most `u64::MAX`.
-    pub fn lines_not_utf8(&self) -> u64
+    /// Returns the number of records whose items are not UTF-8, at most `u64::MAX`.
+    pub fn records_not_utf8(&self) -> u64
         ensures { result ≡ self.now.not_utf8 }
     {
         self.not_utf8
@@ -51,7 +51,7 @@ impl LineSink<()> for ItemCounter {
     ghost splits = { λ s. splits_of s.weighing };
 
     ghost takes = { λ old bytes new. (AddsLines old.0.weighing old.0.sketch bytes new.0.sketch
-        × (new.0.weighing ≡ old.0.weighing)) × GrowsBy old.0.not_utf8 (not_utf8_in (records_of old.0.weighing bytes)) new.0.not_utf8 };
+        × (new.0.weighing ≡ old.0.weighing)) × GrowsBy old.0.not_utf8 (not_utf8_in old.0.weighing (records_of old.0.weighing bytes)) new.0.not_utf8 };
 
     ghost fails = { λ old bytes new failure. FailsLines old.0.weighing old.0.sketch bytes failure };
 
@@ -109,7 +109,7 @@ impl LineSink<()> for ItemCounter {
     }
 }
 
-/// Adds 1 to the weight of each item of the lines of bytes. Increments `not_utf8` for each line that is not UTF-8.
+/// Adds 1 to the weight of each item of the lines of bytes. Increments `not_utf8` for each line whose items are not UTF-8.
 fn add_once(
     alloc: Global,
     sketch: &mut FrequentItemsSketch<String>,
@@ -119,12 +119,12 @@ fn add_once(
 ) -> Result<(), Failure>
     ensures added { OnOk result (AddsLines (Weighing.Once selection) sketch.old bytes.now sketch.new) }
     ensures failed { IfErr result (FailsLines (Weighing.Once selection) sketch.old bytes.now) }
-    ensures counted { OnOk result (GrowsBy not_utf8.old (not_utf8_in (lines bytes.now)) not_utf8.new) }
+    ensures counted { OnOk result (GrowsBy not_utf8.old (not_utf8_in (Weighing.Once selection) (lines bytes.now)) not_utf8.new) }
 {
     add_items(alloc, sketch, selection, bytes, not_utf8)
 }
 
-/// Adds 1 to the weight of each item of the lines of bytes. Increments `not_utf8` for each line that is not UTF-8.
+/// Adds 1 to the weight of each item of the lines of bytes. Increments `not_utf8` for each line whose items are not UTF-8.
 fn add_items(
     alloc: Global,
     sketch: &mut FrequentItemsSketch<String>,
@@ -134,7 +134,7 @@ fn add_items(
 ) -> Result<(), Failure>
     ensures added { OnOk result (AddsStrings sketch.old (items_of selection bytes.now) sketch.new) }
     ensures failed { IfErr result (FailsAdding sketch.old (items_of selection bytes.now)) }
-    ensures counted { OnOk result (GrowsBy not_utf8.old (not_utf8_in (lines bytes.now)) not_utf8.new) }
+    ensures counted { OnOk result (GrowsBy not_utf8.old (not_utf8_in (Weighing.Once selection) (lines bytes.now)) not_utf8.new) }
 {
     match from_utf8(bytes) {
         Ok(text) => add_text(sketch, selection, text),
@@ -160,8 +160,8 @@ fn add_text(
     }
 }
 
-/// Adds 1 to the weight of each item of the lines of bytes that are not UTF-8 as a whole. Increments `not_utf8` for each line that is
-/// not.
+/// Adds 1 to the weight of each item of the lines of bytes that are not UTF-8 as a whole. Increments `not_utf8` for each line
+/// whose items are not.
 fn add_raw_lines(
     alloc: Global,
     sketch: &mut FrequentItemsSketch<String>,
@@ -171,7 +171,7 @@ fn add_raw_lines(
 ) -> Result<(), Failure>
     ensures added { OnOk result (AddsStrings sketch.old (items_of selection bytes.now) sketch.new) }
     ensures failed { IfErr result (FailsAdding sketch.old (items_of selection bytes.now)) }
-    ensures counted { OnOk result (GrowsBy not_utf8.old (not_utf8_in (lines bytes.now)) not_utf8.new) }
+    ensures counted { OnOk result (GrowsBy not_utf8.old (not_utf8_in (Weighing.Once selection) (lines bytes.now)) not_utf8.new) }
 {
     let mut rest = bytes;
     'each: loop {
@@ -183,7 +183,7 @@ fn add_raw_lines(
     }
 }
 
-/// Adds 1 to the weight of each item of a line of bytes. Increments `not_utf8` if the line is not UTF-8.
+/// Adds 1 to the weight of each item of a line of bytes. Increments `not_utf8` if its items are not UTF-8.
 fn add_raw_line(
     alloc: Global,
     sketch: &mut FrequentItemsSketch<String>,
@@ -193,9 +193,9 @@ fn add_raw_line(
 ) -> Result<(), Failure>
     ensures added { OnOk result (AddsStrings sketch.old (items_of_raw_line selection line.now) sketch.new) }
     ensures failed { IfErr result (FailsAdding sketch.old (items_of_raw_line selection line.now)) }
-    ensures counted { GrowsBy not_utf8.old (not_utf8_in (line.now ∷ [])) not_utf8.new }
+    ensures counted { GrowsBy not_utf8.old (not_utf8_in (Weighing.Once selection) (line.now ∷ [])) not_utf8.new }
 {
-    match str_of(line, not_utf8) {
+    match str_of(selection, line, not_utf8) {
         Some(text) => add_line(sketch, selection, text),
         None => {
             let text = String::from_utf8_lossy(alloc, line)?;

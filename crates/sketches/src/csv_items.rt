@@ -4,12 +4,12 @@ ghost use Rattle.std.specs.Str.Lossy.{utf8_lossy};
 ghost use Rattle.sketch_base.specs.Csv.{csv_records, text_of_field};
 ghost use Rattle.sketches.specs.Added.{AddsLine, AddsLines, AddsWeighed};
 ghost use Rattle.sketches.specs.Failures.{FailsLine, FailsLines, FailsWeighing};
-ghost use Rattle.sketches.specs.Utf8Lines.{GrowsBy, not_utf8_in};
+ghost use Rattle.sketches.specs.Utf8Lines.{GrowsBy, not_utf8_in, not_utf8_of};
 ghost use Rattle.sketches.specs.Weighed.{csv_weight, field_weight, with_weight};
 
 use crate::csv_header::line_feeds;
 use crate::failure::Failure;
-use crate::utf8_lines::str_of;
+use crate::utf8_lines::count_item;
 use crate::weighed_lines::bad_field;
 use crate::weighing::{CsvPart, Weighing};
 use crate::weights::taken_weight;
@@ -19,7 +19,7 @@ use sketch_frequencies::FrequentItemsSketch;
 use std::alloc::{AllocError, Global};
 
 /// Adds the item of each record with the weight of the record. Adds to `count` the number of lines of each record. Increments `not_utf8`
-/// for each record that is not UTF-8, and `bad` for each that has an item and no weight.
+/// for each record whose item is not UTF-8, and `bad` for each that has an item and no weight.
 ///
 /// # Errors
 ///
@@ -38,7 +38,7 @@ pub fn add_csv_records(
 ) -> Result<(), Failure>
     ensures added { OnOk result (AddsLines (Weighing.Csv part) sketch.old bytes.now sketch.new) }
     ensures failed { IfErr result (FailsLines (Weighing.Csv part) sketch.old bytes.now) }
-    ensures counted { OnOk result (GrowsBy not_utf8.old (not_utf8_in (csv_records part.delimiter bytes.now)) not_utf8.new) }
+    ensures counted { OnOk result (GrowsBy not_utf8.old (not_utf8_in (Weighing.Csv part) (csv_records part.delimiter bytes.now)) not_utf8.new) }
 {
     let mut rest = bytes;
     'each: loop {
@@ -46,15 +46,15 @@ pub fn add_csv_records(
             return Ok(());
         };
         let number = count.saturating_add(1);
-        add_row(alloc, sketch, part, row, number, not_utf8, bad)?;
+        add_item(alloc, sketch, part, row, number, not_utf8, bad)?;
         *count = count.saturating_add(line_feeds(raw));
         rest = after;
     }
 }
 
-/// Adds the item of a record with the weight of the record. Increments `not_utf8` if the record is not UTF-8.
+/// Adds the item of a record with the weight of the record. Increments `not_utf8` if the item is not UTF-8.
 #[inline(always)]
-fn add_row(
+fn add_item(
     alloc: Global,
     sketch: &mut FrequentItemsSketch<String>,
     part: CsvPart,
@@ -65,24 +65,7 @@ fn add_row(
 ) -> Result<(), Failure>
     ensures added { OnOk result (AddsLine (Weighing.Csv part) sketch.old row.now sketch.new) }
     ensures failed { IfErr result (FailsLine (Weighing.Csv part) sketch.old row.now) }
-    ensures counted { GrowsBy not_utf8.old (not_utf8_in (row.now ∷ [])) not_utf8.new }
-{
-    let _ = str_of(row, not_utf8);
-    add_item(alloc, sketch, part, row, number, bad)
-}
-
-/// Adds the item of a record with the weight of the record.
-#[inline(always)]
-fn add_item(
-    alloc: Global,
-    sketch: &mut FrequentItemsSketch<String>,
-    part: CsvPart,
-    row: &[u8],
-    number: u64,
-    bad: &mut u64,
-) -> Result<(), Failure>
-    ensures added { OnOk result (AddsLine (Weighing.Csv part) sketch.old row.now sketch.new) }
-    ensures failed { IfErr result (FailsLine (Weighing.Csv part) sketch.old row.now) }
+    ensures counted { OnOk result (GrowsBy not_utf8.old (not_utf8_in (Weighing.Csv part) (row.now ∷ [])) not_utf8.new) }
 {
     let Some(field) = nth_csv_field(row, part.delimiter, part.item) else {
         return Ok(());
@@ -94,7 +77,7 @@ fn add_item(
             number,
         ));
     };
-    add_field(alloc, sketch, field, weight)
+    add_field(alloc, sketch, field, weight, not_utf8)
 }
 
 /// Returns the weight that counts of a record that has an item, or `None` if it has none. Increments `bad` if it has none and this is no
@@ -149,38 +132,43 @@ fn weight_field(delimiter: u8, index: Option<u32>, row: &[u8]) -> &[u8] {
     }
 }
 
-/// Adds the text of a field with a weight.
+/// Adds the text of a field with a weight. Increments `not_utf8` if it is not UTF-8.
 #[inline(always)]
 fn add_field(
     alloc: Global,
     sketch: &mut FrequentItemsSketch<String>,
     field: &[u8],
     weight: u64,
+    not_utf8: &mut u64,
 ) -> Result<(), Failure>
     ensures added { OnOk result (AddsWeighed sketch.old (with_weight (utf8_lossy (text_of_field field.now) ∷ []) (Some weight)) sketch.new) }
     ensures failed { IfErr result (FailsWeighing sketch.old (with_weight (utf8_lossy (text_of_field field.now) ∷ []) (Some weight)) []) }
+    ensures counted { OnOk result (GrowsBy not_utf8.old (not_utf8_of (text_of_field field.now)) not_utf8.new) }
 {
     match plain_csv_text(field) {
-        Some(text) => add_text(alloc, sketch, text, weight),
+        Some(text) => add_text(alloc, sketch, text, weight, not_utf8),
         None => {
             let mut text = Vec::new(alloc);
             append_csv_text(field, &mut text)?;
-            add_text(alloc, sketch, &text, weight)
+            add_text(alloc, sketch, &text, weight, not_utf8)
         }
     }
 }
 
-/// Adds bytes with a weight, with U+FFFD for those that are not UTF-8.
+/// Adds bytes with a weight, with U+FFFD for those that are not UTF-8. Increments `not_utf8` if there are such bytes.
 #[inline(always)]
 fn add_text(
     alloc: Global,
     sketch: &mut FrequentItemsSketch<String>,
     bytes: &[u8],
     weight: u64,
+    not_utf8: &mut u64,
 ) -> Result<(), Failure>
     ensures added { OnOk result (AddsWeighed sketch.old (with_weight (utf8_lossy bytes.now ∷ []) (Some weight)) sketch.new) }
     ensures failed { IfErr result (FailsWeighing sketch.old (with_weight (utf8_lossy bytes.now ∷ []) (Some weight)) []) }
+    ensures counted { GrowsBy not_utf8.old (not_utf8_of bytes.now) not_utf8.new }
 {
+    count_item(bytes, not_utf8);
     match from_utf8(bytes) {
         Ok(text) => add_string(sketch, text, weight),
         Err(_) => {

@@ -11,6 +11,7 @@ use crate::file_keys::{FileKeys, KeyMap};
 use crate::inputs::{Inputs, read_inputs};
 use crate::item_weigher::WeighedRecord;
 use crate::key_sums::KeySums;
+use crate::layout::Style;
 use crate::output::Output;
 use crate::reading::{BLOCK, read_lines};
 use crate::sum_rows::write_rows;
@@ -30,8 +31,8 @@ pub struct ExactOptions {
     pub keys_part: RecordPart,
     /// The maximum number of distinct keys.
     pub max_keys: u32,
-    /// Whether keys are printed escaped.
-    pub escaped: bool,
+    /// How the total and the keys are printed.
+    pub style: Style,
     /// The maximum number of bytes of a record before its line feed.
     pub max_line: u32,
     /// Whether the first line shows the total.
@@ -189,7 +190,7 @@ fn write_sums<W: Output>(
     ensures front { OnErr result (WritesFront (W.contents writer.old) (W.contents writer.new) (rows_text options total sums.now.entries order.now)) }
     ensures failed { IfErr result (FailsWriting (W.has_failed writer.new)) }
 {
-    write_total(alloc, options.header, total, writer)?;
-    write_rows(alloc, options.escaped, sums, order, writer)?;
+    write_total(alloc, options.style, options.header, total, writer)?;
+    write_rows(alloc, options.style, sums, order, writer)?;
     Ok(())
 }

@@ -214,8 +214,8 @@ impl<'r, 's, 'n> Files<'r, 's, 'n> {
         self.failed = true;
         let _ = eprintln!(self.rt;
             "sketches: {}: no column '{}'",
-            self.current(),
-            name_of(column)
+            shown(self.current()),
+            shown(name_of(column))
         );
     }
 
@@ -239,8 +239,8 @@ impl<'r, 's, 'n> Files<'r, 's, 'n> {
             self.failed = true;
             let _ = eprintln!(self.rt;
                 "sketches: {}: column '{}' is field {}, and was field {} before",
-                self.current(),
-                name_of(column),
+                shown(self.current()),
+                shown(name_of(column)),
                 u64::from(found) + 1,
                 u64::from(index) + 1
             );
@@ -266,10 +266,10 @@ impl<'r, 's, 'n> Files<'r, 's, 'n> {
         self.names
     }
 
-    /// Returns the name of the file that was opened last, as messages show it.
+    /// Returns the name of the file that was opened last.
     pub fn current(&self) -> &'n str {
         match self.names.get(self.next.saturating_sub(1)) {
-            Some(name) => shown(*name),
+            Some(name) => *name,
             None => "-",
         }
     }
@@ -354,10 +354,10 @@ impl<'r, 's, 'n> Inputs for Files<'r, 's, 'n> {
         let _ = if error.kind() == ErrorKind::InvalidData {
             eprintln!(self.rt;
                 "sketches: {}: a line is longer than --max-line",
-                self.current()
+                shown(self.current())
             )
         } else {
-            eprintln!(self.rt; "sketches: {}: {error}", self.current())
+            eprintln!(self.rt; "sketches: {}: {error}", shown(self.current()))
         };
     }
 }

@@ -1,4 +1,5 @@
 //! Runs the commands that make a filter.
+use crate::ended_text::RecordForm;
 use crate::failure::Failure;
 use crate::file_sizes::{lines_of_files, size_of_file};
 use crate::files::{Files, open};
@@ -16,11 +17,13 @@ use crate::record_options::weighed_record;
 use crate::state_file::StateFile;
 use crate::terminal::StandardOutput;
 use crate::uniq::{Summary, UniqOptions, uniq, uniq_after};
+use crate::words::shown;
 use crate::{ERROR, STANDARD_INPUT, end, fail, max_line_of, message_of, number_of};
 use clap::ArgMatches;
 use sketch_base::records::RecordPart;
 use sketch_bloom::BloomFilter;
 use sketch_frequencies::TableKey;
+use std::alloc::AllocError;
 
 /// The maximum number of times that a state is looked up and created.
 const MAX_TRIES: u32 = 1000;
@@ -40,12 +43,14 @@ pub fn run_uniq(rt: &HostRuntime, matches: &ArgMatches<'_>) -> u8 {
         Ok(chosen) => chosen.item,
         Err(status) => return status,
     };
-    let Ok(header) = files.header() else {
+    let form = form_of(matches);
+    let Ok(header) = header_of(rt, &files, form) else {
         return fail(rt, "no memory");
     };
     let options = UniqOptions {
         part,
         repeated: matches.get_flag("repeated"),
+        form,
         max_line: max_line_of(matches),
     };
     let Some(name) = matches.get_str("state") else {
@@ -209,7 +214,8 @@ pub fn run_join(rt: &HostRuntime, matches: &ArgMatches<'_>) -> u8 {
         Ok(chosen) => chosen.item,
         Err(status) => return status,
     };
-    let Ok(header) = files.header() else {
+    let form = form_of(matches);
+    let Ok(header) = header_of(rt, &files, form) else {
         return fail(rt, "no memory");
     };
     let items = match items_of(rt, matches, keys_name, keys_part) {
@@ -220,6 +226,7 @@ pub fn run_join(rt: &HostRuntime, matches: &ArgMatches<'_>) -> u8 {
         part,
         keys_part,
         wanted: !matches.get_flag("invert-match"),
+        form,
         size: size_of(matches, items),
         seed: seed_of(key),
         max_line: max_line_of(matches),
@@ -247,6 +254,27 @@ pub fn run_join(rt: &HostRuntime, matches: &ArgMatches<'_>) -> u8 {
             u8::from(!summary.complete || files.has_failed())
         }
         Err(failure) => end_of_join(rt, failure, keys_name, files.current()),
+    }
+}
+
+/// Returns how the options want records to be written.
+fn form_of(matches: &ArgMatches<'_>) -> RecordForm {
+    if matches.get_flag("json") {
+        RecordForm::Json
+    } else {
+        RecordForm::Plain
+    }
+}
+
+/// Returns the header that is written before the records. JSON has none.
+fn header_of(
+    rt: &HostRuntime,
+    files: &Files<'_, '_, '_>,
+    form: RecordForm,
+) -> Result<Vec<u8>, AllocError> {
+    match form {
+        RecordForm::Json => Ok(Vec::new(rt.alloc())),
+        _ => files.header(),
     }
 }
 
@@ -312,7 +340,7 @@ fn items_of(
 fn end_of_join(rt: &HostRuntime, failure: JoinFailure, keys: &str, file: &str) -> u8 {
     match failure {
         JoinFailure::Unread(error) => {
-            let _ = eprintln!(rt; "sketches: {keys}: {error}");
+            let _ = eprintln!(rt; "sketches: {}: {error}", shown(keys));
             ERROR
         }
         JoinFailure::Keys(failure) => end(rt, failure, keys, BAD_FILTER),

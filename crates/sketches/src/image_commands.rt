@@ -9,6 +9,7 @@ use crate::output::Watched;
 use crate::shared_options::{BAD_THRESHOLD, layout_of, rows_of, threshold_of};
 use crate::show::show;
 use crate::terminal::StandardOutput;
+use crate::words::shown;
 use crate::{ERROR, end_of_output, fail, fail_at, fail_inexact, message_of, number_of};
 use clap::ArgMatches;
 use sketch_frequencies::{FrequentItemsImageOptions, TableKey};
@@ -88,12 +89,17 @@ pub fn end(rt: &HostRuntime, failure: ImageFailure, file: &str) -> u8 {
         ImageFailure::Memory => fail(rt, "no memory"),
         ImageFailure::NoImage => fail(rt, "no image"),
         ImageFailure::Read(error) => {
-            let _ = eprintln!(rt; "sketches: {file}: {error}");
+            let _ = eprintln!(rt; "sketches: {}: {error}", shown(file));
             ERROR
         }
         ImageFailure::TooLong => fail_at(rt, file, "the image is longer than --max-bytes"),
         ImageFailure::Rejected(fault) => {
-            let _ = eprintln!(rt; "sketches: {file}: {}: {}", fault.name(), fault.text());
+            let _ = eprintln!(rt;
+                "sketches: {}: {}: {}",
+                shown(file),
+                fault.name(),
+                fault.text()
+            );
             ERROR
         }
         ImageFailure::TrailingBytes => fail_at(rt, file, "bytes follow the image"),

@@ -4,6 +4,7 @@ ghost use Rattle.sketches.specs.SaveFailures.{IsWriteFailure};
 
 use crate::image_place::{replace, target_of};
 use crate::save::{Keeper, SaveFailure, write_filter, write_image};
+use crate::words::shown;
 use sketch_bloom::BloomFilter;
 use sketch_frequencies::FrequentItemsSketch;
 use std::fs::File;
@@ -116,10 +117,11 @@ fn is_open(name: &str) -> bool {
 /// Reports that the image could not be written.
 pub fn report(rt: &HostRuntime, name: &str, failure: SaveFailure) {
     let _ = match failure {
-        SaveFailure::Memory => eprintln!(rt; "sketches: {name}: no memory"),
+        SaveFailure::Memory => eprintln!(rt; "sketches: {}: no memory", shown(name)),
         SaveFailure::ItemTooLong => eprintln!(rt;
-            "sketches: {name}: an item has 2^32 bytes or more"
+            "sketches: {}: an item has 2^32 bytes or more",
+            shown(name)
         ),
-        SaveFailure::Write(error) => eprintln!(rt; "sketches: {name}: {error}"),
+        SaveFailure::Write(error) => eprintln!(rt; "sketches: {}: {error}", shown(name)),
     };
 }

@@ -15,7 +15,7 @@ pub fn merge_command<'a>(alloc: Global) -> Result<Command<'a>, AllocError> {
             .arg(key(alloc))?
             .arg(no_header(alloc))?
             .arg(exact(alloc))?
-            .arg(escape(alloc))?
+            .arg(escape(alloc)?)?
             .arg(json(alloc))?
             .arg(
                 Arg::new(alloc, "images")

@@ -6,7 +6,7 @@ ghost use Rattle.sketches.specs.JoinFailures.{FailsInsertion, FailsJoin, IsOfKey
 ghost use Rattle.sketches.specs.Joined.{WritesJoined, WritesSomeJoined, keys_of};
 ghost use Rattle.sketches.specs.Unseen.{with_items};
 
-use crate::ended_text::EndedText;
+use crate::ended_text::{EndedText, RecordForm};
 use crate::failure::Failure;
 use crate::filter_size::{FilterSize, filter_of};
 use crate::header::write_header;
@@ -30,6 +30,8 @@ pub struct JoinOptions {
     pub keys_part: RecordPart,
     /// Whether the records are written whose items may be keys. If not, the others are written.
     pub wanted: bool,
+    /// How the first record is written.
+    pub form: RecordForm,
     /// The size of the filter.
     pub size: FilterSize,
     /// The seed of the filter's hash.
@@ -64,7 +66,8 @@ pub enum JoinFailure {
 /// not keys.
 ///
 /// An item may be a key if the filter that has taken all keys contains it. A record without an item is no key. The records are written
-/// as they are read, with their ends. One without an end gets a line feed if another one follows.
+/// as they are read, with their ends. One without an end gets a line feed if another one follows. In JSON each is an object in a line of
+/// its own, without its end.
 ///
 /// # Errors
 ///
@@ -81,13 +84,13 @@ pub fn join<K: Read, I: Inputs, W: Output>(
     writer: &mut W,
 ) -> Result<JoinSummary, JoinFailure>
     ensures written { IfOk result (λ summary. (filter : FilterState) × IsFilterOf options.size options.seed filter
-        × IfSome (K.remaining keys.old) (λ bytes. IfSome (I.inputs inputs.old) (λ all. WritesJoined options.wanted options.part header.now filter summary.filter
+        × IfSome (K.remaining keys.old) (λ bytes. IfSome (I.inputs inputs.old) (λ all. WritesJoined options.form options.wanted options.part header.now filter summary.filter
         (keys_of options.keys_part bytes) all summary.complete (W.contents writer.old) (W.contents writer.new)))) }
 
     // When each error comes, and what it leaves unchanged.
     ensures failed { IfErr result (FailsJoin options (K.remaining keys.old) (I.inputs inputs.old) (W.has_failed writer.new)) }
     ensures front { IfErr result (λ failure. (writer.new ≡ writer.old) ⊎ ((filter : FilterState) × IsFilterOf options.size options.seed filter
-        × IfSome (K.remaining keys.old) (λ bytes. IfSome (I.inputs inputs.old) (λ all. WritesSomeJoined options.wanted options.part header.now
+        × IfSome (K.remaining keys.old) (λ bytes. IfSome (I.inputs inputs.old) (λ all. WritesSomeJoined options.form options.wanted options.part header.now
         filter (keys_of options.keys_part bytes) all (W.contents writer.old) (W.contents writer.new))))) }
     ensures bad_size { HasNoSize options.size → IsErrOf result (JoinFailure.Keys Failure.BadSize) }
     ensures unread_keys { IsErrOf result (JoinFailure.Keys Failure.BadSize) → keys.new ≡ keys.old }
@@ -109,8 +112,9 @@ pub fn join<K: Read, I: Inputs, W: Output>(
         wanted: options.wanted,
         left_out: 0,
         written: EndedText {
+            alloc,
             bytes: Vec::new(alloc),
-            unended: false,
+            form: options.form,
         },
     };
     if let Err(failure) = write_header(header, writer) {

@@ -3,7 +3,7 @@ use crate::csv_options::with_fields;
 use crate::filter_options::{no_note, with_size};
 use crate::keyed_options::with_keys;
 use crate::options::{with_files, with_max_line};
-use crate::shared_options::key;
+use crate::shared_options::{json, key};
 use clap::{Arg, ArgAction, Command};
 use std::alloc::{AllocError, Global};
 
@@ -26,6 +26,7 @@ pub fn join_command<'a>(alloc: Global) -> Result<Command<'a>, AllocError> {
     )?;
     let command = with_max_line(alloc, command)?
         .arg(key(alloc))?
+        .arg(json(alloc))?
         .arg(no_note(alloc))?;
     with_files(alloc, command)
 }

@@ -1,20 +1,39 @@
 //! Strings in JSON.
 ghost use Rattle.std.specs.Prelude.{◌≡◌, ◌++◌, OnOk};
-ghost use Rattle.sketches.specs.Json.{escaped_byte, json_escaped, numbered_byte};
+ghost use Rattle.std.specs.Str.Lossy.{utf8_lossy};
+ghost use Rattle.sketches.specs.Json.{MeansString, escaped_byte, json_escaped, json_lossy, numbered_byte};
 
-use std::alloc::AllocError;
+use sketch_base::from_utf8;
+use std::alloc::{AllocError, Global};
 
 /// The hexadecimal digits.
 const DIGITS: &[u8; 16] = b"0123456789abcdef";
 
 /// Appends the bytes of a string as a JSON string has them between its quotes.
 pub fn append_escaped(bytes: &[u8], out: &mut Vec<u8>) -> Result<(), AllocError>
-    ensures { OnOk result (out.new.items ≡ out.old.items ++ json_escaped bytes.now) }
+    ensures appended { OnOk result (out.new.items ≡ out.old.items ++ json_escaped bytes.now) }
+
+    // A reader of JSON gets the string back, so no two strings are written alike.
+    ensures means { MeansString (json_escaped bytes.now) bytes.now }
 {
     for byte in bytes {
         append_byte(*byte, out)?;
     }
     Ok(())
+}
+
+/// Appends bytes that may not be UTF-8 as a JSON string has them between its quotes, with U+FFFD for each sequence that is not UTF-8.
+pub fn append_lossy(alloc: Global, bytes: &[u8], out: &mut Vec<u8>) -> Result<(), AllocError>
+    ensures appended { OnOk result (out.new.items ≡ out.old.items ++ json_lossy bytes.now) }
+    ensures means { MeansString (json_lossy bytes.now) (utf8_lossy bytes.now) }
+{
+    match from_utf8(bytes) {
+        Ok(_) => append_escaped(bytes, out),
+        Err(_) => {
+            let text = String::from_utf8_lossy(alloc, bytes)?;
+            append_escaped(text.as_bytes(), out)
+        }
+    }
 }
 
 /// Appends a byte of a string, escaped if JSON wants it.

@@ -1,28 +1,28 @@
 //! Writes the weights of keys.
-ghost use Rattle.std.specs.Prelude.{◌≡◌, ◌++◌, Some, OnOk, pos};
+ghost use Rattle.std.specs.Prelude.{◌≡◌, Some, OnOk, pos};
 ghost use Rattle.sketch_countmin.specs.State.{IsMinCell};
 ghost use Rattle.sketch_base.specs.Records.{part_in};
 ghost use Rattle.sketches.specs.Unseen.{hashed};
-ghost use Rattle.sketches.specs.KeyWeights.{WritesEstimates, WritesSomeEstimates, parts_in, row_line};
+ghost use Rattle.sketches.specs.KeyWeights.{WritesEstimates, WritesSomeEstimates, parts_in};
 
 use crate::failure::Failure;
+use crate::layout::Style;
 use crate::line_sink::LineSink;
 use crate::output::Output;
 use crate::raw_item::RawItem;
-use crate::text_escapes::append_text;
+use crate::weight_lines::append_line;
 use sketch_base::from_utf8;
 use sketch_base::records::{RecordPart, Records, next_record, record_part_of};
 use sketch_countmin::CountMinSketch;
 use std::alloc::{AllocError, Global};
-use std::fmt::Write as _;
 
-/// Writes a line for each key of the records that it takes: its estimate, a tab and the key.
+/// Writes a line for each key of the records that it takes: its estimate and the key.
 #[derive(Drop)]
 pub struct KeyWeights {
     pub sketch: CountMinSketch<u64>,
     pub part: RecordPart,
-    /// Whether keys are escaped.
-    pub escaped: bool,
+    /// How a line is written.
+    pub style: Style,
     /// The lines that are written next.
     pub written: Vec<u8>,
     /// The number that is written next.
@@ -37,24 +37,24 @@ impl<W: Output> LineSink<W> for KeyWeights {
 
     ghost splits = { λ s. splits_by s.part };
 
-    ghost takes = { λ old bytes new. WritesEstimates old.0.escaped old.0.sketch (parts_in old.0.part bytes) (W.contents old.1) (W.contents new.1)
-        × (new.0.sketch ≡ old.0.sketch) × (new.0.part ≡ old.0.part) × (new.0.escaped ≡ old.0.escaped) };
+    ghost takes = { λ old bytes new. WritesEstimates old.0.style old.0.sketch (parts_in old.0.part bytes) (W.contents old.1) (W.contents new.1)
+        × (new.0.sketch ≡ old.0.sketch) × (new.0.part ≡ old.0.part) × (new.0.style ≡ old.0.style) };
 
     ghost fails = { λ old bytes new failure. FailsWriting (W.has_failed new.1) failure
-        × WritesSomeEstimates old.0.escaped old.0.sketch (parts_in old.0.part bytes) (W.contents old.1) (W.contents new.1) };
+        × WritesSomeEstimates old.0.style old.0.sketch (parts_in old.0.part bytes) (W.contents old.1) (W.contents new.1) };
 
     ghost takes_same = { λ r s xs taken. ap splits_by taken.2 };
 
-    ghost takes_none = { λ s. keys_none s.0.escaped s.0.sketch s.0.part (W.contents s.1) };
+    ghost takes_none = { λ s. keys_none s.0.style s.0.sketch s.0.part (W.contents s.1) };
 
-    ghost takes_both = { λ r s t xs ys whole. keys_both xs ys r.0.escaped s.0.escaped t.0.escaped r.0.sketch s.0.sketch t.0.sketch
+    ghost takes_both = { λ r s t xs ys whole. keys_both xs ys r.0.style s.0.style t.0.style r.0.sketch s.0.sketch t.0.sketch
         r.0.part s.0.part t.0.part whole (W.contents r.1) (W.contents s.1) (W.contents t.1) };
 
-    ghost fails_sooner = { λ r t xs ys e whole fails. (fails.0, some_sooner xs ys r.0.escaped r.0.sketch r.0.part whole (W.contents r.1) (W.contents t.1) fails.1) };
+    ghost fails_sooner = { λ r t xs ys e whole fails. (fails.0, some_sooner xs ys r.0.style r.0.sketch r.0.part whole (W.contents r.1) (W.contents t.1) fails.1) };
 
     ghost fails_later = { λ r s t xs ys e whole takes fails. (
       fails.0,
-      some_later xs ys r.0.escaped s.0.escaped r.0.sketch s.0.sketch r.0.part s.0.part whole
+      some_later xs ys r.0.style s.0.style r.0.sketch s.0.sketch r.0.part s.0.part whole
           (W.contents r.1) (W.contents s.1) (W.contents t.1) takes fails.1,
     ) };
 
@@ -68,7 +68,7 @@ impl<W: Output> LineSink<W> for KeyWeights {
             alloc,
             &self.sketch,
             self.part,
-            self.escaped,
+            self.style,
             bytes,
             &mut self.written,
             &mut self.number,
@@ -85,19 +85,19 @@ fn append_lines(
     alloc: Global,
     sketch: &CountMinSketch<u64>,
     part: RecordPart,
-    escaped: bool,
+    style: Style,
     bytes: &[u8],
     written: &mut Vec<u8>,
     number: &mut String,
 ) -> Result<(), AllocError>
-    ensures { OnOk result (WritesEstimates escaped sketch.now (parts_in part bytes.now) (Some written.old.items) (Some written.new.items)) }
+    ensures { OnOk result (WritesEstimates style sketch.now (parts_in part bytes.now) (Some written.old.items) (Some written.new.items)) }
 {
     let mut rest = bytes;
     'each: loop {
         let Some((row, after)) = next_record(part, rest) else {
             return Ok(());
         };
-        append_key(alloc, sketch, part, escaped, row, written, number)?;
+        append_key(alloc, sketch, part, style, row, written, number)?;
         rest = after;
     }
 }
@@ -108,18 +108,18 @@ fn append_key(
     alloc: Global,
     sketch: &CountMinSketch<u64>,
     part: RecordPart,
-    escaped: bool,
+    style: Style,
     row: &[u8],
     written: &mut Vec<u8>,
     number: &mut String,
 ) -> Result<(), AllocError>
-    ensures { OnOk result (WritesEstimates escaped sketch.now (part_in part row.now) (Some written.old.items) (Some written.new.items)) }
+    ensures { OnOk result (WritesEstimates style sketch.now (part_in part row.now) (Some written.old.items) (Some written.new.items)) }
 {
     let mut text = Vec::new(alloc);
     let Some(key) = record_part_of(part, row, &mut text)? else {
         return Ok(());
     };
-    append_line(estimate_of(sketch, key), key, escaped, written, number)?;
+    append_line(alloc, style, estimate_of(sketch, key), key, written, number)?;
     Ok(())
 }
 
@@ -132,26 +132,4 @@ fn estimate_of(sketch: &CountMinSketch<u64>, item: &[u8]) -> u64
         Ok(text) => sketch.estimate_item(text),
         Err(_) => sketch.estimate_item(&RawItem { bytes: item }),
     }
-}
-
-/// Appends the line of a key: its number, a tab and the key, which is escaped if `escaped`.
-pub fn append_line(
-    weight: u64,
-    key: &[u8],
-    escaped: bool,
-    written: &mut Vec<u8>,
-    number: &mut String,
-) -> Result<(), AllocError>
-    ensures { OnOk result (written.new.items ≡ written.old.items ++ row_line escaped (weight, key.now)) }
-{
-    number.clear();
-    write!(number, "{weight}\t")?;
-    written.extend_from_slice(number.as_bytes())?;
-    if escaped {
-        append_text(key, written)?;
-    } else {
-        written.extend_from_slice(key)?;
-    }
-    written.push(b'\n')?;
-    Ok(())
 }

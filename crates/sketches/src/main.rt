@@ -69,6 +69,7 @@ mod save;
 mod selection;
 mod shared_options;
 mod show;
+mod shown;
 mod stale_images;
 mod state_file;
 mod sum_rows;
@@ -85,10 +86,11 @@ mod weigh_commands;
 mod weigh_options;
 mod weighed_lines;
 mod weighing;
+mod weight_lines;
 mod weights;
 mod words;
 
-use clap::ArgMatches;
+use clap::{ArgMatches, Error};
 use csv_options::{csv_options, weighing_of};
 use failure::Failure;
 use files::Files;
@@ -105,7 +107,7 @@ use terminal::StandardOutput;
 use top::{Options, top};
 use weigh_commands::run_weigh;
 use weighing::Weighing;
-use words::{shown, stray_word, words_of};
+use words::{shown, shown_words, stray_word, words_of};
 
 /// The status after an error.
 const ERROR: u8 = 2;
@@ -134,16 +136,29 @@ fn run(rt: &HostRuntime) -> u8 {
     match command.try_get_matches_from(words.as_slice()) {
         Ok(matches) => match matches.subcommand() {
             Some((name, matches)) => match stray_word(&words, matches) {
-                Some(word) => fail_at(rt, shown(word), "a name or value that is not UTF-8"),
+                Some(word) => fail_at(rt, word, "a name or value that is not UTF-8"),
                 None => run_command(rt, name, matches),
             },
             None => fail(rt, "no command"),
         },
-        Err(error) => match error.print(rt) {
-            Ok(()) => error.exit_code() as u8,
-            Err(failed) => end_of_output(rt, failed),
-        },
+        Err(error) => end_of_words(rt, error, &words),
     }
+}
+
+/// Prints the help, or what is wrong with the words of the command line. Returns the status.
+fn end_of_words(rt: &HostRuntime, error: Error, words: &[String]) -> u8 {
+    let error = error_of(rt, words).unwrap_or(error);
+    match error.print(rt) {
+        Ok(()) => error.exit_code() as u8,
+        Err(failed) => end_of_output(rt, failed),
+    }
+}
+
+/// Returns what is wrong with words, as messages show them, or `None` if nothing is found to be.
+fn error_of(rt: &HostRuntime, words: &[String]) -> Option<Error> {
+    let words = shown_words(rt.alloc(), words).ok()?;
+    let command = command(rt.alloc()).ok()?;
+    command.try_get_matches_from(words.as_slice()).err()
 }
 
 /// Runs a command. Returns the status.
@@ -224,13 +239,15 @@ fn run_top(rt: &HostRuntime, matches: &ArgMatches<'_>) -> u8 {
     if image.has_failed() { ERROR } else { status }
 }
 
-/// Prints how many lines are not UTF-8, if any.
+/// Prints how many lines or records have items that are not UTF-8, if any.
 fn note_not_utf8(rt: &HostRuntime, lines: u64) {
     let _ = match lines {
         0 => Ok(()),
-        1 => eprintln!(rt; "sketches: 1 line is not UTF-8: its bytes are shown as U+FFFD"),
+        1 => eprintln!(rt;
+            "sketches: 1 line has an item that is not UTF-8: its bytes are shown as U+FFFD"
+        ),
         _ => eprintln!(rt;
-            "sketches: {lines} lines are not UTF-8: their bytes are shown as U+FFFD"
+            "sketches: {lines} lines have items that are not UTF-8: their bytes are shown as U+FFFD"
         ),
     };
 }
@@ -264,8 +281,10 @@ fn end(rt: &HostRuntime, failure: Failure, file: &str, bad_size: &str) -> u8 {
         Failure::BadSize => fail(rt, bad_size),
         Failure::BadWeight(found) => {
             let _ = eprintln!(rt;
-                "sketches: {file}: line {}: bad weight '{}'",
-                found.line, found.text
+                "sketches: {}: line {}: bad weight '{}'",
+                shown(file),
+                found.line,
+                found.text
             );
             ERROR
         }
@@ -306,7 +325,7 @@ fn end_of_output(rt: &HostRuntime, error: io::Error) -> u8 {
 
 /// Prints a message about a file. Returns the status after an error.
 fn fail_at(rt: &HostRuntime, file: &str, message: &str) -> u8 {
-    let _ = eprintln!(rt; "sketches: {file}: {message}");
+    let _ = eprintln!(rt; "sketches: {}: {message}", shown(file));
     ERROR
 }
 

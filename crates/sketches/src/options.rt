@@ -70,13 +70,15 @@ fn top_command<'a>(alloc: Global) -> Result<Command<'a>, AllocError> {
         .arg(key(alloc))?
         .arg(no_header(alloc))?
         .arg(exact(alloc))?
-        .arg(escape(alloc))?
+        .arg(escape(alloc)?)?
         .arg(json(alloc))?
         .arg(
             Arg::new(alloc, "no-note")
                 .long("no-note")
                 .action(ArgAction::SetTrue)
-                .help("Omits the notes at the end on lines that are not UTF-8 or have no weight"),
+                .help(
+                    "Omits the notes at the end on lines whose items are not UTF-8 or have no weight",
+                ),
         )?;
     with_files(alloc, command)
 }
@@ -99,6 +101,7 @@ fn uniq_command<'a>(alloc: Global) -> Result<Command<'a>, AllocError> {
     )?;
     let command = with_state(alloc, with_max_line(alloc, command)?)?
         .arg(key(alloc))?
+        .arg(json(alloc))?
         .arg(no_note(alloc))?;
     with_files(alloc, command)
 }

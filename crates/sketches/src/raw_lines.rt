@@ -27,7 +27,7 @@ pub fn next_line_with_end(bytes: &[u8]) -> Option<(&[u8], &[u8], &[u8])>
 }
 
 /// Returns a line without the carriage return at its end, if there is one.
-fn without_carriage_return(line: &[u8]) -> &[u8]
+pub fn without_carriage_return(line: &[u8]) -> &[u8]
     ensures { result.now ≡ strip_carriage_return line.now }
 {
     let len = line.len();

@@ -4,7 +4,7 @@ use crate::percent::percent_of;
 use crate::threshold::Threshold;
 use clap::{Arg, ArgAction, ArgMatches, value_parser};
 use sketch_base::records::number_of;
-use std::alloc::Global;
+use std::alloc::{AllocError, Global};
 
 /// The maximum number of rows if no option chooses them.
 const USUAL_ROWS: usize = 10;
@@ -63,15 +63,18 @@ pub fn json<'a>(alloc: Global) -> Arg<'a> {
     Arg::new(alloc, "json")
         .long("json")
         .action(ArgAction::SetTrue)
-        .help("Prints each line as a JSON object")
+        .help("Prints each line as a JSON object, with U+FFFD for bytes that are not UTF-8")
 }
 
 /// Returns the option that escapes items.
-pub fn escape<'a>(alloc: Global) -> Arg<'a> {
-    Arg::new(alloc, "escape")
-        .long("escape")
-        .action(ArgAction::SetTrue)
-        .help("Prints a tab, a line end and a backslash of an item as \\t, \\n, \\r and \\\\")
+pub fn escape<'a>(alloc: Global) -> Result<Arg<'a>, AllocError> {
+    Ok(
+        Arg::new(alloc, "escape")
+            .long("escape")
+            .action(ArgAction::SetTrue)
+            .conflicts_with("json")?
+            .help("Prints a tab, a line end and a backslash of an item as \\t, \\n, \\r and \\\\"),
+    )
 }
 
 /// Returns the option that wants exact numbers.
@@ -87,13 +90,18 @@ pub fn layout_of(matches: &ArgMatches<'_>, is_csv: bool) -> Layout {
     Layout {
         header: !matches.get_flag("no-header"),
         exact: matches.get_flag("exact"),
-        style: if matches.get_flag("json") {
-            Style::Json
-        } else if is_csv || matches.get_flag("escape") {
-            Style::Escaped
-        } else {
-            Style::Plain
-        },
+        style: style_of(matches, is_csv),
+    }
+}
+
+/// Returns how the options want a line with an item to be written. Items of CSV are escaped.
+pub fn style_of(matches: &ArgMatches<'_>, is_csv: bool) -> Style {
+    if matches.get_flag("json") {
+        Style::Json
+    } else if is_csv || matches.get_flag("escape") {
+        Style::Escaped
+    } else {
+        Style::Plain
     }
 }
 

@@ -4,6 +4,7 @@ use crate::image_file::{is_special, report, save};
 use crate::image_place::{create_beside, has_name, target_of};
 use crate::images::ImageFailure;
 use crate::save::{SaveFailure, write_filter};
+use crate::words::shown;
 use sketch_bloom::BloomFilter;
 use std::fs::{File, TryLockError};
 use std::io::ErrorKind;
@@ -148,7 +149,7 @@ fn wait_for(rt: &HostRuntime, file: &File, name: &str) -> io::Result<()> {
     match file.try_lock() {
         Ok(()) => Ok(()),
         Err(TryLockError::WouldBlock) => {
-            let _ = eprintln!(rt; "sketches: {name}: waiting for another run");
+            let _ = eprintln!(rt; "sketches: {}: waiting for another run", shown(name));
             file.lock()
         }
         Err(TryLockError::Error(error)) => Err(error),

@@ -9,9 +9,10 @@ ghost use Rattle.sketches.specs.Outputs.{WritesFront};
 
 use crate::failure::Failure;
 use crate::file_keys::KeyMap;
-use crate::key_weights::append_line;
+use crate::layout::Style;
 use crate::output::Output;
 use crate::reading::BLOCK;
+use crate::weight_lines::append_line;
 use std::alloc::{AllocError, Global};
 
 /// Writes the line of each entry at these indices: its sum, a tab and its key. An index that no entry has is left out.
@@ -21,13 +22,13 @@ use std::alloc::{AllocError, Global};
 /// Returns `Memory` if an allocation fails, and `Write` if a write fails. Then the output has the front of what would be written.
 pub fn write_rows<W: Output>(
     alloc: Global,
-    escaped: bool,
+    style: Style,
     sums: &KeyMap,
     order: &[usize],
     writer: &mut W,
 ) -> Result<(), Failure>
-    ensures written { OnOk result (Appends (W.contents writer.old) (W.contents writer.new) (flat_map (row_line escaped) (rows_at sums.now.entries order.now))) }
-    ensures front { OnErr result (WritesFront (W.contents writer.old) (W.contents writer.new) (flat_map (row_line escaped) (rows_at sums.now.entries order.now))) }
+    ensures written { OnOk result (Appends (W.contents writer.old) (W.contents writer.new) (flat_map (row_line style) (rows_at sums.now.entries order.now))) }
+    ensures front { OnErr result (WritesFront (W.contents writer.old) (W.contents writer.new) (flat_map (row_line style) (rows_at sums.now.entries order.now))) }
     ensures failed { IfErr result (FailsWriting (W.has_failed writer.new)) }
 {
     let mut written = Vec::new(alloc);
@@ -38,7 +39,7 @@ pub fn write_rows<W: Output>(
             send(0, &mut written, writer)?;
             return Ok(());
         };
-        append_row(escaped, sums, *index, &mut written, &mut number)?;
+        append_row(alloc, style, sums, *index, &mut written, &mut number)?;
         send(BLOCK, &mut written, writer)?;
         rest = after;
     }
@@ -47,18 +48,19 @@ pub fn write_rows<W: Output>(
 /// Appends the line of the entry at an index, if any.
 #[inline(always)]
 fn append_row(
-    escaped: bool,
+    alloc: Global,
+    style: Style,
     sums: &KeyMap,
     index: usize,
     written: &mut Vec<u8>,
     number: &mut String,
 ) -> Result<(), AllocError>
-    ensures { OnOk result (written.new.items ≡ written.old.items ++ flat_map (row_line escaped) (row_of (slice_get sums.now.entries index))) }
+    ensures { OnOk result (written.new.items ≡ written.old.items ++ flat_map (row_line style) (row_of (slice_get sums.now.entries index))) }
 {
     let Some((key, sum)) = sums.get_index(index) else {
         return Ok(());
     };
-    append_line(*sum, key, escaped, written, number)
+    append_line(alloc, style, *sum, key, written, number)
 }
 
 /// Writes bytes and clears them, if they are at least `least`.

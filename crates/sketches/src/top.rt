@@ -42,7 +42,7 @@ pub struct Options {
 pub struct Summary {
     /// Whether no read failed.
     pub complete: bool,
-    /// The number of lines that are not UTF-8, at most `u64::MAX`.
+    /// The number of records whose items are not UTF-8, at most `u64::MAX`.
     pub not_utf8: u64,
     /// The number of records that have an item and no weight, and whose weight is 0, at most `u64::MAX`. No clause states it.
     pub unweighed: u64,
@@ -92,7 +92,7 @@ pub fn top<I: Inputs, K: Keeper, W: Output>(
     let limit = options.max_line as usize + 1;
     let mut buffer = vec![in alloc; 0; limit.min(BLOCK)]?;
     let complete = read_inputs(alloc, &mut counter, &mut (), inputs, &mut buffer, limit)?;
-    let not_utf8 = counter.lines_not_utf8();
+    let not_utf8 = counter.records_not_utf8();
     let unweighed = counter.unweighed;
     keeper.keep(&counter.sketch);
     let Some(text) = report(

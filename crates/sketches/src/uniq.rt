@@ -5,7 +5,7 @@ ghost use Rattle.sketches.specs.Failures.{FailsWrittenLines, FailsUniq};
 ghost use Rattle.sketches.specs.FilterSizes.{HasNoSize, IsFilterOf};
 ghost use Rattle.sketches.specs.Unseen.{WritesSomeUnseen, WritesUnseen};
 
-use crate::ended_text::EndedText;
+use crate::ended_text::{EndedText, RecordForm};
 use crate::failure::Failure;
 use crate::filter_size::{FilterSize, filter_of};
 use crate::header::write_header;
@@ -24,6 +24,8 @@ pub struct UniqOptions {
     pub part: RecordPart,
     /// Whether records whose items were seen before are written, in place of the others.
     pub repeated: bool,
+    /// How the first record is written.
+    pub form: RecordForm,
     /// The maximum number of bytes of a record before its line feed.
     pub max_line: u32,
 }
@@ -44,6 +46,7 @@ pub struct Summary {
 ///
 /// An item was seen before if the filter that has taken the items of all records before contains it. A record without an item was not
 /// seen before. The records are written as they are read, with their ends. One without an end gets a line feed if another one follows.
+/// In JSON each is an object in a line of its own, without its end.
 ///
 /// # Errors
 ///
@@ -59,13 +62,13 @@ pub fn uniq<I: Inputs, W: Output>(
     writer: &mut W,
 ) -> Result<Summary, Failure>
     ensures written { IfOk result (λ summary. (filter : FilterState) × IsFilterOf size seed filter
-        × IfSome (I.inputs inputs.old) (λ all. WritesUnseen options.repeated options.part header.now filter summary.filter all
+        × IfSome (I.inputs inputs.old) (λ all. WritesUnseen options.form options.repeated options.part header.now filter summary.filter all
         summary.complete (W.contents writer.old) (W.contents writer.new))) }
 
     // When each error comes, and what it leaves unchanged.
     ensures failed { IfErr result (FailsUniq options size (I.inputs inputs.old) (W.has_failed writer.new)) }
     ensures front { IfErr result (λ failure. (writer.new ≡ writer.old) ⊎ ((filter : FilterState) × IsFilterOf size seed filter
-        × IfSome (I.inputs inputs.old) (λ all. WritesSomeUnseen options.repeated options.part header.now filter all
+        × IfSome (I.inputs inputs.old) (λ all. WritesSomeUnseen options.form options.repeated options.part header.now filter all
         (W.contents writer.old) (W.contents writer.new)))) }
     ensures bad_size { HasNoSize size → IsErrOf result Failure.BadSize }
     ensures unread { IsErrOf result Failure.BadSize → (inputs.new ≡ inputs.old) × (writer.new ≡ writer.old) }
@@ -90,10 +93,10 @@ pub fn uniq_after<I: Inputs, W: Output>(
     inputs: &mut I,
     writer: &mut W,
 ) -> Result<Summary, Failure>
-    ensures written { IfOk result (λ summary. IfSome (I.inputs inputs.old) (λ all. WritesUnseen options.repeated options.part header.now filter
+    ensures written { IfOk result (λ summary. IfSome (I.inputs inputs.old) (λ all. WritesUnseen options.form options.repeated options.part header.now filter
         summary.filter all summary.complete (W.contents writer.old) (W.contents writer.new))) }
     ensures failed { IfErr result (FailsWrittenLines options.part (options.max_line + 1) (I.inputs inputs.old) (W.has_failed writer.new)) }
-    ensures front { IfErr result (λ failure. IfSome (I.inputs inputs.old) (λ all. WritesSomeUnseen options.repeated options.part header.now filter
+    ensures front { IfErr result (λ failure. IfSome (I.inputs inputs.old) (λ all. WritesSomeUnseen options.form options.repeated options.part header.now filter
         all (W.contents writer.old) (W.contents writer.new))) }
 {
     let mut lines = UnseenLines {
@@ -102,8 +105,9 @@ pub fn uniq_after<I: Inputs, W: Output>(
         repeated: options.repeated,
         left_out: 0,
         written: EndedText {
+            alloc,
             bytes: Vec::new(alloc),
-            unended: false,
+            form: options.form,
         },
     };
     let limit = options.max_line as usize + 1;

@@ -40,25 +40,25 @@ impl<W: Output> LineSink<W> for UnseenLines {
     ghost splits = { λ s. splits_by s.part };
 
     ghost takes = { λ old bytes new. (new.0.filter ≡ with_lines old.0.part old.0.filter (raws_by old.0.part bytes))
-        × Prints (W.contents old.1) (W.contents new.1) old.0.written.unended new.0.written.unended (unseen_lines old.0.repeated old.0.part old.0.filter (raws_by old.0.part bytes))
+        × Prints (W.contents old.1) (W.contents new.1) old.0.written.form new.0.written.form (unseen_lines old.0.repeated old.0.part old.0.filter (raws_by old.0.part bytes))
         × (new.0.part ≡ old.0.part) × (new.0.repeated ≡ old.0.repeated) };
 
     ghost fails = { λ old bytes new failure. FailsWriting (W.has_failed new.1) failure
-        × WritesFront (W.contents old.1) (W.contents new.1) (text_of old.0.written.unended (unseen_lines old.0.repeated old.0.part old.0.filter (raws_by old.0.part bytes))) };
+        × WritesFront (W.contents old.1) (W.contents new.1) (text_of old.0.written.form (unseen_lines old.0.repeated old.0.part old.0.filter (raws_by old.0.part bytes))) };
 
     ghost takes_same = { λ r s xs taken. ap splits_by taken.2 };
 
-    ghost takes_none = { λ s. takes_nothing s.0.filter s.0.part s.0.repeated (W.contents s.1) s.0.written.unended };
+    ghost takes_none = { λ s. takes_nothing s.0.filter s.0.part s.0.repeated (W.contents s.1) s.0.written.form };
 
     ghost takes_both = { λ r s t xs ys whole. takes_lines xs ys r.0.repeated r.0.part whole s.0.repeated s.0.part t.0.repeated t.0.part
-        r.0.filter s.0.filter t.0.filter (W.contents r.1) (W.contents s.1) (W.contents t.1) r.0.written.unended s.0.written.unended t.0.written.unended };
+        r.0.filter s.0.filter t.0.filter (W.contents r.1) (W.contents s.1) (W.contents t.1) r.0.written.form s.0.written.form t.0.written.form };
 
-    ghost fails_sooner = { λ r t xs ys e whole fails. (fails.0, front_sooner xs ys r.0.repeated r.0.part whole r.0.filter (W.contents r.1) (W.contents t.1) r.0.written.unended fails.1) };
+    ghost fails_sooner = { λ r t xs ys e whole fails. (fails.0, front_sooner xs ys r.0.repeated r.0.part whole r.0.filter (W.contents r.1) (W.contents t.1) r.0.written.form fails.1) };
 
     ghost fails_later = { λ r s t xs ys e whole takes fails. (
       fails.0,
       front_later xs ys r.0.repeated r.0.part whole s.0.repeated s.0.part
-          r.0.filter s.0.filter (W.contents r.1) (W.contents s.1) (W.contents t.1) r.0.written.unended s.0.written.unended takes fails.1,
+          r.0.filter s.0.filter (W.contents r.1) (W.contents s.1) (W.contents t.1) r.0.written.form s.0.written.form takes fails.1,
     ) };
 
     fn records(&self) -> Records {
@@ -80,13 +80,13 @@ impl BatchSink for UnseenLines {
     ghost use Rattle.sketches.specs.UnseenLaws.{takes_no_lines, takes_more_lines};
 
     ghost takes = { λ part old raws new. (new.filter ≡ with_lines part old.filter raws)
-        × Prints (Some old.written.bytes.items) (Some new.written.bytes.items) old.written.unended new.written.unended (unseen_lines old.repeated part old.filter raws)
+        × Prints (Some old.written.bytes.items) (Some new.written.bytes.items) old.written.form new.written.form (unseen_lines old.repeated part old.filter raws)
         × (new.part ≡ old.part) × (new.repeated ≡ old.repeated) };
 
-    ghost takes_none = { λ part s. takes_no_lines s.filter part s.repeated s.part s.written.bytes.items s.written.unended };
+    ghost takes_none = { λ part s. takes_no_lines s.filter part s.repeated s.part s.written.bytes.items s.written.form };
 
     ghost takes_both = { λ part r s t xs ys. takes_more_lines xs ys part r.repeated r.part s.repeated s.part t.repeated t.part
-        r.filter s.filter t.filter r.written.bytes.items s.written.bytes.items t.written.bytes.items r.written.unended s.written.unended t.written.unended };
+        r.filter s.filter t.filter r.written.bytes.items s.written.bytes.items t.written.bytes.items r.written.form s.written.form t.written.form };
 
     #[inline(always)]
     fn take_batch(
@@ -139,7 +139,7 @@ fn choose_batch(
 ) -> Result<u64, Failure>
     requires few { length raws.now ≤ BATCH }
     requires same { length items.now ≡ length raws.now }
-    ensures written { OnOk result (Prints (Some written.old.bytes.items) (Some written.new.bytes.items) written.old.unended written.new.unended
+    ensures written { OnOk result (Prints (Some written.old.bytes.items) (Some written.new.bytes.items) written.old.form written.new.form
         (written_by repeated (answers_in_turn filter.old (map hashed (strings_at items.now))) (strings_at raws.now))) }
     ensures filter { filter.new ≡ all_inserted filter.old (map hashed (strings_at items.now)) }
     ensures failed { IfErr result (λ failure. failure ≡ Failure.Memory) }

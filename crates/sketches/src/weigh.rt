@@ -14,13 +14,14 @@ use crate::failure::Failure;
 use crate::inputs::{Inputs, read_inputs};
 use crate::item_weigher::{ItemWeigher, WeighedRecord};
 use crate::key_weights::KeyWeights;
+use crate::layout::Style;
 use crate::output::Output;
 use crate::reading::{BLOCK, read_lines};
+use crate::weight_lines::write_total_line;
 use sketch_base::records::RecordPart;
 use sketch_base::{DEFAULT_UPDATE_SEED, ErrorKind, compute_seed_hash};
 use sketch_countmin::{CountMinSketch, suggest_num_buckets, suggest_num_hashes};
 use std::alloc::{AllocError, Global};
-use std::fmt::Write as _;
 use std::io;
 use std::io::Read;
 
@@ -31,8 +32,8 @@ pub struct WeighOptions {
     pub chosen: WeighedRecord,
     /// The part of a record of the file of keys that is its key.
     pub keys_part: RecordPart,
-    /// Whether keys are printed escaped.
-    pub escaped: bool,
+    /// How each line is written.
+    pub style: Style,
     /// A number should exceed its weight by at most the total over this number.
     pub parts: u64,
     /// About one of this number of keys may exceed that, under ideal hashes.
@@ -56,7 +57,7 @@ pub struct Weighed {
     pub failure: Option<io::Error>,
 }
 
-/// Writes a line for each key of a file: a number that is at least its weight in the inputs, a tab and the key.
+/// Writes a line for each key of a file: a number that is at least its weight in the inputs, and the key.
 ///
 /// The weight of a key is the sum of the weights of the items of the inputs that are equal to it. Keys are written in the order of
 /// their file. A record of the file without the part has no key. The first line has the total of all weights, if it is wanted.
@@ -96,11 +97,17 @@ pub fn weigh<I: Inputs, R: Read, W: Output>(
     let complete = read_inputs(alloc, &mut weigher, &mut (), inputs, &mut buffer, limit)?;
     let unweighed = weigher.unweighed;
     let sketch = weigher.sketch;
-    write_total(alloc, options.header, sketch.total_weight(), writer)?;
+    write_total(
+        alloc,
+        options.style,
+        options.header,
+        sketch.total_weight(),
+        writer,
+    )?;
     let mut lines = KeyWeights {
         sketch,
         part: options.keys_part,
-        escaped: options.escaped,
+        style: options.style,
         written: Vec::new(alloc),
         number: String::new(alloc),
     };
@@ -150,19 +157,20 @@ fn usable_seed(seed: u64) -> u64
 /// Returns `Memory` if an allocation fails, and `Write` if the writer fails.
 pub fn write_total<W: Output>(
     alloc: Global,
+    style: Style,
     wanted: bool,
     total: u64,
     writer: &mut W,
 ) -> Result<(), Failure>
-    ensures written { OnOk result (Appends (W.contents writer.old) (W.contents writer.new) (total_line wanted total)) }
-    ensures front { OnErr result (WritesFront (W.contents writer.old) (W.contents writer.new) (total_line wanted total)) }
+    ensures written { OnOk result (Appends (W.contents writer.old) (W.contents writer.new) (total_line style wanted total)) }
+    ensures front { OnErr result (WritesFront (W.contents writer.old) (W.contents writer.new) (total_line style wanted total)) }
     ensures failed { IfErr result (FailsWriting (W.has_failed writer.new)) }
 {
     if !wanted {
         return Ok(());
     }
     let mut text = String::new(alloc);
-    writeln!(text, "# total {total}")?;
+    write_total_line(&mut text, style, total)?;
     match writer.write_all(text.as_bytes()) {
         Ok(()) => Ok(()),
         Err(e) => Err(Failure::Write(e)),

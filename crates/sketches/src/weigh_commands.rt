@@ -5,9 +5,11 @@ use crate::keyed_options::{open_keys, reads_input_twice};
 use crate::keys::{key_of, seed_of};
 use crate::output::Watched;
 use crate::record_options::weighed_record;
+use crate::shared_options::style_of;
 use crate::terminal::StandardOutput;
 use crate::weigh::{WeighOptions, weigh};
 use crate::weigh_options::{max_keys_of, sketch_size_of};
+use crate::words::shown;
 use crate::{
     ERROR, STANDARD_INPUT, end, end_of_files, fail, max_line_of, message_of, note_unweighed,
 };
@@ -50,7 +52,7 @@ pub fn run_weigh(rt: &HostRuntime, matches: &ArgMatches<'_>) -> u8 {
         Ok(chosen) => chosen,
         Err(status) => return status,
     };
-    let escaped = matches.get_flag("csv") || matches.get_flag("escape");
+    let style = style_of(matches, matches.get_flag("csv"));
     let max_line = max_line_of(matches);
     let header = !matches.get_flag("no-header");
     let note = !matches.get_flag("no-note");
@@ -59,7 +61,7 @@ pub fn run_weigh(rt: &HostRuntime, matches: &ArgMatches<'_>) -> u8 {
             let options = WeighOptions {
                 chosen,
                 keys_part,
-                escaped,
+                style,
                 parts: size.parts,
                 questions: size.questions,
                 seed: seed_of(key),
@@ -73,7 +75,7 @@ pub fn run_weigh(rt: &HostRuntime, matches: &ArgMatches<'_>) -> u8 {
                 chosen,
                 keys_part,
                 max_keys: max_keys_of(matches),
-                escaped,
+                style,
                 max_line,
                 header,
             };
@@ -146,6 +148,6 @@ fn sum(
 
 /// Prints why the file of keys was not read whole. Returns the status.
 fn unread(rt: &HostRuntime, name: &str, error: io::Error) -> u8 {
-    let _ = eprintln!(rt; "sketches: {name}: {error}");
+    let _ = eprintln!(rt; "sketches: {}: {error}", shown(name));
     ERROR
 }

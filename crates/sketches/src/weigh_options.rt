@@ -5,7 +5,7 @@ use crate::csv_options::{with_bad_weight, with_fields, with_weight};
 use crate::keyed_options::with_keys;
 use crate::options::{with_files, with_max_line};
 use crate::percent::{Percent, WHOLE, percent_of};
-use crate::shared_options::{escape, key};
+use crate::shared_options::{escape, json, key};
 use clap::{Arg, ArgAction, ArgMatches, Command, value_parser};
 use std::alloc::{AllocError, Global};
 
@@ -46,7 +46,8 @@ pub fn weigh_command<'a>(alloc: Global) -> Result<Command<'a>, AllocError> {
                 .action(ArgAction::SetTrue)
                 .help("Omits the first line, which has the total"),
         )?
-        .arg(escape(alloc))?
+        .arg(escape(alloc)?)?
+        .arg(json(alloc))?
         .arg(
             Arg::new(alloc, "no-note")
                 .long("no-note")

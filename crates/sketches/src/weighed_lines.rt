@@ -8,6 +8,7 @@ ghost use Rattle.sketches.specs.Utf8Lines.{GrowsBy, not_utf8_in};
 ghost use Rattle.sketches.specs.Weighed.{line_weight};
 
 use crate::failure::{BadWeight, Failure};
+use crate::selection::Selection;
 use crate::utf8_lines::str_of;
 use crate::weighing::{WeighedPart, Weighing};
 use crate::weights::{taken_weight, weight_of};
@@ -18,7 +19,7 @@ use std::alloc::{AllocError, Global};
 /// The maximum number of characters of a bad weight in a message.
 const SHOWN: usize = 40;
 
-/// Adds the item of each line with the weight of the line. Increments `count` for each line, `not_utf8` for each that is not UTF-8, and
+/// Adds the item of each line with the weight of the line. Increments `count` for each line, `not_utf8` for each whose item is not UTF-8, and
 /// `bad` for each that has an item and no weight.
 ///
 /// # Errors
@@ -37,7 +38,7 @@ pub fn add_weighed_lines(
 ) -> Result<(), Failure>
     ensures added { OnOk result (AddsLines (Weighing.Field part) sketch.old bytes.now sketch.new) }
     ensures failed { IfErr result (FailsLines (Weighing.Field part) sketch.old bytes.now) }
-    ensures counted { OnOk result (GrowsBy not_utf8.old (not_utf8_in (lines bytes.now)) not_utf8.new) }
+    ensures counted { OnOk result (GrowsBy not_utf8.old (not_utf8_in (Weighing.Field part) (lines bytes.now)) not_utf8.new) }
 {
     let mut rest = bytes;
     'each: loop {
@@ -50,7 +51,7 @@ pub fn add_weighed_lines(
     }
 }
 
-/// Adds the item of a line of bytes with the weight of the line. Increments `not_utf8` if the line is not UTF-8.
+/// Adds the item of a line of bytes with the weight of the line. Increments `not_utf8` if its item is not UTF-8.
 #[inline(always)]
 fn add_raw_line(
     alloc: Global,
@@ -63,9 +64,9 @@ fn add_raw_line(
 ) -> Result<(), Failure>
     ensures added { OnOk result (AddsLine (Weighing.Field part) sketch.old line.now sketch.new) }
     ensures failed { IfErr result (FailsLine (Weighing.Field part) sketch.old line.now) }
-    ensures counted { GrowsBy not_utf8.old (not_utf8_in (line.now ∷ [])) not_utf8.new }
+    ensures counted { GrowsBy not_utf8.old (not_utf8_in (Weighing.Field part) (line.now ∷ [])) not_utf8.new }
 {
-    match str_of(line, not_utf8) {
+    match str_of(Selection::Part(part.item), line, not_utf8) {
         Some(text) => add_line(alloc, sketch, part, line, text, number, bad),
         None => {
             let text = String::from_utf8_lossy(alloc, line)?;

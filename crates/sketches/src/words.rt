@@ -1,8 +1,10 @@
 //! The words of the command line. One that is not UTF-8 is marked, since no file can be opened by such a name.
+use crate::shown::{DIGITS, Shown};
 use clap::ArgMatches;
 use sketch_base::from_utf8;
 use std::alloc::{AllocError, Global};
 use std::env::{Env, FillError};
+use std::fmt::Write as _;
 use std::io::ErrorKind;
 use std::{env, io};
 
@@ -11,9 +13,6 @@ const MARK: char = '\0';
 
 /// The maximum number of bytes of an argument, as for the system.
 const MAX_BYTES: usize = 1 << 17;
-
-/// The hexadecimal digits.
-const DIGITS: &[u8; 16] = b"0123456789abcdef";
 
 /// Returns the words of the command line. A word that is not UTF-8 is marked, and has `\x` and two digits for each byte that is no
 /// printable character of ASCII.
@@ -77,8 +76,21 @@ pub fn is_marked(word: &str) -> bool {
 }
 
 /// Returns a word as messages show it.
-pub fn shown(word: &str) -> &str {
-    word.strip_prefix(MARK).unwrap_or(word)
+pub fn shown(word: &str) -> Shown<'_> {
+    Shown {
+        text: word.strip_prefix(MARK).unwrap_or(word),
+    }
+}
+
+/// Returns words as messages show them.
+pub fn shown_words(alloc: Global, words: &[String]) -> Result<Vec<String>, AllocError> {
+    let mut all = Vec::new(alloc);
+    for word in words {
+        let mut text = String::new(alloc);
+        write!(text, "{}", shown(word.as_str()))?;
+        all.push(text)?;
+    }
+    Ok(all)
 }
 
 /// Returns the last marked word, if there are more than `matches` has as names of files.

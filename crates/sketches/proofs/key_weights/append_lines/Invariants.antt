@@ -4,7 +4,7 @@ use Rattle.sketches.proofs.ItemWeights.{HasWrittenKeys}
 use Rattle.sketches.proofs.key_weights.append_lines.Given as goal
 
 abbrev pub invariant-each : goal.invariant-each
-invariant-each l = HasWrittenKeys l.escaped l.part l.sketch (records_by l.part l.bytes) (records_by l.part l.rest) l.fn.written.items l.written.items
+invariant-each l = HasWrittenKeys l.style l.part l.sketch (records_by l.part l.bytes) (records_by l.part l.rest) l.fn.written.items l.written.items
 
 abbrev pub decreases-each : goal.decreases-each
 decreases-each l = length l.rest

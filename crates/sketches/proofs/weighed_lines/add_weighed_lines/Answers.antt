@@ -12,7 +12,7 @@ each-init c = (weighed_lines_none (Field c.args.part) c.args.sketch.now (lines c
 pub each-preserved : goal.each-preserved
 each-preserved c = (
   weighed_lines_more (Field c.args.part) c.args.sketch.now c.each.sketch c.add_raw_line.new.sketch (lines c.args.bytes.now) (lines c.each.rest.now) (lines c.in-Some.after.now) c.in-Some.line.now c.each.invariant.0 c.in-Some.ensures.taken.0 c.in_ok-add_raw_line.ensures.added,
-  grown_more c.args.not_utf8.now c.each.not_utf8 c.add_raw_line.new.not_utf8 (lines c.args.bytes.now) (lines c.each.rest.now) (lines c.in-Some.after.now) c.in-Some.line.now c.each.invariant.1 c.in-Some.ensures.taken.0 c.add_raw_line.ensures.counted,
+  grown_more (Field c.args.part) c.args.not_utf8.now c.each.not_utf8 c.add_raw_line.new.not_utf8 (lines c.args.bytes.now) (lines c.each.rest.now) (lines c.in-Some.after.now) c.in-Some.line.now c.each.invariant.1 c.in-Some.ensures.taken.0 c.add_raw_line.ensures.counted,
 )
 
 pub returns-in_err-add_raw_line-clause-failed : goal.returns-in_err-add_raw_line-clause-failed

@@ -6,7 +6,7 @@ use Rattle.sketches.proofs.Utf8Strings.{HasGrown}
 use Rattle.sketches.proofs.weighed_lines.add_weighed_lines.Given as goal
 
 abbrev pub invariant-each : goal.invariant-each
-invariant-each l = HasWeighedLines (Field l.part) l.fn.sketch (lines l.bytes) (lines l.rest) l.sketch × HasGrown l.fn.not_utf8 (lines l.bytes) (lines l.rest) l.not_utf8
+invariant-each l = HasWeighedLines (Field l.part) l.fn.sketch (lines l.bytes) (lines l.rest) l.sketch × HasGrown (Field l.part) l.fn.not_utf8 (lines l.bytes) (lines l.rest) l.not_utf8
 
 abbrev pub decreases-each : goal.decreases-each
 decreases-each l = length l.rest

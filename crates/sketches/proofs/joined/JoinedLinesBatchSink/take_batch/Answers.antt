@@ -8,4 +8,4 @@ pub returns-clause-taken : goal.returns-clause-taken
 returns-clause-taken c =
     let s = c.args.self.now in
     let b = joined_batch s.wanted c.args._part s.filter (strings_at c.args.raws.now) (strings_at c.args.items.now) c.requires.items in
-    (subst (Prints (Some s.written.bytes.items) (Some c.join_batch.new.written.bytes.items) s.written.unended c.join_batch.new.written.unended) (sym b) c.in_ok-others.ensures.written, refl, refl, refl)
+    (subst (Prints (Some s.written.bytes.items) (Some c.join_batch.new.written.bytes.items) s.written.form c.join_batch.new.written.form) (sym b) c.in_ok-others.ensures.written, refl, refl, refl)
