@@ -57,13 +57,13 @@ each_grown old new (bytes ∷ read) (mid, ((_, kept), first), rest) =
     omega (arith, first, later, not_utf8_append (records_of p bytes) (flat_map (records_of p) read))
 
 -- the items of what was read of each input were added, and its lines that are not UTF-8 were counted
-abbrev pub CountsInputs : Weighing → Option (List (List ℕ)) → Bool → (old new : Sketch) → (before after : ℕ) → Type 0
-CountsInputs p was complete old new before after = IfSome was (λ inputs.
-    (read : List (List ℕ)) × AreRead (splits_of p) complete inputs read × AddsEach p old read new × GrowsBy before (not_utf8_in (flat_map (records_of p) read)) after)
+abbrev pub CountsInputs : Weighing → Option (List (List ℕ)) → (fails : List Bool) → (old new : Sketch) → (before after : ℕ) → Type 0
+CountsInputs p was fails old new before after = IfSome was (λ inputs.
+    (read : List (List ℕ)) × AreRead (splits_of p) fails inputs read × AddsEach p old read new × GrowsBy before (not_utf8_in (flat_map (records_of p) read)) after)
 
-pub counted : (was : Option (List (List ℕ))) (complete : Bool) (old new : Counter) → TakesInputs (splits_of old.0.weighing) Counts was complete old new → CountsInputs old.0.weighing was complete old.0.sketch new.0.sketch old.0.not_utf8 new.0.not_utf8
-counted None complete old new taken = tt
-counted (Some inputs) complete old new (read, are, each) = (read, are, (each_counted old new read each).0, each_grown old new read each)
+pub counted : (was : Option (List (List ℕ))) (fails : List Bool) (complete : Bool) (old new : Counter) → TakesInputs (splits_of old.0.weighing) Counts was fails complete old new → CountsInputs old.0.weighing was fails old.0.sketch new.0.sketch old.0.not_utf8 new.0.not_utf8
+counted None fails complete old new taken = tt
+counted (Some inputs) fails complete old new (is, (read, are, each)) = (read, are, (each_counted old new read each).0, each_grown old new read each)
 
 -- ---- too many items
 

@@ -62,12 +62,12 @@ module _ {W : Type 0} (contents : W → Option (List ℕ)) where
       (filter ∙ same, part ∙ same_part, wanted ∙ same_wanted)
 
   -- all records were joined with all keys
-  pub joined : (header : List ℕ) (held : Option (List ℕ)) (empty : FilterState) (keys_part : RecordPart) (keys : Option (List ℕ)) (was : Option (List (List ℕ))) (complete : Bool) (old new : JoinedLines × W)
-      → IfSome keys (λ bytes. old.0.filter ≡ with_items empty (keys_of keys_part bytes)) → old.0.written.unended ≡ false → Appends held (contents old.1) header → TakesInputs (splits_by old.0.part) Joins was complete old new
-      → IfSome keys (λ bytes. IfSome was (λ inputs. WritesJoined old.0.wanted old.0.part header empty new.0.filter (keys_of keys_part bytes) inputs complete held (contents new.1)))
-  joined header held empty keys_part None was complete old new inserted ended begins taken = tt
-  joined header held empty keys_part (Some bytes) None complete old new inserted ended begins taken = tt
-  joined header held empty keys_part (Some bytes) (Some inputs) complete old new inserted ended begins (read, are, each) = record {
+  pub joined : (header : List ℕ) (held : Option (List ℕ)) (empty : FilterState) (keys_part : RecordPart) (keys : Option (List ℕ)) (was : Option (List (List ℕ))) (fails : List Bool) (complete : Bool) (old new : JoinedLines × W)
+      → IfSome keys (λ bytes. old.0.filter ≡ with_items empty (keys_of keys_part bytes)) → old.0.written.unended ≡ false → Appends held (contents old.1) header → TakesInputs (splits_by old.0.part) Joins was fails complete old new
+      → IfSome keys (λ bytes. IfSome was (λ inputs. WritesJoined old.0.wanted old.0.part header empty new.0.filter (keys_of keys_part bytes) inputs fails held (contents new.1)))
+  joined header held empty keys_part None was fails complete old new inserted ended begins taken = tt
+  joined header held empty keys_part (Some bytes) None fails complete old new inserted ended begins taken = tt
+  joined header held empty keys_part (Some bytes) (Some inputs) fails complete old new inserted ended begins (is, (read, are, each)) = record {
     read = read;
     are = are;
     written =

@@ -37,7 +37,6 @@ use Rattle.sketches.specs.declared.item_weigher.WeighedRecord.{WeighedRecord}
 use Rattle.sketches.specs.declared.key_weights.KeyWeights.{KeyWeights}
 use Rattle.sketch_base.specs.declared.record_part.RecordPart.{RecordPart}
 use Rattle.sketches.specs.declared.weigh.WeighOptions.{WeighOptions}
-use Rattle.sketches.proofs.ReadInputs.{IsTaken, taken_one}
 
 -- ---- the weight in a bucket
 
@@ -171,15 +170,15 @@ module _ {W : Type 0} (contents : W → Option (List ℕ)) where
       FailsWriting (has_failed new.1) failure × WritesSomeEstimates old.0.escaped old.0.sketch (parts_in old.0.part bytes) (contents old.1) (contents new.1)
 
   -- what was read of the inputs, and its weights in the table
-  record HasWeighed (options : WeighOptions) (inputs : List (List ℕ)) (complete : Bool) (made : CountState) (weighed : Weigher) : Type 0 where
+  record HasWeighed (options : WeighOptions) (inputs : List (List ℕ)) (fails : List Bool) (made : CountState) (weighed : Weigher) : Type 0 where
     read : List (List ℕ)
-    are : AreRead (splits_by options.chosen.item) complete inputs read
+    are : AreRead (splits_by options.chosen.item) fails inputs read
     adds : CountsWeighed made (weighed_in options.chosen read) weighed.0.sketch
     each : unweighed_in options.chosen read ≡ []
 
-  has_weighed : (options : WeighOptions) (inputs : List (List ℕ)) (complete : Bool) (made : CountState) (weigher weighed : Weigher) → weigher.0.sketch ≡ made → weigher.0.chosen ≡ options.chosen
-      → TakesInputs (splits_by options.chosen.item) Weighs (Some inputs) complete weigher weighed → HasWeighed options inputs complete made weighed
-  has_weighed options inputs complete made weigher weighed begin part (read, are, each) =
+  has_weighed : (options : WeighOptions) (inputs : List (List ℕ)) (fails : List Bool) (complete : Bool) (made : CountState) (weigher weighed : Weigher) → weigher.0.sketch ≡ made → weigher.0.chosen ≡ options.chosen
+      → TakesInputs (splits_by options.chosen.item) Weighs (Some inputs) fails complete weigher weighed → HasWeighed options inputs fails made weighed
+  has_weighed options inputs fails complete made weigher weighed begin part (is, (read, are, each)) =
       let counts : CountsLines options.chosen made (flat_map (records_by options.chosen.item) read) weighed.0.sketch =
       subst (λ (p : WeighedRecord). CountsLines p made (flat_map (records_by p.item) read) weighed.0.sketch) part (subst (λ (s : CountState). CountsLines weigher.0.chosen s (flat_map (records_by weigher.0.chosen.item) read) weighed.0.sketch) begin (each_weighed weigher weighed read each).0) in
       record { read = read; are = are; adds = counts.0; each = counts.1 }
@@ -188,16 +187,15 @@ module _ {W : Type 0} (contents : W → Option (List ℕ)) where
   total_is made items weighed total none adds sum = omega (arith, ints, sum, adds.total, none)
 
   -- the front of the weights of the first keys was written
-  some_of_keys : (options : WeighOptions) (inputs : List (List ℕ)) (keys read_keys : List ℕ) (complete : Bool) (made : CountState) (weigher weighed : Weigher) (total : ℕ) (held mid holds : Option (List ℕ))
-      → IsEmptyTable options.parts options.questions options.seed made → weigher.0.sketch ≡ made → weigher.0.chosen ≡ options.chosen → TakesInputs (splits_by options.chosen.item) Weighs (Some inputs) complete weigher weighed
+  some_of_keys : (options : WeighOptions) (inputs : List (List ℕ)) (keys read_keys : List ℕ) (fails : List Bool) (complete : Bool) (made : CountState) (weigher weighed : Weigher) (total : ℕ) (held mid holds : Option (List ℕ))
+      → IsEmptyTable options.parts options.questions options.seed made → weigher.0.sketch ≡ made → weigher.0.chosen ≡ options.chosen → TakesInputs (splits_by options.chosen.item) Weighs (Some inputs) fails complete weigher weighed
       → pos total ≡ pos weighed.0.sketch.total → Appends held mid (total_line options.header total) → AreFirstRecords (splits_by options.keys_part) keys read_keys → WritesSomeEstimates options.escaped weighed.0.sketch (parts_in options.keys_part read_keys) mid holds
-      → WritesSomeWeights options inputs keys held holds
-  some_of_keys options inputs keys read_keys complete made weigher weighed total held mid holds empty begin part weighs sum wrote front some =
-      let so = has_weighed options inputs complete made weigher weighed begin part weighs in
+      → WritesSomeWeights options inputs fails keys held holds
+  some_of_keys options inputs keys read_keys fails complete made weigher weighed total held mid holds empty begin part weighs sum wrote front some =
+      let so = has_weighed options inputs fails complete made weigher weighed begin part weighs in
       let items : Weighed = weighed_in options.chosen so.read in
       let all : total ≡ total_of items = total_is made items weighed.0.sketch total (ap (λ (s : CountState). s.total) empty.is) so.adds sum in
       record {
-        complete = complete;
         read = so.read;
         are = so.are;
         each = so.each;
@@ -214,18 +212,17 @@ module _ {W : Type 0} (contents : W → Option (List ℕ)) where
       }
 
   -- the line of the total, or its front, and no keys
-  pub total_written : (options : WeighOptions) (was : Option (List (List ℕ))) (bytes : Option (List ℕ)) (complete : Bool) (made : CountState) (weigher weighed : Weigher) (total : ℕ) (held holds : Option (List ℕ))
-      → IsEmptyTable options.parts options.questions options.seed made → weigher.0.sketch ≡ made → weigher.0.chosen ≡ options.chosen → TakesInputs (splits_by options.chosen.item) Weighs was complete weigher weighed
+  pub total_written : (options : WeighOptions) (was : Option (List (List ℕ))) (bytes : Option (List ℕ)) (fails : List Bool) (complete : Bool) (made : CountState) (weigher weighed : Weigher) (total : ℕ) (held holds : Option (List ℕ))
+      → IsEmptyTable options.parts options.questions options.seed made → weigher.0.sketch ≡ made → weigher.0.chosen ≡ options.chosen → TakesInputs (splits_by options.chosen.item) Weighs was fails complete weigher weighed
       → pos total ≡ pos weighed.0.sketch.total → WritesFront held holds (total_line options.header total)
-      → IfSome was (λ inputs. IfSome bytes (λ keys. WritesSomeWeights options inputs keys held holds))
-  total_written options None bytes complete made weigher weighed total held holds empty begin part weighs sum front = tt
-  total_written options (Some inputs) None complete made weigher weighed total held holds empty begin part weighs sum front = tt
-  total_written options (Some inputs) (Some keys) complete made weigher weighed total held holds empty begin part weighs sum front =
-      let so = has_weighed options inputs complete made weigher weighed begin part weighs in
+      → IfSome was (λ inputs. IfSome bytes (λ keys. WritesSomeWeights options inputs fails keys held holds))
+  total_written options None bytes fails complete made weigher weighed total held holds empty begin part weighs sum front = tt
+  total_written options (Some inputs) None fails complete made weigher weighed total held holds empty begin part weighs sum front = tt
+  total_written options (Some inputs) (Some keys) fails complete made weigher weighed total held holds empty begin part weighs sum front =
+      let so = has_weighed options inputs fails complete made weigher weighed begin part weighs in
       let items : Weighed = weighed_in options.chosen so.read in
       let all : total ≡ total_of items = total_is made items weighed.0.sketch total (ap (λ (s : CountState). s.total) empty.is) so.adds sum in
       record {
-        complete = complete;
         read = so.read;
         are = so.are;
         each = so.each;
@@ -242,14 +239,14 @@ module _ {W : Type 0} (contents : W → Option (List ℕ)) where
       }
 
   -- a failure while the keys are read
-  pub some_weights : (has_failed : W → Bool) (options : WeighOptions) (was : Option (List (List ℕ))) (bytes : Option (List ℕ)) (complete : Bool) (made : CountState) (weigher weighed : Weigher) (total : ℕ) (held : Option (List ℕ)) (old new : KeyWeights × W) (e : Failure)
-      → IsEmptyTable options.parts options.questions options.seed made → weigher.0.sketch ≡ made → weigher.0.chosen ≡ options.chosen → TakesInputs (splits_by options.chosen.item) Weighs was complete weigher weighed
+  pub some_weights : (has_failed : W → Bool) (options : WeighOptions) (was : Option (List (List ℕ))) (bytes : Option (List ℕ)) (fails : List Bool) (complete : Bool) (made : CountState) (weigher weighed : Weigher) (total : ℕ) (held : Option (List ℕ)) (old new : KeyWeights × W) (e : Failure)
+      → IsEmptyTable options.parts options.questions options.seed made → weigher.0.sketch ≡ made → weigher.0.chosen ≡ options.chosen → TakesInputs (splits_by options.chosen.item) Weighs was fails complete weigher weighed
       → pos total ≡ pos weighed.0.sketch.total → Appends held (contents old.1) (total_line options.header total) → old.0.sketch ≡ weighed.0.sketch → old.0.part ≡ options.keys_part → old.0.escaped ≡ options.escaped
       → FailsInput (splits_by options.keys_part) WritesKeys (FailsKeys has_failed) (options.max_line + 1) bytes old new e
-      → IfSome was (λ inputs. IfSome bytes (λ keys. WritesSomeWeights options inputs keys held (contents new.1)))
-  some_weights has_failed options None bytes complete made weigher weighed total held old new e empty begin part weighs sum wrote sketch keys_part escaped failed = tt
-  some_weights has_failed options (Some inputs) None complete made weigher weighed total held old new e empty begin part weighs sum wrote sketch keys_part escaped failed = tt
-  some_weights has_failed options (Some inputs) (Some keys) complete made weigher weighed total held old new e empty begin part weighs sum wrote sketch keys_part escaped failed =
+      → IfSome was (λ inputs. IfSome bytes (λ keys. WritesSomeWeights options inputs fails keys held (contents new.1)))
+  some_weights has_failed options None bytes fails complete made weigher weighed total held old new e empty begin part weighs sum wrote sketch keys_part escaped failed = tt
+  some_weights has_failed options (Some inputs) None fails complete made weigher weighed total held old new e empty begin part weighs sum wrote sketch keys_part escaped failed = tt
+  some_weights has_failed options (Some inputs) (Some keys) fails complete made weigher weighed total held old new e empty begin part weighs sum wrote sketch keys_part escaped failed =
       let of_options : (read : List ℕ) → WritesSomeEstimates old.0.escaped old.0.sketch (parts_in old.0.part read) (contents old.1) (contents new.1) → WritesSomeEstimates options.escaped weighed.0.sketch (parts_in options.keys_part read) (contents old.1) (contents new.1) =
       λ read some. subst (λ (p : RecordPart). WritesSomeEstimates options.escaped weighed.0.sketch (parts_in p read) (contents old.1) (contents new.1)) keys_part
       (subst (λ (s : CountState). WritesSomeEstimates options.escaped s (parts_in old.0.part read) (contents old.1) (contents new.1)) sketch
@@ -257,36 +254,33 @@ module _ {W : Type 0} (contents : W → Option (List ℕ)) where
       ⊎_elim
       (λ stops.
       let (read, front, taken) = stops.1 in
-      some_of_keys options inputs keys read complete made weigher weighed total held (contents old.1) (contents new.1) empty begin part weighs sum wrote front (of_options read (some_whole old.0.escaped old.0.sketch (parts_in old.0.part read) (contents old.1) (contents new.1) taken.0)))
+      some_of_keys options inputs keys read fails complete made weigher weighed total held (contents old.1) (contents new.1) empty begin part weighs sum wrote front (of_options read (some_whole old.0.escaped old.0.sketch (parts_in old.0.part read) (contents old.1) (contents new.1) taken.0)))
       (λ taking.
-      some_of_keys options inputs keys keys complete made weigher weighed total held (contents old.1) (contents new.1) empty begin part weighs sum wrote ([], sym (append-nil keys), λ some. absurd (omega arith)) (of_options keys taking.known.1))
+      some_of_keys options inputs keys keys fails complete made weigher weighed total held (contents old.1) (contents new.1) empty begin part weighs sum wrote ([], sym (append-nil keys), λ some. absurd (omega arith)) (of_options keys taking.known.1))
       failed
 
-  pub weights_written : {E : Type 0} (options : WeighOptions) (was : Option (List (List ℕ))) (bytes : Option (List ℕ)) (complete : Bool) (failure : Option E) (made : CountState) (weigher weighed : Weigher) (total : ℕ) (held : Option (List ℕ)) (old new : KeyWeights × W)
-      → IsEmptyTable options.parts options.questions options.seed made → weigher.0.sketch ≡ made → weigher.0.chosen ≡ options.chosen → TakesInputs (splits_by options.chosen.item) Weighs was complete weigher weighed
-      → pos total ≡ pos weighed.0.sketch.total → Appends held (contents old.1) (total_line options.header total) → old.0.sketch ≡ weighed.0.sketch → old.0.part ≡ options.keys_part → old.0.escaped ≡ options.escaped → TakesInput (splits_by options.keys_part) WritesKeys bytes failure old new
-      → IfSome was (λ inputs. IfSome bytes (λ keys. WritesWeights options inputs complete keys failure held (contents new.1)))
-  weights_written options None bytes complete failure made weigher weighed total held old new empty begin part weighs sum wrote sketch keys_part escaped taken = tt
-  weights_written options (Some inputs) None complete failure made weigher weighed total held old new empty begin part weighs sum wrote sketch keys_part escaped taken = tt
-  weights_written {E = E} options (Some inputs) (Some keys) complete failure made weigher weighed total held old new empty begin part (read, are, each) sum wrote sketch keys_part escaped taken =
-      let split = splits_by options.keys_part in
-      let one : IsTaken split WritesKeys keys (failure ≡ None) old new = taken_one split WritesKeys keys failure old new taken in
+  pub weights_written : {E : Type 0} (options : WeighOptions) (was : Option (List (List ℕ))) (bytes : Option (List ℕ)) (keys_fail : Bool) (fails : List Bool) (complete : Bool) (failure : Option E) (made : CountState) (weigher weighed : Weigher) (total : ℕ) (held : Option (List ℕ)) (old new : KeyWeights × W)
+      → IsEmptyTable options.parts options.questions options.seed made → weigher.0.sketch ≡ made → weigher.0.chosen ≡ options.chosen → TakesInputs (splits_by options.chosen.item) Weighs was fails complete weigher weighed
+      → pos total ≡ pos weighed.0.sketch.total → Appends held (contents old.1) (total_line options.header total) → old.0.sketch ≡ weighed.0.sketch → old.0.part ≡ options.keys_part → old.0.escaped ≡ options.escaped → TakesInput (splits_by options.keys_part) WritesKeys bytes keys_fail failure old new
+      → IfSome was (λ inputs. IfSome bytes (λ keys. WritesWeights options inputs fails keys keys_fail held (contents new.1)))
+  weights_written options None bytes keys_fail fails complete failure made weigher weighed total held old new empty begin part weighs sum wrote sketch keys_part escaped taken = tt
+  weights_written options (Some inputs) None keys_fail fails complete failure made weigher weighed total held old new empty begin part weighs sum wrote sketch keys_part escaped taken = tt
+  weights_written options (Some inputs) (Some keys) keys_fail fails complete failure made weigher weighed total held old new empty begin part (is, (read, are, each)) sum wrote sketch keys_part escaped (is_failed, (got, of, taken)) =
       let items : Weighed = weighed_in options.chosen read in
       let counts : CountsLines options.chosen made (flat_map (records_by options.chosen.item) read) weighed.0.sketch =
       subst (λ (p : WeighedRecord). CountsLines p made (flat_map (records_by p.item) read) weighed.0.sketch) part (subst (λ (s : CountState). CountsLines weigher.0.chosen s (flat_map (records_by weigher.0.chosen.item) read) weighed.0.sketch) begin (each_weighed weigher weighed read each).0) in
       let adds : CountsWeighed made items weighed.0.sketch = counts.0 in
-      let written : WritesEstimates options.escaped weighed.0.sketch (parts_in options.keys_part one.got) (contents old.1) (contents new.1) =
-      subst (λ (p : RecordPart). WritesEstimates options.escaped weighed.0.sketch (parts_in p one.got) (contents old.1) (contents new.1)) keys_part
-      (subst (λ (s : CountState). WritesEstimates options.escaped s (parts_in old.0.part one.got) (contents old.1) (contents new.1)) sketch
-      (subst (λ (b : Bool). WritesEstimates b old.0.sketch (parts_in old.0.part one.got) (contents old.1) (contents new.1)) escaped one.taken.0)) in
+      let written : WritesEstimates options.escaped weighed.0.sketch (parts_in options.keys_part got) (contents old.1) (contents new.1) =
+      subst (λ (p : RecordPart). WritesEstimates options.escaped weighed.0.sketch (parts_in p got) (contents old.1) (contents new.1)) keys_part
+      (subst (λ (s : CountState). WritesEstimates options.escaped s (parts_in old.0.part got) (contents old.1) (contents new.1)) sketch
+      (subst (λ (b : Bool). WritesEstimates b old.0.sketch (parts_in old.0.part got) (contents old.1) (contents new.1)) escaped taken.0)) in
       let none : made.total ≡ 0 = ap (λ (s : CountState). s.total) empty.is in
       let all : total ≡ total_of items = omega (arith, ints, sum, adds.total, none) in
       record {
         read = read;
         are = are;
-        read_keys = one.got;
-        front = one.front;
-        whole = one.same;
+        read_keys = got;
+        are_keys = of;
         hashes = made.hashes;
         buckets = made.buckets;
         table = empty.sizes;

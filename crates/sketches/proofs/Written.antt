@@ -91,11 +91,11 @@ module _ {W : Type 0} (contents : W → Option (List ℕ)) where
       let (part, repeated) = each_kept mid new read rest in
       (part ∙ same_part, repeated ∙ same_repeated)
 
-  pub written : (header : List ℕ) (held : Option (List ℕ)) (was : Option (List (List ℕ))) (complete : Bool) (old new : UnseenLines × W)
-      → old.0.written.unended ≡ false → Appends held (contents old.1) header → TakesInputs (splits_by old.0.part) Chooses was complete old new
-      → IfSome was (λ inputs. WritesUnseen old.0.repeated old.0.part header old.0.filter new.0.filter inputs complete held (contents new.1))
-  written header held None complete old new ended begins taken = tt
-  written header held (Some inputs) complete old new ended begins (read, are, each) = record {
+  pub written : (header : List ℕ) (held : Option (List ℕ)) (was : Option (List (List ℕ))) (fails : List Bool) (complete : Bool) (old new : UnseenLines × W)
+      → old.0.written.unended ≡ false → Appends held (contents old.1) header → TakesInputs (splits_by old.0.part) Chooses was fails complete old new
+      → IfSome was (λ inputs. WritesUnseen old.0.repeated old.0.part header old.0.filter new.0.filter inputs fails held (contents new.1))
+  written header held None fails complete old new ended begins taken = tt
+  written header held (Some inputs) fails complete old new ended begins (is, (read, are, each)) = record {
     read = read;
     are = are;
     written =

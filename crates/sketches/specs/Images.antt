@@ -121,12 +121,12 @@ pub record WritesImage (s : Sketch) (held holds : Option (List ℕ)) : Type 0 wh
 
 -- the sketch that was kept is that of a report: it has the items of what was read of the inputs, and its table hashes under the key of
 -- the run
-abbrev pub KeepsItems : Options → Option (List (List ℕ)) → Bool → Option Sketch → Type 0
-KeepsItems options inputs complete kept = IfSome inputs (λ all. IfSome kept (λ s.
-    (read : List (List ℕ)) × AreRead (splits_of options.weighing) complete all read
+abbrev pub KeepsItems : Options → Option (List (List ℕ)) → (fails : List Bool) → Option Sketch → Type 0
+KeepsItems options inputs fails kept = IfSome inputs (λ all. IfSome kept (λ s.
+    (read : List (List ℕ)) × AreRead (splits_of options.weighing) fails all read
     × HasItems options.size (flat_map (weighed_of options.weighing) read) s × Counts options read s × (s.key ≡ options.key)))
 
 -- A write has failed. The output received the front of a report, and the sketch was kept before.
-abbrev pub StopsTop : Options → Option (List (List ℕ)) → (kept : Option Sketch) → (has_failed : Bool) → (held holds : Option (List ℕ)) → Type 0
-StopsTop options inputs kept has_failed held holds =
-    (has_failed ≡ true) × WritesReportFront options inputs held holds × ((complete : Bool) × KeepsItems options inputs complete kept)
+abbrev pub StopsTop : Options → Option (List (List ℕ)) → (fails : List Bool) → (kept : Option Sketch) → (has_failed : Bool) → (held holds : Option (List ℕ)) → Type 0
+StopsTop options inputs fails kept has_failed held holds =
+    (has_failed ≡ true) × WritesReportFront options inputs fails held holds × KeepsItems options inputs fails kept
