@@ -2,6 +2,7 @@
 use Rattle.std.proofs.Common.{◌≡◌, ⊎_elim, ℕ, ◌+◌, ◌^◌, ◌<◌, ◌≤◌, Bool, List, [], ◌∷◌, ◌++◌, length, Option, None, Some, IfSome, append-nil, refl, sym, ◌∙◌, ap, subst, arith, length-append}
 use Rattle.std.proofs.lemmas.List.Concat.{flat_map-append}
 use Rattle.std.specs.List.{AllZip, flat_map}
+use Rattle.std.specs.declared.io.Error.{Error}
 use Rattle.sketches.specs.Added.{Sketch, AddsLines, AddsWeighed}
 use Rattle.sketches.specs.Failures.{FailsLines, FailsTop}
 use Rattle.sketches.specs.Inputs.{AreRead, FailsAmong, FailsInputs, HaveLongRecord, FailsTakingInputs, TakesEach, TakesInputs}
@@ -101,7 +102,7 @@ bad_weight old after inputs found f =
 
 -- ---- a failure
 
-taking_failed : (options : Options) (was : Option (List (List ℕ))) (output : Type 0) (old after : Counter) (e : Failure) → old.0.sketch.total ≡ 0 → old.0.weighing ≡ options.weighing → FailsTakingInputs (splits_of old.0.weighing) Counts FailsCounting was old after e → FailsTop options was output e
+taking_failed : (options : Options) (was : Option (List (List ℕ))) (output : Error → Type 0) (old after : Counter) (e : Failure) → old.0.sketch.total ≡ 0 → old.0.weighing ≡ options.weighing → FailsTakingInputs (splits_of old.0.weighing) Counts FailsCounting was old after e → FailsTop options was output e
 taking_failed options was output old after Memory new same f = tt
 taking_failed options was output old after LineTooLong new same f = absurd f.some.2
 taking_failed options None output old after TooManyItems new same f = tt
@@ -111,7 +112,7 @@ taking_failed options (Some inputs) output old after (failures.BadWeight found) 
 taking_failed options was output old after BadSize new same f = absurd f.some.2
 taking_failed options was output old after (Write error) new same f = absurd f.some.2
 
-pub count_failed : (options : Options) (was : Option (List (List ℕ))) (output : Type 0) (old after : Counter) (e : Failure) → old.0.sketch.total ≡ 0 → old.0.weighing ≡ options.weighing → FailsInputs (splits_of old.0.weighing) Counts FailsCounting (options.max_line + 1) was old after e → FailsTop options was output e
+pub count_failed : (options : Options) (was : Option (List (List ℕ))) (output : Error → Type 0) (old after : Counter) (e : Failure) → old.0.sketch.total ≡ 0 → old.0.weighing ≡ options.weighing → FailsInputs (splits_of old.0.weighing) Counts FailsCounting (options.max_line + 1) was old after e → FailsTop options was output e
 count_failed options was output old after e new same failed = ⊎_elim
     (λ stops. ⊎_elim (λ memory. rw memory tt) (λ long. rw long.0 (subst (λ (p : Weighing). IfSome was (HaveLongRecord (splits_of p) (options.max_line + 1))) same long.1)) stops.0)
     (λ taking. taking_failed options was output old after e new same taking)

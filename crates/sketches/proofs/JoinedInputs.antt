@@ -3,6 +3,7 @@ use Rattle.std.proofs.Common.{◌≡◌, ⊎_elim, ℕ, Bool, true, false, List,
 use Rattle.std.specs.Io.KnownBytes.{Appends}
 use Rattle.std.specs.List.{flat_map}
 use Rattle.std.specs.Prelude.{if◌then◌else◌}
+use Rattle.std.specs.declared.io.Error.{Error}
 use Rattle.sketch_bloom.specs.State.{FilterState}
 use Rattle.sketch_frequencies.proofs.KeyedBatches.{all_zip_push}
 use Rattle.sketches.specs.Failures.{FailsWriting, FailsWrittenLines}
@@ -81,9 +82,9 @@ module _ {W : Type 0} (contents : W → Option (List ℕ)) where
 
   -- ---- a failure
 
-  abbrev pub FailsJoining : (has_failed : W → Bool) → JoinedLines × W → List ℕ → JoinedLines × W → Failure → Type 0
-  FailsJoining has_failed old bytes new failure =
-      FailsWriting (has_failed new.1) failure
+  abbrev pub FailsJoining : (write_error : W → Option Error) → JoinedLines × W → List ℕ → JoinedLines × W → Failure → Type 0
+  FailsJoining write_error old bytes new failure =
+      FailsWriting (write_error new.1) failure
       × WritesFront (contents old.1) (contents new.1) (text_of old.0.written.unended (joined_lines old.0.wanted old.0.part old.0.filter (raws_by old.0.part bytes)))
 
   -- the front of the joined records of what was read of the first inputs
@@ -106,9 +107,9 @@ module _ {W : Type 0} (contents : W → Option (List ℕ)) where
         (each_joined old new t.read t.taken).0)));
   }
 
-  failed_among : (has_failed : W → Bool) (header : List ℕ) (held : Option (List ℕ)) (empty : FilterState) (keys : List (List ℕ)) (old new : JoinedLines × W) (inputs : List (List ℕ)) (e : Failure) → old.0.filter ≡ with_items empty keys → old.0.written.unended ≡ false → Appends held (contents old.1) header
-      → FailsAmong (splits_by old.0.part) Joins (FailsJoining has_failed) inputs old new e → SomeJoined header held old new empty keys inputs
-  failed_among has_failed header held empty keys old new inputs e inserted ended begins f =
+  failed_among : (write_error : W → Option Error) (header : List ℕ) (held : Option (List ℕ)) (empty : FilterState) (keys : List (List ℕ)) (old new : JoinedLines × W) (inputs : List (List ℕ)) (e : Failure) → old.0.filter ≡ with_items empty keys → old.0.written.unended ≡ false → Appends held (contents old.1) header
+      → FailsAmong (splits_by old.0.part) Joins (FailsJoining write_error) inputs old new e → SomeJoined header held old new empty keys inputs
+  failed_among write_error header held empty keys old new inputs e inserted ended begins f =
       let p = old.0.part in
       let w = old.0.wanted in
       let (text, unended) = each_joined old f.mid f.read f.taken in
@@ -137,20 +138,20 @@ module _ {W : Type 0} (contents : W → Option (List ℕ)) where
             (subst (λ (b : Bool). WritesFront (contents old.1) (contents new.1) (text_of b (joined_lines w p old.0.filter (flat_map (raws_by p) (f.read ++ f.input ∷ []))))) ended front));
       }
 
-  pub some_joined : (has_failed : W → Bool) (limit : ℕ) (header : List ℕ) (held : Option (List ℕ)) (empty : FilterState) (keys_part : RecordPart) (keys : Option (List ℕ)) (was : Option (List (List ℕ))) (old new : JoinedLines × W) (e : Failure)
-      → IfSome keys (λ bytes. old.0.filter ≡ with_items empty (keys_of keys_part bytes)) → old.0.written.unended ≡ false → Appends held (contents old.1) header → FailsInputs (splits_by old.0.part) Joins (FailsJoining has_failed) limit was old new e
+  pub some_joined : (write_error : W → Option Error) (limit : ℕ) (header : List ℕ) (held : Option (List ℕ)) (empty : FilterState) (keys_part : RecordPart) (keys : Option (List ℕ)) (was : Option (List (List ℕ))) (old new : JoinedLines × W) (e : Failure)
+      → IfSome keys (λ bytes. old.0.filter ≡ with_items empty (keys_of keys_part bytes)) → old.0.written.unended ≡ false → Appends held (contents old.1) header → FailsInputs (splits_by old.0.part) Joins (FailsJoining write_error) limit was old new e
       → IfSome keys (λ bytes. IfSome was (SomeJoined header held old new empty (keys_of keys_part bytes)))
-  some_joined has_failed limit header held empty keys_part None was old new e inserted ended begins failed = tt
-  some_joined has_failed limit header held empty keys_part (Some bytes) None old new e inserted ended begins failed = tt
-  some_joined has_failed limit header held empty keys_part (Some bytes) (Some inputs) old new e inserted ended begins failed = ⊎_elim
+  some_joined write_error limit header held empty keys_part None was old new e inserted ended begins failed = tt
+  some_joined write_error limit header held empty keys_part (Some bytes) None old new e inserted ended begins failed = tt
+  some_joined write_error limit header held empty keys_part (Some bytes) (Some inputs) old new e inserted ended begins failed = ⊎_elim
       (λ stops. stopped header held empty (keys_of keys_part bytes) old new inputs inserted ended begins stops.1)
-      (λ taking. failed_among has_failed header held empty (keys_of keys_part bytes) old new inputs e inserted ended begins taking.known)
+      (λ taking. failed_among write_error header held empty (keys_of keys_part bytes) old new inputs e inserted ended begins taking.known)
       failed
 
-  pub joined_failed : (has_failed : W → Bool) (limit : ℕ) (was : Option (List (List ℕ))) (old new : JoinedLines × W) (e : Failure) → FailsInputs (splits_by old.0.part) Joins (FailsJoining has_failed) limit was old new e → FailsWrittenLines old.0.part limit was (has_failed new.1) e
-  joined_failed has_failed limit was old new e failed = ⊎_elim
-      (λ stops. lines_failed old.0.part limit was (has_failed new.1) e stops.0)
-      (λ taking. writing_failed old.0.part limit was (has_failed new.1) e taking.some.2.0)
+  pub joined_failed : (write_error : W → Option Error) (limit : ℕ) (was : Option (List (List ℕ))) (old new : JoinedLines × W) (e : Failure) → FailsInputs (splits_by old.0.part) Joins (FailsJoining write_error) limit was old new e → FailsWrittenLines old.0.part limit was (write_error new.1) e
+  joined_failed write_error limit was old new e failed = ⊎_elim
+      (λ stops. lines_failed old.0.part limit was (write_error new.1) e stops.0)
+      (λ taking. writing_failed old.0.part limit was (write_error new.1) e taking.some.2.0)
       failed
 
 -- the header alone, or nothing

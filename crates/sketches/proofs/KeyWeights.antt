@@ -10,6 +10,7 @@ use Rattle.std.specs.Io.KnownBytes.{Appends}
 use Rattle.std.specs.List.{AllZip, flat_map}
 use Rattle.std.specs.Prelude.{◌==◌, All, sum_by}
 use Rattle.std.specs.Str.{bytes_eq}
+use Rattle.std.specs.declared.io.Error.{Error}
 use Rattle.sketch_countmin.specs.Buckets.{bucket_of}
 use Rattle.sketch_countmin.specs.History.{CountHistory, each_updated, of_first, value_over}
 use Rattle.sketch_countmin.specs.History.CountHistory.{New, Update}
@@ -165,9 +166,9 @@ module _ {W : Type 0} (contents : W → Option (List ℕ)) where
       WritesEstimates old.0.escaped old.0.sketch (parts_in old.0.part bytes) (contents old.1) (contents new.1)
       × (new.0.sketch ≡ old.0.sketch) × (new.0.part ≡ old.0.part) × (new.0.escaped ≡ old.0.escaped)
 
-  abbrev pub FailsKeys : (has_failed : W → Bool) → KeyWeights × W → List ℕ → KeyWeights × W → Failure → Type 0
-  FailsKeys has_failed old bytes new failure =
-      FailsWriting (has_failed new.1) failure × WritesSomeEstimates old.0.escaped old.0.sketch (parts_in old.0.part bytes) (contents old.1) (contents new.1)
+  abbrev pub FailsKeys : (write_error : W → Option Error) → KeyWeights × W → List ℕ → KeyWeights × W → Failure → Type 0
+  FailsKeys write_error old bytes new failure =
+      FailsWriting (write_error new.1) failure × WritesSomeEstimates old.0.escaped old.0.sketch (parts_in old.0.part bytes) (contents old.1) (contents new.1)
 
   -- what was read of the inputs, and its weights in the table
   record HasWeighed (options : WeighOptions) (inputs : List (List ℕ)) (fails : List Bool) (made : CountState) (weighed : Weigher) : Type 0 where
@@ -239,14 +240,14 @@ module _ {W : Type 0} (contents : W → Option (List ℕ)) where
       }
 
   -- a failure while the keys are read
-  pub some_weights : (has_failed : W → Bool) (options : WeighOptions) (was : Option (List (List ℕ))) (bytes : Option (List ℕ)) (fails : List Bool) (complete : Bool) (made : CountState) (weigher weighed : Weigher) (total : ℕ) (held : Option (List ℕ)) (old new : KeyWeights × W) (e : Failure)
+  pub some_weights : (write_error : W → Option Error) (options : WeighOptions) (was : Option (List (List ℕ))) (bytes : Option (List ℕ)) (fails : List Bool) (complete : Bool) (made : CountState) (weigher weighed : Weigher) (total : ℕ) (held : Option (List ℕ)) (old new : KeyWeights × W) (e : Failure)
       → IsEmptyTable options.parts options.questions options.seed made → weigher.0.sketch ≡ made → weigher.0.chosen ≡ options.chosen → TakesInputs (splits_by options.chosen.item) Weighs was fails complete weigher weighed
       → pos total ≡ pos weighed.0.sketch.total → Appends held (contents old.1) (total_line options.header total) → old.0.sketch ≡ weighed.0.sketch → old.0.part ≡ options.keys_part → old.0.escaped ≡ options.escaped
-      → FailsInput (splits_by options.keys_part) WritesKeys (FailsKeys has_failed) (options.max_line + 1) bytes old new e
+      → FailsInput (splits_by options.keys_part) WritesKeys (FailsKeys write_error) (options.max_line + 1) bytes old new e
       → IfSome was (λ inputs. IfSome bytes (λ keys. WritesSomeWeights options inputs fails keys held (contents new.1)))
-  some_weights has_failed options None bytes fails complete made weigher weighed total held old new e empty begin part weighs sum wrote sketch keys_part escaped failed = tt
-  some_weights has_failed options (Some inputs) None fails complete made weigher weighed total held old new e empty begin part weighs sum wrote sketch keys_part escaped failed = tt
-  some_weights has_failed options (Some inputs) (Some keys) fails complete made weigher weighed total held old new e empty begin part weighs sum wrote sketch keys_part escaped failed =
+  some_weights write_error options None bytes fails complete made weigher weighed total held old new e empty begin part weighs sum wrote sketch keys_part escaped failed = tt
+  some_weights write_error options (Some inputs) None fails complete made weigher weighed total held old new e empty begin part weighs sum wrote sketch keys_part escaped failed = tt
+  some_weights write_error options (Some inputs) (Some keys) fails complete made weigher weighed total held old new e empty begin part weighs sum wrote sketch keys_part escaped failed =
       let of_options : (read : List ℕ) → WritesSomeEstimates old.0.escaped old.0.sketch (parts_in old.0.part read) (contents old.1) (contents new.1) → WritesSomeEstimates options.escaped weighed.0.sketch (parts_in options.keys_part read) (contents old.1) (contents new.1) =
       λ read some. subst (λ (p : RecordPart). WritesSomeEstimates options.escaped weighed.0.sketch (parts_in p read) (contents old.1) (contents new.1)) keys_part
       (subst (λ (s : CountState). WritesSomeEstimates options.escaped s (parts_in old.0.part read) (contents old.1) (contents new.1)) sketch
@@ -349,38 +350,38 @@ without_one old after inputs found f =
     let all = ap (λ (l : List (List ℕ)). length l) (ap (unweighed_in p) f.parts ∙ unweighed_among p f.earlier f.later f.input) in
     omega (arith, some, all, length-append (unweighed_in p f.earlier) (here ++ unweighed_in p f.later), length-append here (unweighed_in p f.later))
 
-taking_failed : (options : WeighOptions) (was : Option (List (List ℕ))) (keys : Option (List ℕ)) (has_failed : Bool) (old after : Weigher) (e : Failure) → old.0.sketch.total ≡ 0 → old.0.chosen ≡ options.chosen → FailsTakingInputs (splits_by old.0.chosen.item) Weighs FailsWeighs was old after e → FailsWeigh options was keys has_failed e
-taking_failed options was keys has_failed old after Memory new same f = tt
-taking_failed options was keys has_failed old after LineTooLong new same f = absurd f.some.2
-taking_failed options None keys has_failed old after TooManyItems new same f = tt
-taking_failed options (Some inputs) keys has_failed old after TooManyItems new same f = subst (λ (p : WeighedRecord). 2 ^ 64 ≤ total_of (weighed_in p inputs)) same (too_many old after inputs new f.known)
-taking_failed options None keys has_failed old after (BadWeight found) new same f = tt
-taking_failed options (Some inputs) keys has_failed old after (BadWeight found) new same f = subst (λ (p : WeighedRecord). 0 < length (unweighed_in p inputs)) same (without_one old after inputs found f.known)
-taking_failed options was keys has_failed old after BadSize new same f = absurd f.some.2
-taking_failed options was keys has_failed old after (Write error) new same f = absurd f.some.2
+taking_failed : (options : WeighOptions) (was : Option (List (List ℕ))) (keys : Option (List ℕ)) (write_error : Option Error) (old after : Weigher) (e : Failure) → old.0.sketch.total ≡ 0 → old.0.chosen ≡ options.chosen → FailsTakingInputs (splits_by old.0.chosen.item) Weighs FailsWeighs was old after e → FailsWeigh options was keys write_error e
+taking_failed options was keys write_error old after Memory new same f = tt
+taking_failed options was keys write_error old after LineTooLong new same f = absurd f.some.2
+taking_failed options None keys write_error old after TooManyItems new same f = tt
+taking_failed options (Some inputs) keys write_error old after TooManyItems new same f = subst (λ (p : WeighedRecord). 2 ^ 64 ≤ total_of (weighed_in p inputs)) same (too_many old after inputs new f.known)
+taking_failed options None keys write_error old after (BadWeight found) new same f = tt
+taking_failed options (Some inputs) keys write_error old after (BadWeight found) new same f = subst (λ (p : WeighedRecord). 0 < length (unweighed_in p inputs)) same (without_one old after inputs found f.known)
+taking_failed options was keys write_error old after BadSize new same f = absurd f.some.2
+taking_failed options was keys write_error old after (Write error) new same f = absurd f.some.2
 
-pub weigh_failed : (options : WeighOptions) (was : Option (List (List ℕ))) (keys : Option (List ℕ)) (has_failed : Bool) (old after : Weigher) (e : Failure) → old.0.sketch.total ≡ 0 → old.0.chosen ≡ options.chosen → FailsInputs (splits_by old.0.chosen.item) Weighs FailsWeighs (options.max_line + 1) was old after e → FailsWeigh options was keys has_failed e
-weigh_failed options was keys has_failed old after e new same failed = ⊎_elim
+pub weigh_failed : (options : WeighOptions) (was : Option (List (List ℕ))) (keys : Option (List ℕ)) (write_error : Option Error) (old after : Weigher) (e : Failure) → old.0.sketch.total ≡ 0 → old.0.chosen ≡ options.chosen → FailsInputs (splits_by old.0.chosen.item) Weighs FailsWeighs (options.max_line + 1) was old after e → FailsWeigh options was keys write_error e
+weigh_failed options was keys write_error old after e new same failed = ⊎_elim
     (λ stops. ⊎_elim (λ memory. rw memory tt) (λ long. rw long.0 (inl (subst (λ (p : WeighedRecord). IfSome was (HaveLongRecord (splits_by p.item) (options.max_line + 1))) same long.1))) stops.0)
-    (λ taking. taking_failed options was keys has_failed old after e new same taking)
+    (λ taking. taking_failed options was keys write_error old after e new same taking)
     failed
 
 -- a failure while the keys are read
-pub record IsLateFailure (options : WeighOptions) (was : Option (List (List ℕ))) (keys : Option (List ℕ)) (has_failed : Bool) (e : Failure) : Type 0 where
-  pub fails : FailsWeigh options was keys has_failed e
+pub record IsLateFailure (options : WeighOptions) (was : Option (List (List ℕ))) (keys : Option (List ℕ)) (write_error : Option Error) (e : Failure) : Type 0 where
+  pub fails : FailsWeigh options was keys write_error e
   pub late : ComesLate e
 
-pub writing_failed : (options : WeighOptions) (was : Option (List (List ℕ))) (keys : Option (List ℕ)) (has_failed : Bool) (e : Failure) → FailsWriting has_failed e → IsLateFailure options was keys has_failed e
-writing_failed options was keys has_failed Memory f = record { fails = tt; late = tt }
-writing_failed options was keys has_failed LineTooLong f = absurd f
-writing_failed options was keys has_failed TooManyItems f = absurd f
-writing_failed options was keys has_failed BadSize f = absurd f
-writing_failed options was keys has_failed (BadWeight found) f = absurd f
-writing_failed options was keys has_failed (Write error) f = record { fails = f; late = tt }
+pub writing_failed : (options : WeighOptions) (was : Option (List (List ℕ))) (keys : Option (List ℕ)) (write_error : Option Error) (e : Failure) → FailsWriting write_error e → IsLateFailure options was keys write_error e
+writing_failed options was keys write_error Memory f = record { fails = tt; late = tt }
+writing_failed options was keys write_error LineTooLong f = absurd f
+writing_failed options was keys write_error TooManyItems f = absurd f
+writing_failed options was keys write_error BadSize f = absurd f
+writing_failed options was keys write_error (BadWeight found) f = absurd f
+writing_failed options was keys write_error (Write error) f = record { fails = f; late = tt }
 
-pub keys_failed : {W : Type 0} (contents : W → Option (List ℕ)) (has_failed : W → Bool) (options : WeighOptions) (was : Option (List (List ℕ))) (keys : Option (List ℕ)) (old new : KeyWeights × W) (e : Failure)
-    → FailsInput (splits_by options.keys_part) (WritesKeys contents) (FailsKeys contents has_failed) (options.max_line + 1) keys old new e → IsLateFailure options was keys (has_failed new.1) e
-keys_failed contents has_failed options was keys old new e failed = ⊎_elim
+pub keys_failed : {W : Type 0} (contents : W → Option (List ℕ)) (write_error : W → Option Error) (options : WeighOptions) (was : Option (List (List ℕ))) (keys : Option (List ℕ)) (old new : KeyWeights × W) (e : Failure)
+    → FailsInput (splits_by options.keys_part) (WritesKeys contents) (FailsKeys contents write_error) (options.max_line + 1) keys old new e → IsLateFailure options was keys (write_error new.1) e
+keys_failed contents write_error options was keys old new e failed = ⊎_elim
     (λ stops. ⊎_elim (λ memory. rw memory (record { fails = tt; late = tt })) (λ long. rw long.0 (record { fails = inr long.1; late = tt })) stops.0)
-    (λ taking. writing_failed options was keys (has_failed new.1) e taking.some.2.0)
+    (λ taking. writing_failed options was keys (write_error new.1) e taking.some.2.0)
     failed

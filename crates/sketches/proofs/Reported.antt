@@ -13,6 +13,7 @@ use Rattle.std.specs.Option.{IfSome}
 use Rattle.std.specs.Str.{bytes_eq}
 use Rattle.std.specs.String.{string_bytes, string_eq}
 use Rattle.std.specs.declared.string.String.{String}
+use Rattle.std.specs.declared.io.Error.{Error}
 use Rattle.sketch_frequencies.specs.History.{FrequentHistory, true_weight, total_weight, min_sample, min_size, budget_size}
 use Rattle.sketch_frequencies.specs.History.FrequentHistory.{New, Update}
 use Rattle.sketch_frequencies.specs.Rows.{MissesNone, Shows, ShowsExactly}
@@ -308,11 +309,11 @@ merge_error options None s error merges is = tt
 merge_error options (Some all) s error merges is = (s, merges, is)
 
 -- a write of the report on a merged sketch failed
-pub merge_stopped : (options : MergeOptions) (was : Option (List (List ℕ))) (s : Sketch) (kept : Option Sketch) (has_failed : Bool) (held holds : Option (List ℕ)) (text : List ℕ)
-    → IfSome was (λ all. Merges options.images.max_bytes all s) → s.key ≡ options.images.key → IfSome kept (λ t. t ≡ s) → ShowsTop s options.layout options.threshold options.rows text → has_failed ≡ true → WritesFront held holds text
-    → IfSome was (λ all. StopsMerge options all kept has_failed held holds)
-merge_stopped options None s kept has_failed held holds text merges key is shows failed wrote = tt
-merge_stopped options (Some all) s kept has_failed held holds text merges key is shows failed wrote =
+pub merge_stopped : (options : MergeOptions) (was : Option (List (List ℕ))) (s : Sketch) (kept : Option Sketch) (write_error : Option Error) (held holds : Option (List ℕ)) (error : Error) (text : List ℕ)
+    → IfSome was (λ all. Merges options.images.max_bytes all s) → s.key ≡ options.images.key → IfSome kept (λ t. t ≡ s) → ShowsTop s options.layout options.threshold options.rows text → write_error ≡ Some error → WritesFront held holds text
+    → IfSome was (λ all. StopsMerge options all kept write_error held holds error)
+merge_stopped options None s kept write_error held holds error text merges key is shows failed wrote = tt
+merge_stopped options (Some all) s kept write_error held holds error text merges key is shows failed wrote =
     (failed, (text, made_merge options all s text merges shows, wrote), same_kept (λ t. Merges options.images.max_bytes all t × (t.key ≡ options.images.key)) kept s is (merges, key))
 
 pub items_kept : (options : Options) (inputs : Option (List (List ℕ))) (fails : List Bool) (kept : Option Sketch) (start s : Sketch)

@@ -1,5 +1,6 @@
 -- When each error of a run that joins records with keys comes.
 use Rattle.std.specs.Prelude.{◌≡◌, ◌+◌, ◌^◌, ◌≤◌, ℕ, Bool, true, List, length, Option, IfSome}
+use Rattle.std.specs.declared.io.Error.{Error}
 use Rattle.sketches.specs.Failures.{FailsFilter, FailsWrittenLines}
 use Rattle.sketches.specs.Reading.{HasLongRecord}
 use Rattle.sketches.specs.RecordParts.{raws_by}
@@ -30,10 +31,10 @@ FailsKeys options keys BadSize = FailsFilter options.size BadSize
 FailsKeys options keys failure = FailsKeyLines options.keys_part (options.max_line + 1) keys failure
 
 -- a read fails after the bytes of the keys; or a failure comes while keys are inserted, or while records are written
-abbrev pub FailsJoin : JoinOptions → Option (List ℕ) → (keys_fail : Bool) → Option (List (List ℕ)) → (has_failed : Bool) → JoinFailure → Type 0
-FailsJoin options keys keys_fail was has_failed (Unread error) = IfSome keys (λ _. keys_fail ≡ true)
-FailsJoin options keys keys_fail was has_failed (Keys failure) = FailsKeys options keys failure
-FailsJoin options keys keys_fail was has_failed (Lines failure) = FailsWrittenLines options.part (options.max_line + 1) was has_failed failure
+abbrev pub FailsJoin : JoinOptions → Option (List ℕ) → (keys_fail : Bool) → Option (List (List ℕ)) → (write_error : Option Error) → JoinFailure → Type 0
+FailsJoin options keys keys_fail was write_error (Unread error) = IfSome keys (λ _. keys_fail ≡ true)
+FailsJoin options keys keys_fail was write_error (Keys failure) = FailsKeys options keys failure
+FailsJoin options keys keys_fail was write_error (Lines failure) = FailsWrittenLines options.part (options.max_line + 1) was write_error failure
 
 -- the file of keys could not be read whole, or a failure came while its keys were inserted
 abbrev pub IsOfKeys : JoinFailure → Type 0

@@ -90,7 +90,7 @@ pub fn join<K: LineSource, I: Inputs, W: Output>(
     ensures complete_keys { OnOk result (IfSome (K.remaining keys.old) (λ _. K.fails keys.old ≡ false)) }
 
     // When each error comes, and what it leaves unchanged.
-    ensures failed { IfErr result (FailsJoin options (K.remaining keys.old) (K.fails keys.old) (I.inputs inputs.old) (W.has_failed writer.new)) }
+    ensures failed { IfErr result (FailsJoin options (K.remaining keys.old) (K.fails keys.old) (I.inputs inputs.old) (W.failure writer.new)) }
     ensures front { IfErr result (λ failure. (writer.new ≡ writer.old) ⊎ ((filter : FilterState) × IsFilterOf options.size options.seed filter
         × IfSome (K.remaining keys.old) (λ bytes. IfSome (I.inputs inputs.old) (λ all. WritesSomeJoined options.wanted options.part header.now
         filter (keys_of options.keys_part bytes) all (W.contents writer.old) (W.contents writer.new))))) }

@@ -79,7 +79,7 @@ pub fn top<I: Inputs, K: Keeper, W: Output>(
 
     // When each error comes, and what it leaves unchanged.
     ensures failed { IfErr result (FailsTop options (I.inputs inputs.old) (StopsTop options (I.inputs inputs.old) (I.fails inputs.old) (K.kept keeper.new)
-        (W.has_failed writer.new) (W.contents writer.old) (W.contents writer.new))) }
+        (W.failure writer.new) (W.contents writer.old) (W.contents writer.new))) }
     ensures too_long { OnOk result (IfSome (I.inputs inputs.old) (λ all. HaveLongRecord (splits_of options.weighing) (options.max_line + 1) all → ⊥)) }
     ensures bad_size { IsSome (size_fault options.size) → IsErrOf result Failure.BadSize }
     ensures unread { IsErrOf result Failure.BadSize → inputs.new ≡ inputs.old }

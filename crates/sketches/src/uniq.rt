@@ -66,7 +66,7 @@ pub fn uniq<I: Inputs, W: Output>(
     ensures complete { IfOk result (λ summary. IfSome (I.inputs inputs.old) (λ _. summary.complete ≡ none_fails (I.fails inputs.old))) }
 
     // When each error comes, and what it leaves unchanged.
-    ensures failed { IfErr result (FailsUniq options size (I.inputs inputs.old) (W.has_failed writer.new)) }
+    ensures failed { IfErr result (FailsUniq options size (I.inputs inputs.old) (W.failure writer.new)) }
     ensures front { IfErr result (λ failure. (writer.new ≡ writer.old) ⊎ ((filter : FilterState) × IsFilterOf size seed filter
         × IfSome (I.inputs inputs.old) (λ all. WritesSomeUnseen options.repeated options.part header.now filter all
         (W.contents writer.old) (W.contents writer.new)))) }
@@ -98,7 +98,7 @@ pub fn uniq_after<I: Inputs, W: Output>(
         summary.filter all (I.fails inputs.old) (W.contents writer.old) (W.contents writer.new))) }
     ensures complete { IfOk result (λ summary. IfSome (I.inputs inputs.old) (λ _. summary.complete ≡ none_fails (I.fails inputs.old))) }
     ensures too_long { OnOk result (IfSome (I.inputs inputs.old) (λ all. HaveLongRecord (splits_by options.part) (options.max_line + 1) all → ⊥)) }
-    ensures failed { IfErr result (FailsWrittenLines options.part (options.max_line + 1) (I.inputs inputs.old) (W.has_failed writer.new)) }
+    ensures failed { IfErr result (FailsWrittenLines options.part (options.max_line + 1) (I.inputs inputs.old) (W.failure writer.new)) }
     ensures front { IfErr result (λ failure. IfSome (I.inputs inputs.old) (λ all. WritesSomeUnseen options.repeated options.part header.now filter
         all (W.contents writer.old) (W.contents writer.new))) }
 {

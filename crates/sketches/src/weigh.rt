@@ -81,7 +81,7 @@ pub fn weigh<I: Inputs, R: LineSource, W: Output>(
     ensures complete_keys { IfOk result (λ done. IfSome (R.remaining keys.old) (λ _. is_some done.failure ≡ R.fails keys.old)) }
 
     // When each error comes, and what it leaves unchanged.
-    ensures failed { IfErr result (FailsWeigh options (I.inputs inputs.old) (R.remaining keys.old) (W.has_failed writer.new)) }
+    ensures failed { IfErr result (FailsWeigh options (I.inputs inputs.old) (R.remaining keys.old) (W.failure writer.new)) }
     ensures too_long { OnOk result (IfSome (I.inputs inputs.old) (λ all. HaveLongRecord (splits_by options.chosen.item) (options.max_line + 1) all → ⊥)) }
     ensures too_long_keys { OnOk result (IfSome (R.remaining keys.old) (λ bytes. HasLongRecord (splits_by options.keys_part) (options.max_line + 1) bytes → ⊥)) }
     ensures bad_size { (options.parts ≡ 0) ⊎ (options.questions ≤ 1) → IsErrOf result Failure.BadSize }
@@ -155,7 +155,7 @@ fn write_total<W: Output>(
 ) -> Result<(), Failure>
     ensures written { OnOk result (Appends (W.contents writer.old) (W.contents writer.new) (total_line wanted total)) }
     ensures front { OnErr result (WritesFront (W.contents writer.old) (W.contents writer.new) (total_line wanted total)) }
-    ensures failed { IfErr result (FailsWriting (W.has_failed writer.new)) }
+    ensures failed { IfErr result (FailsWriting (W.failure writer.new)) }
 {
     if !wanted {
         return Ok(());

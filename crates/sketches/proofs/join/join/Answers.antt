@@ -28,6 +28,6 @@ returns-clause-front g c =
     inr (
       c.in-Ok.empty,
       c.in-Ok.ensures.made,
-      some_joined g.W.Output.contents g.W.Output.has_failed (o.max_line + 1) c.args.header.now (g.W.Output.contents c.args.writer.now) c.in-Ok.empty o.keys_part (g.K.LineSource.remaining c.args.keys.now) (g.I.Inputs.inputs c.args.inputs.now)
+      some_joined g.W.Output.contents g.W.Output.failure (o.max_line + 1) c.args.header.now (g.W.Output.contents c.args.writer.now) c.in-Ok.empty o.keys_part (g.K.LineSource.remaining c.args.keys.now) (g.I.Inputs.inputs c.args.inputs.now)
           (record { filter = filter; part = o.part; wanted = o.wanted; left_out = 0; written = record { bytes = c.new.result; unended = false } }, c.write_header.new.writer) (c.read_inputs.new.sink, c.read_inputs.new.output) _ c.in_ok-filter.ensures.inserted refl c.in_default.ensures.written c.in-Err-read_inputs.ensures.failed,
     )

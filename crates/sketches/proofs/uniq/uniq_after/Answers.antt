@@ -26,7 +26,7 @@ returns-in_err-write_header g c =
       written = tt;
       complete = tt;
       too_long = tt;
-      failed = writing_failed o.part (o.max_line + 1) was (g.W.Output.has_failed c.write_header.new.writer) _ f.failed;
+      failed = writing_failed o.part (o.max_line + 1) was (g.W.Output.failure c.write_header.new.writer) _ f.failed;
       front = header_written o.repeated o.part c.args.header.now c.args.filter was (g.W.Output.contents c.args.writer.now) (g.W.Output.contents c.write_header.new.writer) f.front;
     })
 
@@ -40,6 +40,6 @@ returns-in_err-complete g c =
       written = tt;
       complete = tt;
       too_long = tt;
-      failed = unseen_failed g.W.Output.contents g.W.Output.has_failed (o.max_line + 1) was (record { filter = c.args.filter; part = o.part; repeated = o.repeated; left_out = 0; written = record { bytes = c.new.result; unended = false } }, c.write_header.new.writer) (c.read_inputs.new.sink, c.read_inputs.new.output) _ f;
-      front = some_written g.W.Output.contents g.W.Output.has_failed (o.max_line + 1) c.args.header.now (g.W.Output.contents c.args.writer.now) was (record { filter = c.args.filter; part = o.part; repeated = o.repeated; left_out = 0; written = record { bytes = c.new.result; unended = false } }, c.write_header.new.writer) (c.read_inputs.new.sink, c.read_inputs.new.output) _ refl c.in_ok-write_header.ensures.written f;
+      failed = unseen_failed g.W.Output.contents g.W.Output.failure (o.max_line + 1) was (record { filter = c.args.filter; part = o.part; repeated = o.repeated; left_out = 0; written = record { bytes = c.new.result; unended = false } }, c.write_header.new.writer) (c.read_inputs.new.sink, c.read_inputs.new.output) _ f;
+      front = some_written g.W.Output.contents g.W.Output.failure (o.max_line + 1) c.args.header.now (g.W.Output.contents c.args.writer.now) was (record { filter = c.args.filter; part = o.part; repeated = o.repeated; left_out = 0; written = record { bytes = c.new.result; unended = false } }, c.write_header.new.writer) (c.read_inputs.new.sink, c.read_inputs.new.output) _ refl c.in_ok-write_header.ensures.written f;
     })
