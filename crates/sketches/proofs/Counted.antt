@@ -2,6 +2,7 @@
 use Rattle.std.proofs.Common.{◌≡◌, ⊎_elim, ℕ, ◌+◌, ◌^◌, ◌<◌, ◌≤◌, Bool, List, [], ◌∷◌, ◌++◌, length, Option, None, Some, IfSome, append-nil, refl, sym, ◌∙◌, ap, subst, arith, length-append}
 use Rattle.std.proofs.lemmas.List.Concat.{flat_map-append}
 use Rattle.std.specs.List.{AllZip, flat_map}
+use Rattle.std.specs.declared.io.Error.{Error}
 use Rattle.sketches.specs.Added.{Sketch, AddsLines, AddsWeighed}
 use Rattle.sketches.specs.Failures.{FailsLines, FailsTop}
 use Rattle.sketches.specs.Inputs.{AreRead, FailsAmong, FailsInputs, HaveLongRecord, FailsTakingInputs, TakesEach, TakesInputs}
@@ -57,13 +58,13 @@ each_grown old new (bytes ∷ read) (mid, ((_, kept), first), rest) =
     omega (arith, first, later, not_utf8_append p (records_of p bytes) (flat_map (records_of p) read))
 
 -- the items of what was read of each input were added, and its records whose items are not UTF-8 were counted
-abbrev pub CountsInputs : Weighing → Option (List (List ℕ)) → Bool → (old new : Sketch) → (before after : ℕ) → Type 0
-CountsInputs p was complete old new before after = IfSome was (λ inputs.
-    (read : List (List ℕ)) × AreRead (splits_of p) complete inputs read × AddsEach p old read new × GrowsBy before (not_utf8_in p (flat_map (records_of p) read)) after)
+abbrev pub CountsInputs : Weighing → Option (List (List ℕ)) → (fails : List Bool) → (old new : Sketch) → (before after : ℕ) → Type 0
+CountsInputs p was fails old new before after = IfSome was (λ inputs.
+    (read : List (List ℕ)) × AreRead (splits_of p) fails inputs read × AddsEach p old read new × GrowsBy before (not_utf8_in p (flat_map (records_of p) read)) after)
 
-pub counted : (was : Option (List (List ℕ))) (complete : Bool) (old new : Counter) → TakesInputs (splits_of old.0.weighing) Counts was complete old new → CountsInputs old.0.weighing was complete old.0.sketch new.0.sketch old.0.not_utf8 new.0.not_utf8
-counted None complete old new taken = tt
-counted (Some inputs) complete old new (read, are, each) = (read, are, (each_counted old new read each).0, each_grown old new read each)
+pub counted : (was : Option (List (List ℕ))) (fails : List Bool) (complete : Bool) (old new : Counter) → TakesInputs (splits_of old.0.weighing) Counts was fails complete old new → CountsInputs old.0.weighing was fails old.0.sketch new.0.sketch old.0.not_utf8 new.0.not_utf8
+counted None fails complete old new taken = tt
+counted (Some inputs) fails complete old new (is, (read, are, each)) = (read, are, (each_counted old new read each).0, each_grown old new read each)
 
 -- ---- too many items
 
@@ -101,7 +102,7 @@ bad_weight old after inputs found f =
 
 -- ---- a failure
 
-taking_failed : (options : Options) (was : Option (List (List ℕ))) (output : Type 0) (old after : Counter) (e : Failure) → old.0.sketch.total ≡ 0 → old.0.weighing ≡ options.weighing → FailsTakingInputs (splits_of old.0.weighing) Counts FailsCounting was old after e → FailsTop options was output e
+taking_failed : (options : Options) (was : Option (List (List ℕ))) (output : Error → Type 0) (old after : Counter) (e : Failure) → old.0.sketch.total ≡ 0 → old.0.weighing ≡ options.weighing → FailsTakingInputs (splits_of old.0.weighing) Counts FailsCounting was old after e → FailsTop options was output e
 taking_failed options was output old after Memory new same f = tt
 taking_failed options was output old after LineTooLong new same f = absurd f.some.2
 taking_failed options None output old after TooManyItems new same f = tt
@@ -111,7 +112,7 @@ taking_failed options (Some inputs) output old after (failures.BadWeight found) 
 taking_failed options was output old after BadSize new same f = absurd f.some.2
 taking_failed options was output old after (Write error) new same f = absurd f.some.2
 
-pub count_failed : (options : Options) (was : Option (List (List ℕ))) (output : Type 0) (old after : Counter) (e : Failure) → old.0.sketch.total ≡ 0 → old.0.weighing ≡ options.weighing → FailsInputs (splits_of old.0.weighing) Counts FailsCounting (options.max_line + 1) was old after e → FailsTop options was output e
+pub count_failed : (options : Options) (was : Option (List (List ℕ))) (output : Error → Type 0) (old after : Counter) (e : Failure) → old.0.sketch.total ≡ 0 → old.0.weighing ≡ options.weighing → FailsInputs (splits_of old.0.weighing) Counts FailsCounting (options.max_line + 1) was old after e → FailsTop options was output e
 count_failed options was output old after e new same failed = ⊎_elim
     (λ stops. ⊎_elim (λ memory. rw memory tt) (λ long. rw long.0 (subst (λ (p : Weighing). IfSome was (HaveLongRecord (splits_of p) (options.max_line + 1))) same long.1)) stops.0)
     (λ taking. taking_failed options was output old after e new same taking)

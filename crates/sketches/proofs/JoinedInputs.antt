@@ -3,6 +3,7 @@ use Rattle.std.proofs.Common.{◌≡◌, ⊎_elim, ℕ, Bool, true, false, List,
 use Rattle.std.specs.Io.KnownBytes.{Appends}
 use Rattle.std.specs.List.{flat_map}
 use Rattle.std.specs.Prelude.{if◌then◌else◌}
+use Rattle.std.specs.declared.io.Error.{Error}
 use Rattle.sketch_bloom.specs.State.{FilterState}
 use Rattle.sketch_frequencies.proofs.KeyedBatches.{all_zip_push}
 use Rattle.sketches.specs.Failures.{FailsWriting, FailsWrittenLines}
@@ -63,12 +64,12 @@ module _ {W : Type 0} (contents : W → Option (List ℕ)) where
       (filter ∙ same, part ∙ same_part, wanted ∙ same_wanted)
 
   -- all records were joined with all keys
-  pub joined : (header : List ℕ) (held : Option (List ℕ)) (empty : FilterState) (keys_part : RecordPart) (keys : Option (List ℕ)) (was : Option (List (List ℕ))) (complete : Bool) (old new : JoinedLines × W)
-      → IfSome keys (λ bytes. old.0.filter ≡ with_items empty (keys_of keys_part bytes)) → Appends held (contents old.1) header → TakesInputs (splits_by old.0.part) Joins was complete old new
-      → IfSome keys (λ bytes. IfSome was (λ inputs. WritesJoined old.0.written.form old.0.wanted old.0.part header empty new.0.filter (keys_of keys_part bytes) inputs complete held (contents new.1)))
-  joined header held empty keys_part None was complete old new inserted begins taken = tt
-  joined header held empty keys_part (Some bytes) None complete old new inserted begins taken = tt
-  joined header held empty keys_part (Some bytes) (Some inputs) complete old new inserted begins (read, are, each) = record {
+  pub joined : (header : List ℕ) (held : Option (List ℕ)) (empty : FilterState) (keys_part : RecordPart) (keys : Option (List ℕ)) (was : Option (List (List ℕ))) (fails : List Bool) (complete : Bool) (old new : JoinedLines × W)
+      → IfSome keys (λ bytes. old.0.filter ≡ with_items empty (keys_of keys_part bytes)) → Appends held (contents old.1) header → TakesInputs (splits_by old.0.part) Joins was fails complete old new
+      → IfSome keys (λ bytes. IfSome was (λ inputs. WritesJoined old.0.written.form old.0.wanted old.0.part header empty new.0.filter (keys_of keys_part bytes) inputs fails held (contents new.1)))
+  joined header held empty keys_part None was fails complete old new inserted begins taken = tt
+  joined header held empty keys_part (Some bytes) None fails complete old new inserted begins taken = tt
+  joined header held empty keys_part (Some bytes) (Some inputs) fails complete old new inserted begins (is, (read, are, each)) = record {
     read = read;
     are = are;
     written =
@@ -81,9 +82,9 @@ module _ {W : Type 0} (contents : W → Option (List ℕ)) where
 
   -- ---- a failure
 
-  abbrev pub FailsJoining : (has_failed : W → Bool) → JoinedLines × W → List ℕ → JoinedLines × W → Failure → Type 0
-  FailsJoining has_failed old bytes new failure =
-      FailsWriting (has_failed new.1) failure
+  abbrev pub FailsJoining : (write_error : W → Option Error) → JoinedLines × W → List ℕ → JoinedLines × W → Failure → Type 0
+  FailsJoining write_error old bytes new failure =
+      FailsWriting (write_error new.1) failure
       × WritesFront (contents old.1) (contents new.1) (text_of old.0.written.form (joined_lines old.0.wanted old.0.part old.0.filter (raws_by old.0.part bytes)))
 
   -- the front of the joined records of what was read of the first inputs
@@ -105,9 +106,9 @@ module _ {W : Type 0} (contents : W → Option (List ℕ)) where
         (each_joined old new t.read t.taken).0));
   }
 
-  failed_among : (has_failed : W → Bool) (header : List ℕ) (held : Option (List ℕ)) (empty : FilterState) (keys : List (List ℕ)) (old new : JoinedLines × W) (inputs : List (List ℕ)) (e : Failure) → old.0.filter ≡ with_items empty keys → Appends held (contents old.1) header
-      → FailsAmong (splits_by old.0.part) Joins (FailsJoining has_failed) inputs old new e → SomeJoined header held old new empty keys inputs
-  failed_among has_failed header held empty keys old new inputs e inserted begins f =
+  failed_among : (write_error : W → Option Error) (header : List ℕ) (held : Option (List ℕ)) (empty : FilterState) (keys : List (List ℕ)) (old new : JoinedLines × W) (inputs : List (List ℕ)) (e : Failure) → old.0.filter ≡ with_items empty keys → Appends held (contents old.1) header
+      → FailsAmong (splits_by old.0.part) Joins (FailsJoining write_error) inputs old new e → SomeJoined header held old new empty keys inputs
+  failed_among write_error header held empty keys old new inputs e inserted begins f =
       let p = old.0.part in
       let w = old.0.wanted in
       let (text, form) = each_joined old f.mid f.read f.taken in
@@ -136,20 +137,20 @@ module _ {W : Type 0} (contents : W → Option (List ℕ)) where
             front);
       }
 
-  pub some_joined : (has_failed : W → Bool) (limit : ℕ) (header : List ℕ) (held : Option (List ℕ)) (empty : FilterState) (keys_part : RecordPart) (keys : Option (List ℕ)) (was : Option (List (List ℕ))) (old new : JoinedLines × W) (e : Failure)
-      → IfSome keys (λ bytes. old.0.filter ≡ with_items empty (keys_of keys_part bytes)) → Appends held (contents old.1) header → FailsInputs (splits_by old.0.part) Joins (FailsJoining has_failed) limit was old new e
+  pub some_joined : (write_error : W → Option Error) (limit : ℕ) (header : List ℕ) (held : Option (List ℕ)) (empty : FilterState) (keys_part : RecordPart) (keys : Option (List ℕ)) (was : Option (List (List ℕ))) (old new : JoinedLines × W) (e : Failure)
+      → IfSome keys (λ bytes. old.0.filter ≡ with_items empty (keys_of keys_part bytes)) → Appends held (contents old.1) header → FailsInputs (splits_by old.0.part) Joins (FailsJoining write_error) limit was old new e
       → IfSome keys (λ bytes. IfSome was (SomeJoined header held old new empty (keys_of keys_part bytes)))
-  some_joined has_failed limit header held empty keys_part None was old new e inserted begins failed = tt
-  some_joined has_failed limit header held empty keys_part (Some bytes) None old new e inserted begins failed = tt
-  some_joined has_failed limit header held empty keys_part (Some bytes) (Some inputs) old new e inserted begins failed = ⊎_elim
+  some_joined write_error limit header held empty keys_part None was old new e inserted begins failed = tt
+  some_joined write_error limit header held empty keys_part (Some bytes) None old new e inserted begins failed = tt
+  some_joined write_error limit header held empty keys_part (Some bytes) (Some inputs) old new e inserted begins failed = ⊎_elim
       (λ stops. stopped header held empty (keys_of keys_part bytes) old new inputs inserted begins stops.1)
-      (λ taking. failed_among has_failed header held empty (keys_of keys_part bytes) old new inputs e inserted begins taking.known)
+      (λ taking. failed_among write_error header held empty (keys_of keys_part bytes) old new inputs e inserted begins taking.known)
       failed
 
-  pub joined_failed : (has_failed : W → Bool) (limit : ℕ) (was : Option (List (List ℕ))) (old new : JoinedLines × W) (e : Failure) → FailsInputs (splits_by old.0.part) Joins (FailsJoining has_failed) limit was old new e → FailsWrittenLines old.0.part limit was (has_failed new.1) e
-  joined_failed has_failed limit was old new e failed = ⊎_elim
-      (λ stops. lines_failed old.0.part limit was (has_failed new.1) e stops.0)
-      (λ taking. writing_failed old.0.part limit was (has_failed new.1) e taking.some.2.0)
+  pub joined_failed : (write_error : W → Option Error) (limit : ℕ) (was : Option (List (List ℕ))) (old new : JoinedLines × W) (e : Failure) → FailsInputs (splits_by old.0.part) Joins (FailsJoining write_error) limit was old new e → FailsWrittenLines old.0.part limit was (write_error new.1) e
+  joined_failed write_error limit was old new e failed = ⊎_elim
+      (λ stops. lines_failed old.0.part limit was (write_error new.1) e stops.0)
+      (λ taking. writing_failed old.0.part limit was (write_error new.1) e taking.some.2.0)
       failed
 
 -- the header alone, or nothing

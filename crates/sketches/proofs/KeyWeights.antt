@@ -10,6 +10,7 @@ use Rattle.std.specs.Io.KnownBytes.{Appends}
 use Rattle.std.specs.List.{AllZip, flat_map}
 use Rattle.std.specs.Prelude.{◌==◌, All, sum_by}
 use Rattle.std.specs.Str.{bytes_eq}
+use Rattle.std.specs.declared.io.Error.{Error}
 use Rattle.sketch_countmin.specs.Buckets.{bucket_of}
 use Rattle.sketch_countmin.specs.History.{CountHistory, each_updated, of_first, value_over}
 use Rattle.sketch_countmin.specs.History.CountHistory.{New, Update}
@@ -38,7 +39,6 @@ use Rattle.sketches.specs.declared.key_weights.KeyWeights.{KeyWeights}
 use Rattle.sketches.specs.declared.layout.Style.{Style}
 use Rattle.sketch_base.specs.declared.record_part.RecordPart.{RecordPart}
 use Rattle.sketches.specs.declared.weigh.WeighOptions.{WeighOptions}
-use Rattle.sketches.proofs.ReadInputs.{IsTaken, taken_one}
 
 -- ---- the weight in a bucket
 
@@ -167,20 +167,20 @@ module _ {W : Type 0} (contents : W → Option (List ℕ)) where
       WritesEstimates old.0.style old.0.sketch (parts_in old.0.part bytes) (contents old.1) (contents new.1)
       × (new.0.sketch ≡ old.0.sketch) × (new.0.part ≡ old.0.part) × (new.0.style ≡ old.0.style)
 
-  abbrev pub FailsKeys : (has_failed : W → Bool) → KeyWeights × W → List ℕ → KeyWeights × W → Failure → Type 0
-  FailsKeys has_failed old bytes new failure =
-      FailsWriting (has_failed new.1) failure × WritesSomeEstimates old.0.style old.0.sketch (parts_in old.0.part bytes) (contents old.1) (contents new.1)
+  abbrev pub FailsKeys : (write_error : W → Option Error) → KeyWeights × W → List ℕ → KeyWeights × W → Failure → Type 0
+  FailsKeys write_error old bytes new failure =
+      FailsWriting (write_error new.1) failure × WritesSomeEstimates old.0.style old.0.sketch (parts_in old.0.part bytes) (contents old.1) (contents new.1)
 
   -- what was read of the inputs, and its weights in the table
-  record HasWeighed (options : WeighOptions) (inputs : List (List ℕ)) (complete : Bool) (made : CountState) (weighed : Weigher) : Type 0 where
+  record HasWeighed (options : WeighOptions) (inputs : List (List ℕ)) (fails : List Bool) (made : CountState) (weighed : Weigher) : Type 0 where
     read : List (List ℕ)
-    are : AreRead (splits_by options.chosen.item) complete inputs read
+    are : AreRead (splits_by options.chosen.item) fails inputs read
     adds : CountsWeighed made (weighed_in options.chosen read) weighed.0.sketch
     each : unweighed_in options.chosen read ≡ []
 
-  has_weighed : (options : WeighOptions) (inputs : List (List ℕ)) (complete : Bool) (made : CountState) (weigher weighed : Weigher) → weigher.0.sketch ≡ made → weigher.0.chosen ≡ options.chosen
-      → TakesInputs (splits_by options.chosen.item) Weighs (Some inputs) complete weigher weighed → HasWeighed options inputs complete made weighed
-  has_weighed options inputs complete made weigher weighed begin part (read, are, each) =
+  has_weighed : (options : WeighOptions) (inputs : List (List ℕ)) (fails : List Bool) (complete : Bool) (made : CountState) (weigher weighed : Weigher) → weigher.0.sketch ≡ made → weigher.0.chosen ≡ options.chosen
+      → TakesInputs (splits_by options.chosen.item) Weighs (Some inputs) fails complete weigher weighed → HasWeighed options inputs fails made weighed
+  has_weighed options inputs fails complete made weigher weighed begin part (is, (read, are, each)) =
       let counts : CountsLines options.chosen made (flat_map (records_by options.chosen.item) read) weighed.0.sketch =
       subst (λ (p : WeighedRecord). CountsLines p made (flat_map (records_by p.item) read) weighed.0.sketch) part (subst (λ (s : CountState). CountsLines weigher.0.chosen s (flat_map (records_by weigher.0.chosen.item) read) weighed.0.sketch) begin (each_weighed weigher weighed read each).0) in
       record { read = read; are = are; adds = counts.0; each = counts.1 }
@@ -189,16 +189,15 @@ module _ {W : Type 0} (contents : W → Option (List ℕ)) where
   total_is made items weighed total none adds sum = omega (arith, ints, sum, adds.total, none)
 
   -- the front of the weights of the first keys was written
-  some_of_keys : (options : WeighOptions) (inputs : List (List ℕ)) (keys read_keys : List ℕ) (complete : Bool) (made : CountState) (weigher weighed : Weigher) (total : ℕ) (held mid holds : Option (List ℕ))
-      → IsEmptyTable options.parts options.questions options.seed made → weigher.0.sketch ≡ made → weigher.0.chosen ≡ options.chosen → TakesInputs (splits_by options.chosen.item) Weighs (Some inputs) complete weigher weighed
+  some_of_keys : (options : WeighOptions) (inputs : List (List ℕ)) (keys read_keys : List ℕ) (fails : List Bool) (complete : Bool) (made : CountState) (weigher weighed : Weigher) (total : ℕ) (held mid holds : Option (List ℕ))
+      → IsEmptyTable options.parts options.questions options.seed made → weigher.0.sketch ≡ made → weigher.0.chosen ≡ options.chosen → TakesInputs (splits_by options.chosen.item) Weighs (Some inputs) fails complete weigher weighed
       → pos total ≡ pos weighed.0.sketch.total → Appends held mid (total_line options.style options.header total) → AreFirstRecords (splits_by options.keys_part) keys read_keys → WritesSomeEstimates options.style weighed.0.sketch (parts_in options.keys_part read_keys) mid holds
-      → WritesSomeWeights options inputs keys held holds
-  some_of_keys options inputs keys read_keys complete made weigher weighed total held mid holds empty begin part weighs sum wrote front some =
-      let so = has_weighed options inputs complete made weigher weighed begin part weighs in
+      → WritesSomeWeights options inputs fails keys held holds
+  some_of_keys options inputs keys read_keys fails complete made weigher weighed total held mid holds empty begin part weighs sum wrote front some =
+      let so = has_weighed options inputs fails complete made weigher weighed begin part weighs in
       let items : Weighed = weighed_in options.chosen so.read in
       let all : total ≡ total_of items = total_is made items weighed.0.sketch total (ap (λ (s : CountState). s.total) empty.is) so.adds sum in
       record {
-        complete = complete;
         read = so.read;
         are = so.are;
         each = so.each;
@@ -215,18 +214,17 @@ module _ {W : Type 0} (contents : W → Option (List ℕ)) where
       }
 
   -- the line of the total, or its front, and no keys
-  pub total_written : (options : WeighOptions) (was : Option (List (List ℕ))) (bytes : Option (List ℕ)) (complete : Bool) (made : CountState) (weigher weighed : Weigher) (total : ℕ) (held holds : Option (List ℕ))
-      → IsEmptyTable options.parts options.questions options.seed made → weigher.0.sketch ≡ made → weigher.0.chosen ≡ options.chosen → TakesInputs (splits_by options.chosen.item) Weighs was complete weigher weighed
+  pub total_written : (options : WeighOptions) (was : Option (List (List ℕ))) (bytes : Option (List ℕ)) (fails : List Bool) (complete : Bool) (made : CountState) (weigher weighed : Weigher) (total : ℕ) (held holds : Option (List ℕ))
+      → IsEmptyTable options.parts options.questions options.seed made → weigher.0.sketch ≡ made → weigher.0.chosen ≡ options.chosen → TakesInputs (splits_by options.chosen.item) Weighs was fails complete weigher weighed
       → pos total ≡ pos weighed.0.sketch.total → WritesFront held holds (total_line options.style options.header total)
-      → IfSome was (λ inputs. IfSome bytes (λ keys. WritesSomeWeights options inputs keys held holds))
-  total_written options None bytes complete made weigher weighed total held holds empty begin part weighs sum front = tt
-  total_written options (Some inputs) None complete made weigher weighed total held holds empty begin part weighs sum front = tt
-  total_written options (Some inputs) (Some keys) complete made weigher weighed total held holds empty begin part weighs sum front =
-      let so = has_weighed options inputs complete made weigher weighed begin part weighs in
+      → IfSome was (λ inputs. IfSome bytes (λ keys. WritesSomeWeights options inputs fails keys held holds))
+  total_written options None bytes fails complete made weigher weighed total held holds empty begin part weighs sum front = tt
+  total_written options (Some inputs) None fails complete made weigher weighed total held holds empty begin part weighs sum front = tt
+  total_written options (Some inputs) (Some keys) fails complete made weigher weighed total held holds empty begin part weighs sum front =
+      let so = has_weighed options inputs fails complete made weigher weighed begin part weighs in
       let items : Weighed = weighed_in options.chosen so.read in
       let all : total ≡ total_of items = total_is made items weighed.0.sketch total (ap (λ (s : CountState). s.total) empty.is) so.adds sum in
       record {
-        complete = complete;
         read = so.read;
         are = so.are;
         each = so.each;
@@ -243,14 +241,14 @@ module _ {W : Type 0} (contents : W → Option (List ℕ)) where
       }
 
   -- a failure while the keys are read
-  pub some_weights : (has_failed : W → Bool) (options : WeighOptions) (was : Option (List (List ℕ))) (bytes : Option (List ℕ)) (complete : Bool) (made : CountState) (weigher weighed : Weigher) (total : ℕ) (held : Option (List ℕ)) (old new : KeyWeights × W) (e : Failure)
-      → IsEmptyTable options.parts options.questions options.seed made → weigher.0.sketch ≡ made → weigher.0.chosen ≡ options.chosen → TakesInputs (splits_by options.chosen.item) Weighs was complete weigher weighed
+  pub some_weights : (write_error : W → Option Error) (options : WeighOptions) (was : Option (List (List ℕ))) (bytes : Option (List ℕ)) (fails : List Bool) (complete : Bool) (made : CountState) (weigher weighed : Weigher) (total : ℕ) (held : Option (List ℕ)) (old new : KeyWeights × W) (e : Failure)
+      → IsEmptyTable options.parts options.questions options.seed made → weigher.0.sketch ≡ made → weigher.0.chosen ≡ options.chosen → TakesInputs (splits_by options.chosen.item) Weighs was fails complete weigher weighed
       → pos total ≡ pos weighed.0.sketch.total → Appends held (contents old.1) (total_line options.style options.header total) → old.0.sketch ≡ weighed.0.sketch → old.0.part ≡ options.keys_part → old.0.style ≡ options.style
-      → FailsInput (splits_by options.keys_part) WritesKeys (FailsKeys has_failed) (options.max_line + 1) bytes old new e
-      → IfSome was (λ inputs. IfSome bytes (λ keys. WritesSomeWeights options inputs keys held (contents new.1)))
-  some_weights has_failed options None bytes complete made weigher weighed total held old new e empty begin part weighs sum wrote sketch keys_part style failed = tt
-  some_weights has_failed options (Some inputs) None complete made weigher weighed total held old new e empty begin part weighs sum wrote sketch keys_part style failed = tt
-  some_weights has_failed options (Some inputs) (Some keys) complete made weigher weighed total held old new e empty begin part weighs sum wrote sketch keys_part style failed =
+      → FailsInput (splits_by options.keys_part) WritesKeys (FailsKeys write_error) (options.max_line + 1) bytes old new e
+      → IfSome was (λ inputs. IfSome bytes (λ keys. WritesSomeWeights options inputs fails keys held (contents new.1)))
+  some_weights write_error options None bytes fails complete made weigher weighed total held old new e empty begin part weighs sum wrote sketch keys_part style failed = tt
+  some_weights write_error options (Some inputs) None fails complete made weigher weighed total held old new e empty begin part weighs sum wrote sketch keys_part style failed = tt
+  some_weights write_error options (Some inputs) (Some keys) fails complete made weigher weighed total held old new e empty begin part weighs sum wrote sketch keys_part style failed =
       let of_options : (read : List ℕ) → WritesSomeEstimates old.0.style old.0.sketch (parts_in old.0.part read) (contents old.1) (contents new.1) → WritesSomeEstimates options.style weighed.0.sketch (parts_in options.keys_part read) (contents old.1) (contents new.1) =
       λ read some. subst (λ (p : RecordPart). WritesSomeEstimates options.style weighed.0.sketch (parts_in p read) (contents old.1) (contents new.1)) keys_part
       (subst (λ (s : CountState). WritesSomeEstimates options.style s (parts_in old.0.part read) (contents old.1) (contents new.1)) sketch
@@ -258,36 +256,33 @@ module _ {W : Type 0} (contents : W → Option (List ℕ)) where
       ⊎_elim
       (λ stops.
       let (read, front, taken) = stops.1 in
-      some_of_keys options inputs keys read complete made weigher weighed total held (contents old.1) (contents new.1) empty begin part weighs sum wrote front (of_options read (some_whole old.0.style old.0.sketch (parts_in old.0.part read) (contents old.1) (contents new.1) taken.0)))
+      some_of_keys options inputs keys read fails complete made weigher weighed total held (contents old.1) (contents new.1) empty begin part weighs sum wrote front (of_options read (some_whole old.0.style old.0.sketch (parts_in old.0.part read) (contents old.1) (contents new.1) taken.0)))
       (λ taking.
-      some_of_keys options inputs keys keys complete made weigher weighed total held (contents old.1) (contents new.1) empty begin part weighs sum wrote ([], sym (append-nil keys), λ some. absurd (omega arith)) (of_options keys taking.known.1))
+      some_of_keys options inputs keys keys fails complete made weigher weighed total held (contents old.1) (contents new.1) empty begin part weighs sum wrote ([], sym (append-nil keys), λ some. absurd (omega arith)) (of_options keys taking.known.1))
       failed
 
-  pub weights_written : {E : Type 0} (options : WeighOptions) (was : Option (List (List ℕ))) (bytes : Option (List ℕ)) (complete : Bool) (failure : Option E) (made : CountState) (weigher weighed : Weigher) (total : ℕ) (held : Option (List ℕ)) (old new : KeyWeights × W)
-      → IsEmptyTable options.parts options.questions options.seed made → weigher.0.sketch ≡ made → weigher.0.chosen ≡ options.chosen → TakesInputs (splits_by options.chosen.item) Weighs was complete weigher weighed
-      → pos total ≡ pos weighed.0.sketch.total → Appends held (contents old.1) (total_line options.style options.header total) → old.0.sketch ≡ weighed.0.sketch → old.0.part ≡ options.keys_part → old.0.style ≡ options.style → TakesInput (splits_by options.keys_part) WritesKeys bytes failure old new
-      → IfSome was (λ inputs. IfSome bytes (λ keys. WritesWeights options inputs complete keys failure held (contents new.1)))
-  weights_written options None bytes complete failure made weigher weighed total held old new empty begin part weighs sum wrote sketch keys_part style taken = tt
-  weights_written options (Some inputs) None complete failure made weigher weighed total held old new empty begin part weighs sum wrote sketch keys_part style taken = tt
-  weights_written {E = E} options (Some inputs) (Some keys) complete failure made weigher weighed total held old new empty begin part (read, are, each) sum wrote sketch keys_part style taken =
-      let split = splits_by options.keys_part in
-      let one : IsTaken split WritesKeys keys (failure ≡ None) old new = taken_one split WritesKeys keys failure old new taken in
+  pub weights_written : {E : Type 0} (options : WeighOptions) (was : Option (List (List ℕ))) (bytes : Option (List ℕ)) (keys_fail : Bool) (fails : List Bool) (complete : Bool) (failure : Option E) (made : CountState) (weigher weighed : Weigher) (total : ℕ) (held : Option (List ℕ)) (old new : KeyWeights × W)
+      → IsEmptyTable options.parts options.questions options.seed made → weigher.0.sketch ≡ made → weigher.0.chosen ≡ options.chosen → TakesInputs (splits_by options.chosen.item) Weighs was fails complete weigher weighed
+      → pos total ≡ pos weighed.0.sketch.total → Appends held (contents old.1) (total_line options.style options.header total) → old.0.sketch ≡ weighed.0.sketch → old.0.part ≡ options.keys_part → old.0.style ≡ options.style → TakesInput (splits_by options.keys_part) WritesKeys bytes keys_fail failure old new
+      → IfSome was (λ inputs. IfSome bytes (λ keys. WritesWeights options inputs fails keys keys_fail held (contents new.1)))
+  weights_written options None bytes keys_fail fails complete failure made weigher weighed total held old new empty begin part weighs sum wrote sketch keys_part style taken = tt
+  weights_written options (Some inputs) None keys_fail fails complete failure made weigher weighed total held old new empty begin part weighs sum wrote sketch keys_part style taken = tt
+  weights_written options (Some inputs) (Some keys) keys_fail fails complete failure made weigher weighed total held old new empty begin part (is, (read, are, each)) sum wrote sketch keys_part style (is_failed, (got, of, taken)) =
       let items : Weighed = weighed_in options.chosen read in
       let counts : CountsLines options.chosen made (flat_map (records_by options.chosen.item) read) weighed.0.sketch =
       subst (λ (p : WeighedRecord). CountsLines p made (flat_map (records_by p.item) read) weighed.0.sketch) part (subst (λ (s : CountState). CountsLines weigher.0.chosen s (flat_map (records_by weigher.0.chosen.item) read) weighed.0.sketch) begin (each_weighed weigher weighed read each).0) in
       let adds : CountsWeighed made items weighed.0.sketch = counts.0 in
-      let written : WritesEstimates options.style weighed.0.sketch (parts_in options.keys_part one.got) (contents old.1) (contents new.1) =
-      subst (λ (p : RecordPart). WritesEstimates options.style weighed.0.sketch (parts_in p one.got) (contents old.1) (contents new.1)) keys_part
-      (subst (λ (s : CountState). WritesEstimates options.style s (parts_in old.0.part one.got) (contents old.1) (contents new.1)) sketch
-      (subst (λ (b : Style). WritesEstimates b old.0.sketch (parts_in old.0.part one.got) (contents old.1) (contents new.1)) style one.taken.0)) in
+      let written : WritesEstimates options.style weighed.0.sketch (parts_in options.keys_part got) (contents old.1) (contents new.1) =
+      subst (λ (p : RecordPart). WritesEstimates options.style weighed.0.sketch (parts_in p got) (contents old.1) (contents new.1)) keys_part
+      (subst (λ (s : CountState). WritesEstimates options.style s (parts_in old.0.part got) (contents old.1) (contents new.1)) sketch
+      (subst (λ (b : Style). WritesEstimates b old.0.sketch (parts_in old.0.part got) (contents old.1) (contents new.1)) style taken.0)) in
       let none : made.total ≡ 0 = ap (λ (s : CountState). s.total) empty.is in
       let all : total ≡ total_of items = omega (arith, ints, sum, adds.total, none) in
       record {
         read = read;
         are = are;
-        read_keys = one.got;
-        front = one.front;
-        whole = one.same;
+        read_keys = got;
+        are_keys = of;
         hashes = made.hashes;
         buckets = made.buckets;
         table = empty.sizes;
@@ -356,38 +351,38 @@ without_one old after inputs found f =
     let all = ap (λ (l : List (List ℕ)). length l) (ap (unweighed_in p) f.parts ∙ unweighed_among p f.earlier f.later f.input) in
     omega (arith, some, all, length-append (unweighed_in p f.earlier) (here ++ unweighed_in p f.later), length-append here (unweighed_in p f.later))
 
-taking_failed : (options : WeighOptions) (was : Option (List (List ℕ))) (keys : Option (List ℕ)) (has_failed : Bool) (old after : Weigher) (e : Failure) → old.0.sketch.total ≡ 0 → old.0.chosen ≡ options.chosen → FailsTakingInputs (splits_by old.0.chosen.item) Weighs FailsWeighs was old after e → FailsWeigh options was keys has_failed e
-taking_failed options was keys has_failed old after Memory new same f = tt
-taking_failed options was keys has_failed old after LineTooLong new same f = absurd f.some.2
-taking_failed options None keys has_failed old after TooManyItems new same f = tt
-taking_failed options (Some inputs) keys has_failed old after TooManyItems new same f = subst (λ (p : WeighedRecord). 2 ^ 64 ≤ total_of (weighed_in p inputs)) same (too_many old after inputs new f.known)
-taking_failed options None keys has_failed old after (BadWeight found) new same f = tt
-taking_failed options (Some inputs) keys has_failed old after (BadWeight found) new same f = subst (λ (p : WeighedRecord). 0 < length (unweighed_in p inputs)) same (without_one old after inputs found f.known)
-taking_failed options was keys has_failed old after BadSize new same f = absurd f.some.2
-taking_failed options was keys has_failed old after (Write error) new same f = absurd f.some.2
+taking_failed : (options : WeighOptions) (was : Option (List (List ℕ))) (keys : Option (List ℕ)) (write_error : Option Error) (old after : Weigher) (e : Failure) → old.0.sketch.total ≡ 0 → old.0.chosen ≡ options.chosen → FailsTakingInputs (splits_by old.0.chosen.item) Weighs FailsWeighs was old after e → FailsWeigh options was keys write_error e
+taking_failed options was keys write_error old after Memory new same f = tt
+taking_failed options was keys write_error old after LineTooLong new same f = absurd f.some.2
+taking_failed options None keys write_error old after TooManyItems new same f = tt
+taking_failed options (Some inputs) keys write_error old after TooManyItems new same f = subst (λ (p : WeighedRecord). 2 ^ 64 ≤ total_of (weighed_in p inputs)) same (too_many old after inputs new f.known)
+taking_failed options None keys write_error old after (BadWeight found) new same f = tt
+taking_failed options (Some inputs) keys write_error old after (BadWeight found) new same f = subst (λ (p : WeighedRecord). 0 < length (unweighed_in p inputs)) same (without_one old after inputs found f.known)
+taking_failed options was keys write_error old after BadSize new same f = absurd f.some.2
+taking_failed options was keys write_error old after (Write error) new same f = absurd f.some.2
 
-pub weigh_failed : (options : WeighOptions) (was : Option (List (List ℕ))) (keys : Option (List ℕ)) (has_failed : Bool) (old after : Weigher) (e : Failure) → old.0.sketch.total ≡ 0 → old.0.chosen ≡ options.chosen → FailsInputs (splits_by old.0.chosen.item) Weighs FailsWeighs (options.max_line + 1) was old after e → FailsWeigh options was keys has_failed e
-weigh_failed options was keys has_failed old after e new same failed = ⊎_elim
+pub weigh_failed : (options : WeighOptions) (was : Option (List (List ℕ))) (keys : Option (List ℕ)) (write_error : Option Error) (old after : Weigher) (e : Failure) → old.0.sketch.total ≡ 0 → old.0.chosen ≡ options.chosen → FailsInputs (splits_by old.0.chosen.item) Weighs FailsWeighs (options.max_line + 1) was old after e → FailsWeigh options was keys write_error e
+weigh_failed options was keys write_error old after e new same failed = ⊎_elim
     (λ stops. ⊎_elim (λ memory. rw memory tt) (λ long. rw long.0 (inl (subst (λ (p : WeighedRecord). IfSome was (HaveLongRecord (splits_by p.item) (options.max_line + 1))) same long.1))) stops.0)
-    (λ taking. taking_failed options was keys has_failed old after e new same taking)
+    (λ taking. taking_failed options was keys write_error old after e new same taking)
     failed
 
 -- a failure while the keys are read
-pub record IsLateFailure (options : WeighOptions) (was : Option (List (List ℕ))) (keys : Option (List ℕ)) (has_failed : Bool) (e : Failure) : Type 0 where
-  pub fails : FailsWeigh options was keys has_failed e
+pub record IsLateFailure (options : WeighOptions) (was : Option (List (List ℕ))) (keys : Option (List ℕ)) (write_error : Option Error) (e : Failure) : Type 0 where
+  pub fails : FailsWeigh options was keys write_error e
   pub late : ComesLate e
 
-pub writing_failed : (options : WeighOptions) (was : Option (List (List ℕ))) (keys : Option (List ℕ)) (has_failed : Bool) (e : Failure) → FailsWriting has_failed e → IsLateFailure options was keys has_failed e
-writing_failed options was keys has_failed Memory f = record { fails = tt; late = tt }
-writing_failed options was keys has_failed LineTooLong f = absurd f
-writing_failed options was keys has_failed TooManyItems f = absurd f
-writing_failed options was keys has_failed BadSize f = absurd f
-writing_failed options was keys has_failed (BadWeight found) f = absurd f
-writing_failed options was keys has_failed (Write error) f = record { fails = f; late = tt }
+pub writing_failed : (options : WeighOptions) (was : Option (List (List ℕ))) (keys : Option (List ℕ)) (write_error : Option Error) (e : Failure) → FailsWriting write_error e → IsLateFailure options was keys write_error e
+writing_failed options was keys write_error Memory f = record { fails = tt; late = tt }
+writing_failed options was keys write_error LineTooLong f = absurd f
+writing_failed options was keys write_error TooManyItems f = absurd f
+writing_failed options was keys write_error BadSize f = absurd f
+writing_failed options was keys write_error (BadWeight found) f = absurd f
+writing_failed options was keys write_error (Write error) f = record { fails = f; late = tt }
 
-pub keys_failed : {W : Type 0} (contents : W → Option (List ℕ)) (has_failed : W → Bool) (options : WeighOptions) (was : Option (List (List ℕ))) (keys : Option (List ℕ)) (old new : KeyWeights × W) (e : Failure)
-    → FailsInput (splits_by options.keys_part) (WritesKeys contents) (FailsKeys contents has_failed) (options.max_line + 1) keys old new e → IsLateFailure options was keys (has_failed new.1) e
-keys_failed contents has_failed options was keys old new e failed = ⊎_elim
+pub keys_failed : {W : Type 0} (contents : W → Option (List ℕ)) (write_error : W → Option Error) (options : WeighOptions) (was : Option (List (List ℕ))) (keys : Option (List ℕ)) (old new : KeyWeights × W) (e : Failure)
+    → FailsInput (splits_by options.keys_part) (WritesKeys contents) (FailsKeys contents write_error) (options.max_line + 1) keys old new e → IsLateFailure options was keys (write_error new.1) e
+keys_failed contents write_error options was keys old new e failed = ⊎_elim
     (λ stops. ⊎_elim (λ memory. rw memory (record { fails = tt; late = tt })) (λ long. rw long.0 (record { fails = inr long.1; late = tt })) stops.0)
-    (λ taking. writing_failed options was keys (has_failed new.1) e taking.some.2.0)
+    (λ taking. writing_failed options was keys (write_error new.1) e taking.some.2.0)
     failed

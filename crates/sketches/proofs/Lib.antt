@@ -8,6 +8,7 @@ pub mod ImageBytes
 pub mod JoinedInputs
 pub mod ItemWeights
 pub mod KeyWeights
+pub mod LongRecords
 pub mod Merged
 pub mod OutputFronts
 pub mod RawSplits

@@ -11,6 +11,7 @@ use Rattle.std.specs.Option.{IfSome}
 use Rattle.std.specs.Str.{bytes_eq}
 use Rattle.std.specs.String.{string_bytes, string_eq}
 use Rattle.std.specs.declared.string.String.{String}
+use Rattle.std.specs.declared.io.Error.{Error}
 use Rattle.sketch_frequencies.specs.History.{true_weight, total_weight}
 use Rattle.sketch_frequencies.specs.History.FrequentHistory.{Merge, Restored}
 use Rattle.sketch_frequencies.specs.Image.{prefix_bytes}
@@ -185,7 +186,7 @@ merged_all limit remaining (Some images) is is' next s (left, here, so) opens e 
 
 -- ---- errors
 
-unread_ends : (limit : ℕ) (done : List (List ℕ)) (image : List ℕ) (later : List (List ℕ)) (failure : ImageFailure) → IsUnread limit image failure → EndsMerge limit (done ++ image ∷ later) ⊥ failure
+unread_ends : (limit : ℕ) (done : List (List ℕ)) (image : List ℕ) (later : List (List ℕ)) (failure : ImageFailure) → IsUnread limit image failure → EndsMerge limit (done ++ image ∷ later) (λ _. ⊥) failure
 unread_ends limit done image later Memory r = tt
 unread_ends limit done image later NoImage r = absurd r
 unread_ends limit done image later (Read error) r = tt
@@ -195,7 +196,7 @@ unread_ends limit done image later TrailingBytes r = absurd r
 unread_ends limit done image later TooManyItems r = absurd r
 unread_ends limit done image later (Write error) r = absurd r
 
-bad_ends : (limit : ℕ) (done : List (List ℕ)) (image : List ℕ) (later : List (List ℕ)) (failure : ImageFailure) → IsBadImage limit image failure → EndsMerge limit (done ++ image ∷ later) ⊥ failure
+bad_ends : (limit : ℕ) (done : List (List ℕ)) (image : List ℕ) (later : List (List ℕ)) (failure : ImageFailure) → IsBadImage limit image failure → EndsMerge limit (done ++ image ∷ later) (λ _. ⊥) failure
 bad_ends limit done image later Memory r = tt
 bad_ends limit done image later NoImage r = absurd r
 bad_ends limit done image later (Read error) r = absurd r
@@ -205,48 +206,48 @@ bad_ends limit done image later TrailingBytes r = any_at (λ (l : List ℕ). pre
 bad_ends limit done image later TooManyItems r = absurd r
 bad_ends limit done image later (Write error) r = absurd r
 
-rejected_ends : (limit : ℕ) (done : List (List ℕ)) (image : List ℕ) (later : List (List ℕ)) (failure : ImageFailure) → IsRejected limit image failure → EndsMerge limit (done ++ image ∷ later) ⊥ failure
+rejected_ends : (limit : ℕ) (done : List (List ℕ)) (image : List ℕ) (later : List (List ℕ)) (failure : ImageFailure) → IsRejected limit image failure → EndsMerge limit (done ++ image ∷ later) (λ _. ⊥) failure
 rejected_ends limit done image later failure r = ⊎_elim (unread_ends limit done image later failure) (bad_ends limit done image later failure) r
 
-pub no_image : {R E : Type 0} (limit : ℕ) (remaining : R → Option (List ℕ)) (was is : Option (List (List ℕ))) (next : Option (Result R E)) → OpensImage remaining was is next → next ≡ None → IfSome was (λ all. EndsMerge limit all ⊥ NoImage)
+pub no_image : {R E : Type 0} (limit : ℕ) (remaining : R → Option (List ℕ)) (was is : Option (List (List ℕ))) (next : Option (Result R E)) → OpensImage remaining was is next → next ≡ None → IfSome was (λ all. EndsMerge limit all (λ _. ⊥) NoImage)
 no_image limit remaining None is next opens e = tt
 no_image limit remaining (Some images) is next opens e = rw e at opens
 
 pub first_rejected : {R E : Type 0} (limit : ℕ) (remaining : R → Option (List ℕ)) (was is : Option (List (List ℕ))) (next : Option (Result R E)) (opened : Result R E) (failure : ImageFailure)
-    → OpensImage remaining was is next → next ≡ Some opened → ((image : List ℕ) → IsOpened remaining image opened → IsRejected limit image failure) → IfSome was (λ all. EndsMerge limit all ⊥ failure)
+    → OpensImage remaining was is next → next ≡ Some opened → ((image : List ℕ) → IsOpened remaining image opened → IsRejected limit image failure) → IfSome was (λ all. EndsMerge limit all (λ _. ⊥) failure)
 first_rejected limit remaining None is next opened failure opens e reject = tt
 first_rejected limit remaining (Some images) is next opened failure opens e reject =
     let (image, later, parts, after, reader) = rw e at opens in
-    subst (λ l. EndsMerge limit l ⊥ failure) (sym parts) (rejected_ends limit [] image later failure (reject image reader))
+    subst (λ l. EndsMerge limit l (λ _. ⊥) failure) (sym parts) (rejected_ends limit [] image later failure (reject image reader))
 
 pub next_rejected : {R E : Type 0} (limit : ℕ) (remaining : R → Option (List ℕ)) (was is is' : Option (List (List ℕ))) (next : Option (Result R E)) (opened : Result R E) (mid : Sketch) (failure : ImageFailure)
-    → HasMerged limit was is mid → OpensImage remaining is is' next → next ≡ Some opened → ((image : List ℕ) → IsOpened remaining image opened → IsRejected limit image failure) → IfSome was (λ all. EndsMerge limit all ⊥ failure)
+    → HasMerged limit was is mid → OpensImage remaining is is' next → next ≡ Some opened → ((image : List ℕ) → IsOpened remaining image opened → IsRejected limit image failure) → IfSome was (λ all. EndsMerge limit all (λ _. ⊥) failure)
 next_rejected limit remaining None is is' next opened mid failure so opens e reject = tt
 next_rejected limit remaining (Some images) is is' next opened mid failure (left, here, so) opens e reject =
     let (image, later, parts, after, reader) = rw (here, e) at opens in
-    subst (λ l. EndsMerge limit l ⊥ failure) (sym (so.parts ∙ ap (λ l. so.done ++ l) parts)) (rejected_ends limit so.done image later failure (reject image reader))
+    subst (λ l. EndsMerge limit l (λ _. ⊥) failure) (sym (so.parts ∙ ap (λ l. so.done ++ l) parts)) (rejected_ends limit so.done image later failure (reject image reader))
 
-adding_ends : (limit total : ℕ) (done : List (List ℕ)) (image : List ℕ) (later : List (List ℕ)) (failure : ImageFailure) → total ≡ sum_by total_in done + total_in image → EndsAdding total failure → EndsMerge limit (done ++ image ∷ later) ⊥ failure
+adding_ends : (limit total : ℕ) (done : List (List ℕ)) (image : List ℕ) (later : List (List ℕ)) (failure : ImageFailure) → total ≡ sum_by total_in done + total_in image → EndsAdding total failure → EndsMerge limit (done ++ image ∷ later) (λ _. ⊥) failure
 adding_ends limit total done image later failure is ends =
     ⊎_elim
-    (λ memory. subst (EndsMerge limit (done ++ image ∷ later) ⊥) (sym memory) tt)
-    (λ over. subst (EndsMerge limit (done ++ image ∷ later) ⊥) (sym over.0) (omega (arith, over.1, is, total_both done (image ∷ later), total_first image later)))
+    (λ memory. subst (EndsMerge limit (done ++ image ∷ later) (λ _. ⊥)) (sym memory) tt)
+    (λ over. subst (EndsMerge limit (done ++ image ∷ later) (λ _. ⊥)) (sym over.0) (omega (arith, over.1, is, total_both done (image ∷ later), total_first image later)))
     ends
 
 pub next_too_many : {R E : Type 0} (limit : ℕ) (remaining : R → Option (List ℕ)) (was is is' : Option (List (List ℕ))) (next : Option (Result R E)) (opened : Result R E) (mid other : Sketch) (failure : ImageFailure)
-    → HasMerged limit was is mid → OpensImage remaining is is' next → next ≡ Some opened → ((image : List ℕ) → IsOpened remaining image opened → Loads limit image other) → EndsAdding (mid.total + other.total) failure → IfSome was (λ all. EndsMerge limit all ⊥ failure)
+    → HasMerged limit was is mid → OpensImage remaining is is' next → next ≡ Some opened → ((image : List ℕ) → IsOpened remaining image opened → Loads limit image other) → EndsAdding (mid.total + other.total) failure → IfSome was (λ all. EndsMerge limit all (λ _. ⊥) failure)
 next_too_many limit remaining None is is' next opened mid other failure so opens e load ends = tt
 next_too_many limit remaining (Some images) is is' next opened mid other failure (left, here, so) opens e load ends =
     let (image, later, parts, after, reader) = rw (here, e) at opens in
-    subst (λ l. EndsMerge limit l ⊥ failure) (sym (so.parts ∙ ap (λ l. so.done ++ l) parts))
+    subst (λ l. EndsMerge limit l (λ _. ⊥) failure) (sym (so.parts ∙ ap (λ l. so.done ++ l) parts))
     (adding_ends limit (mid.total + other.total) so.done image later failure (omega (arith, so.merges.total, (load image reader).image_of.total)) ends)
 
-pub memory_ends : (limit : ℕ) (was : Option (List (List ℕ))) → IfSome was (λ all. EndsMerge limit all ⊥ Memory)
+pub memory_ends : (limit : ℕ) (was : Option (List (List ℕ))) → IfSome was (λ all. EndsMerge limit all (λ _. ⊥) Memory)
 memory_ends limit None = tt
 memory_ends limit (Some all) = tt
 
 -- a merge that ends before the output
-pub ends_before : (limit : ℕ) (images : List (List ℕ)) (output : Type 0) (failure : ImageFailure) → EndsMerge limit images ⊥ failure → EndsMerge limit images output failure
+pub ends_before : (limit : ℕ) (images : List (List ℕ)) (output : Error → Type 0) (failure : ImageFailure) → EndsMerge limit images (λ _. ⊥) failure → EndsMerge limit images output failure
 ends_before limit images output Memory r = r
 ends_before limit images output NoImage r = r
 ends_before limit images output (Read error) r = r
@@ -256,6 +257,6 @@ ends_before limit images output TrailingBytes r = r
 ends_before limit images output TooManyItems r = r
 ends_before limit images output (Write error) r = absurd r
 
-pub some_ends_before : (limit : ℕ) (was : Option (List (List ℕ))) (output : List (List ℕ) → Type 0) (failure : ImageFailure) → IfSome was (λ all. EndsMerge limit all ⊥ failure) → IfSome was (λ all. EndsMerge limit all (output all) failure)
+pub some_ends_before : (limit : ℕ) (was : Option (List (List ℕ))) (output : List (List ℕ) → Error → Type 0) (failure : ImageFailure) → IfSome was (λ all. EndsMerge limit all (λ _. ⊥) failure) → IfSome was (λ all. EndsMerge limit all (output all) failure)
 some_ends_before limit None output failure r = tt
 some_ends_before limit (Some all) output failure r = ends_before limit all (output all) failure r

@@ -1,6 +1,6 @@
 -- What was taken of an input that is read block by block.
-use Rattle.std.proofs.Common.{◌≡◌, ℕ, ◌+◌, ◌-◌, ◌<◌, ◌≤◌, false, List, [], ◌∷◌, ◌++◌, length, get_or, take, drop, Option, None, Some, IfSome, append_assoc, append-nil, refl, sym, ◌∙◌, ap, subst, arith, length-append, length-drop, length-take-le}
-use Rattle.std.specs.Io.KnownBytes.{Consumes, IsAtEnd, Keeps}
+use Rattle.std.proofs.Common.{◌≡◌, ℕ, ◌+◌, ◌-◌, ◌<◌, ◌≤◌, Bool, true, false, List, [], ◌∷◌, ◌++◌, length, get_or, take, drop, Option, None, Some, IfSome, append_assoc, append-nil, refl, sym, ◌∙◌, ap, subst, arith, length-append, length-drop, length-take-le}
+use Rattle.std.specs.Io.KnownBytes.{Consumes, Keeps}
 use Rattle.std.specs.List.{copy_within}
 use Rattle.std.proofs.lemmas.Bool.{eqb-true}
 use Rattle.std.proofs.lemmas.List.{drop-drop, drop-take, length-take, take-append-drop, take-take, get_or-take, get_or-append_right}
@@ -9,7 +9,7 @@ use Rattle.std.proofs.lemmas.List.Elements.{All-append}
 use Rattle.std.proofs.Math.Seq.{take-add}
 use Rattle.sketch_base.specs.Split.{IsBehindLast, separates}
 use Rattle.sketch_base.specs.declared.separator.Separator.TheVariants.{LineFeed}
-use Rattle.sketches.specs.Reading.{AreFirstRecords, AreWholeLines, AreWholeRecords, FailsTaking, FailsWithin, HasLongRecord, IsBehindEnd, IsInOne, IsInOneLine, TakesInput, TakesRecords, place_of}
+use Rattle.sketches.specs.Reading.{AreFirstRecords, AreWholeLines, AreWholeRecords, FailsTaking, FailsWithin, HasLongRecord, IsBehindEnd, IsInOne, IsInOneLine, IsReadOf, StopsAfter, TakesInput, TakesRecords, place_of}
 use Rattle.sketches.specs.declared.failure.Failure.{Failure}
 use Rattle.sketch_base.specs.declared.records.Records.{Records}
 use Rattle.sketch_base.specs.declared.records.Records.TheVariants.{Lines, Csv}
@@ -18,6 +18,7 @@ use Rattle.sketch_base.specs.declared.place.Place.{Place}
 use Rattle.sketch_base.specs.declared.place.Place.TheVariants.{Start}
 use Rattle.sketch_base.proofs.CsvRuns.{after_append, one_append}
 use Rattle.sketch_base.proofs.CsvRecords.{ends_later, place_at_end}
+use Rattle.sketches.proofs.LongRecords.{Fits, fits_append, fits_short, fits_whole, place_both, place_whole}
 
 -- whole lines, and whole lines after them
 whole_lines : (xs ys : List ℕ) → AreWholeLines xs → AreWholeLines ys → AreWholeLines (xs ++ ys)
@@ -44,12 +45,6 @@ whole_none (Csv delimiter) = λ some. absurd (omega (arith, some))
 ends_after : (delimiter : ℕ) (xs ys : List ℕ) → EndsRecord delimiter (place_after delimiter Start xs) ys → AreWholeRecords (Csv delimiter) (xs ++ ys)
 ends_after delimiter xs ys ends = λ some. ends_later delimiter Start xs ys ends
 
--- the place after whole records
-place_whole : (records : Records) (xs : List ℕ) → AreWholeRecords records xs → place_of records Start xs ≡ Start
-place_whole Lines xs whole = refl
-place_whole (Csv delimiter) [] whole = refl
-place_whole (Csv delimiter) (x ∷ xs) whole = place_at_end delimiter Start (x ∷ xs) (whole (omega arith))
-
 -- whole records, and whole records after them
 whole_both : (records : Records) (xs ys : List ℕ) → AreWholeRecords records xs → AreWholeRecords records ys → AreWholeRecords records (xs ++ ys)
 whole_both Lines xs ys first second = whole_lines xs ys first second
@@ -57,11 +52,6 @@ whole_both (Csv delimiter) xs [] first second = subst (AreWholeRecords (Csv deli
 whole_both (Csv delimiter) xs (y ∷ ys) first second =
     ends_after delimiter xs (y ∷ ys)
     (subst (λ (p : Place). EndsRecord delimiter p (y ∷ ys)) (sym (place_whole (Csv delimiter) xs first)) (second (omega arith)))
-
--- the place after bytes and those after them
-place_both : (records : Records) (xs ys : List ℕ) → place_of records Start (xs ++ ys) ≡ place_of records (place_of records Start xs) ys
-place_both Lines xs ys = refl
-place_both (Csv delimiter) xs ys = after_append (ends_field delimiter) is_feed Start xs ys
 
 -- bytes in one record, and those after them
 one_both : (records : Records) (xs ys : List ℕ) → IsInOne records Start xs → IsInOne records (place_of records Start xs) ys → IsInOne records Start (xs ++ ys)
@@ -104,12 +94,13 @@ one_none (Csv delimiter) place bytes at start last =
 
 -- ---- an input block by block
 
-module _ (records : Records) {S : Type 0} (takes : S → List ℕ → S → Type 0) where
+module _ (records : Records) (limit : ℕ) {S : Type 0} (takes : S → List ℕ → S → Type 0) where
   -- if the input's bytes are known, they are those that were taken, the held ones and those that are left
   pub record HasTakenKnown (bytes left : List ℕ) (old new : S) (held : List ℕ) : Type 0 where
     pub read : List ℕ
     pub parts : bytes ≡ read ++ (held ++ left)
     pub whole : AreWholeRecords records read
+    pub fits : 0 < limit → Fits records limit read
     pub taken : takes old read new
 
   abbrev pub HasTaken : Option (List ℕ) → Option (List ℕ) → (old new : S) → List ℕ → Type 0
@@ -119,7 +110,7 @@ module _ (records : Records) {S : Type 0} (takes : S → List ℕ → S → Type
 
   pub taken_none : ((s : S) → takes s [] s) → (was : Option (List ℕ)) (old : S) → HasTaken was was old old []
   taken_none none None old = tt
-  taken_none none (Some bytes) old = record { read = []; parts = refl; whole = whole_none records; taken = none old }
+  taken_none none (Some bytes) old = record { read = []; parts = refl; whole = whole_none records; fits = λ some. fits_short records limit [] some; taken = none old }
 
   -- the bytes stay as they are
   pub taken_kept : (was is is' : Option (List ℕ)) (old new : S) (held : List ℕ) → HasTaken was is old new held → Keeps is is' → HasTaken was is' old new held
@@ -137,43 +128,69 @@ module _ (records : Records) {S : Type 0} (takes : S → List ℕ → S → Type
     read = h.read;
     parts = h.parts ∙ ap (λ l. h.read ++ l) (ap (λ l. held ++ l) k ∙ (sym (append_assoc held got left') ∙ ap (λ l. l ++ left') (sym e)));
     whole = h.whole;
+    fits = h.fits;
     taken = h.taken;
   }
 
+  -- nothing is left
+  parts_at_end : (bytes left held read : List ℕ) → bytes ≡ read ++ (held ++ left) → left ≡ [] → bytes ≡ read ++ held
+  parts_at_end bytes left held read parts end = parts ∙ ap (λ l. read ++ l) (ap (λ l. held ++ l) end ∙ append-nil held)
+
   -- a read failed
-  pub taken_failed : {E : Type 0} (was is : Option (List ℕ)) (old new : S) (held : List ℕ) (error : E) → HasTaken was is old new held → TakesInput records takes was (Some error) old new
-  taken_failed None is old new held error h = tt
-  taken_failed (Some bytes) None old new held error h = absurd h
-  taken_failed (Some bytes) (Some left) old new held error h = (h.read, (held ++ left, h.parts, λ some. h.whole), h.taken)
+  pub taken_failed : {E : Type 0} (was is is' : Option (List ℕ)) (fails next : Bool) (old new : S) (held : List ℕ) (error : E) → HasTaken was is old new held → IsInOne records Start held → Keeps is is' → next ≡ fails → StopsAfter is' next true → TakesInput records takes was fails (Some error) old new
+  taken_failed None is is' fails next old new held error h one k same stops = tt
+  taken_failed (Some bytes) None is' fails next old new held error h one k same stops = absurd h
+  taken_failed (Some bytes) (Some left) None fails next old new held error h one k same stops = absurd k
+  taken_failed (Some bytes) (Some left) (Some left') fails next old new held error h one k same stops =
+      let yes : fails ≡ true = sym same ∙ stops.1 in (
+        sym yes,
+        (h.read, subst (λ (b : Bool). IsReadOf records b bytes h.read) (sym yes) (held, parts_at_end bytes left held h.read h.parts (sym k ∙ stops.0), h.whole, one), h.taken),
+      )
+
+  -- no record was too long
+  pub all_fit : (was is : Option (List ℕ)) (fails b : Bool) (old new : S) (held : List ℕ) → HasTaken was is old new held → StopsAfter is fails b → length held < limit → IfSome was (λ bytes. HasLongRecord records limit bytes → ⊥)
+  all_fit None is fails b old new held h stops less = tt
+  all_fit (Some bytes) None fails b old new held h stops less = absurd h
+  all_fit (Some bytes) (Some left) fails b old new held h stops less =
+      subst (λ (l : List ℕ). HasLongRecord records limit l → ⊥) (sym (parts_at_end bytes left held h.read h.parts stops.0))
+      (fits_append records limit h.read held h.whole (h.fits (omega (arith, less))) (fits_short records limit held less))
 
   module _ (splits : S → Records) (both : (r s t : S) (xs ys : List ℕ) → AreWholeRecords (splits r) xs → takes r xs s → takes s ys t → takes r (xs ++ ys) t) where
     joined : (r s t : S) (xs ys : List ℕ) → splits r ≡ records → AreWholeRecords records xs → takes r xs s → takes s ys t → takes r (xs ++ ys) t
     joined r s t xs ys same whole = both r s t xs ys (subst (λ (f : Records). AreWholeRecords f xs) (sym same) whole)
 
+    few_taken : (all taken kept : List ℕ) → all ≡ taken ++ kept → length all ≤ limit → length taken ≤ limit
+    few_taken all taken kept parts le = let len = ap (λ (l : List ℕ). length l) parts in omega (arith, le, len, length-append taken kept)
+
     -- whole lines were taken
-    pub taken_lines : (was is : Option (List ℕ)) (old mid new : S) (all buffer : List ℕ) (kept : ℕ) (place : Place) → splits old ≡ records → HasTaken was is old mid all → TakesRecords records takes mid new all buffer kept place → HasTaken was is old new (take kept buffer)
-    taken_lines None is old mid new all buffer kept place same h t = tt
-    taken_lines (Some bytes) None old mid new all buffer kept place same h t = h
-    taken_lines (Some bytes) (Some left) old mid new all buffer kept place same h t = record {
+    pub taken_lines : (was is : Option (List ℕ)) (old mid new : S) (all buffer : List ℕ) (kept : ℕ) (place : Place) → splits old ≡ records → length all ≤ limit → HasTaken was is old mid all → TakesRecords records takes mid new all buffer kept place → HasTaken was is old new (take kept buffer)
+    taken_lines None is old mid new all buffer kept place same le h t = tt
+    taken_lines (Some bytes) None old mid new all buffer kept place same le h t = h
+    taken_lines (Some bytes) (Some left) old mid new all buffer kept place same le h t = record {
       read = h.read ++ t.taken;
       parts =
           h.parts
           ∙ (ap (λ l. h.read ++ (l ++ left)) t.parts
           ∙ (ap (λ l. h.read ++ l) (append_assoc t.taken (take kept buffer) left) ∙ sym (append_assoc h.read t.taken (take kept buffer ++ left))));
       whole = whole_both records h.read t.taken h.whole t.whole;
+      fits = λ some. fits_append records limit h.read t.taken h.whole (h.fits some) (fits_whole records limit t.taken some (few_taken all t.taken (take kept buffer) t.parts le) t.whole);
       taken = joined old mid new h.read t.taken same h.whole h.taken t.change;
     }
 
     -- the last line was taken
     taken_all : (bytes left held : List ℕ) (old mid new : S) → splits old ≡ records → HasTakenKnown bytes left old mid held → left ≡ [] → takes mid held new → takes old bytes new
     taken_all bytes left held old mid new same h end more =
-        let all : bytes ≡ h.read ++ held = h.parts ∙ ap (λ l. h.read ++ l) (ap (λ l. held ++ l) end ∙ append-nil held) in
+        let all : bytes ≡ h.read ++ held = parts_at_end bytes left held h.read h.parts end in
         subst (λ l. takes old l new) (sym all) (joined old mid new h.read held same h.whole h.taken more)
 
-    pub taken_last : (E : Type 0) (was is : Option (List ℕ)) (old mid new : S) (all held : List ℕ) → splits old ≡ records → HasTaken was is old mid all → all ≡ held → IsAtEnd is → takes mid held new → TakesInput records takes {E = E} was None old new
-    taken_last E None is old mid new all held same h e end more = tt
-    taken_last E (Some bytes) None old mid new all held same h e end more = absurd h
-    taken_last E (Some bytes) (Some left) old mid new all held same h e end more = taken_all bytes left held old mid new same (subst (λ l. HasTakenKnown bytes left old mid l) e h) end more
+    pub taken_last : (E : Type 0) (was is : Option (List ℕ)) (fails next : Bool) (old mid new : S) (all held : List ℕ) → splits old ≡ records → HasTaken was is old mid all → all ≡ held → next ≡ fails → StopsAfter is next false → takes mid held new → TakesInput records takes {E = E} was fails None old new
+    taken_last E None is fails next old mid new all held same h e kept end more = tt
+    taken_last E (Some bytes) None fails next old mid new all held same h e kept end more = absurd h
+    taken_last E (Some bytes) (Some left) fails next old mid new all held same h e kept end more =
+        let none : fails ≡ false = sym kept ∙ end.1 in (
+          sym none,
+          (bytes, subst (λ (b : Bool). IsReadOf records b bytes bytes) (sym none) refl, taken_all bytes left held old mid new same (subst (λ l. HasTakenKnown bytes left old mid l) e h) end.0 more),
+        )
 
   -- reading stops
   pub taken_stopped : (was is : Option (List ℕ)) (old new : S) (held : List ℕ) → HasTaken was is old new held → IfSome was (λ bytes. (read : List ℕ) × AreFirstRecords records bytes read × takes old read new)
@@ -182,10 +199,10 @@ module _ (records : Records) {S : Type 0} (takes : S → List ℕ → S → Type
   taken_stopped (Some bytes) (Some left) old new held h = (h.read, (held ++ left, h.parts, λ some. h.whole), h.taken)
 
   -- a line is too long
-  pub too_long : (was is : Option (List ℕ)) (old new : S) (held : List ℕ) (limit : ℕ) → HasTaken was is old new held → limit ≤ length held → IsInOne records Start held → IfSome was (HasLongRecord records limit)
-  too_long None is old new held limit h le line = tt
-  too_long (Some bytes) None old new held limit h le line = absurd h
-  too_long (Some bytes) (Some left) old new held limit h le line = (h.read, held, left, h.parts, h.whole, le, line)
+  pub too_long : (was is : Option (List ℕ)) (old new : S) (held : List ℕ) → HasTaken was is old new held → limit ≤ length held → IsInOne records Start held → IfSome was (HasLongRecord records limit)
+  too_long None is old new held h le line = tt
+  too_long (Some bytes) None old new held h le line = absurd h
+  too_long (Some bytes) (Some left) old new held h le line = (h.read, held, left, h.parts, h.whole, le, line)
 
   -- ---- a failure while lines are taken
 
@@ -194,13 +211,13 @@ module _ (records : Records) {S : Type 0} (takes : S → List ℕ → S → Type
     after r s t xs ys e same whole = later r s t xs ys e (subst (λ (f : Records). AreWholeRecords f xs) (sym same) whole)
 
     -- of the last line
-    pub fails_last : (was is : Option (List ℕ)) (old mid new : S) (all held : List ℕ) (e : Failure) → splits old ≡ records → HasTaken was is old mid all → all ≡ held → IsAtEnd is → fails mid held new e → FailsTaking records fails was old new e
-    fails_last None is old mid new all held e kind h same end f = record { some = (mid, held, f); known = tt }
-    fails_last (Some bytes) None old mid new all held e kind h same end f = absurd h
-    fails_last (Some bytes) (Some left) old mid new all held e kind h same end f = record {
+    pub fails_last : (was is : Option (List ℕ)) (flag b : Bool) (old mid new : S) (all held : List ℕ) (e : Failure) → splits old ≡ records → HasTaken was is old mid all → all ≡ held → StopsAfter is flag b → fails mid held new e → FailsTaking records fails was old new e
+    fails_last None is flag b old mid new all held e kind h same end f = record { some = (mid, held, f); known = tt }
+    fails_last (Some bytes) None flag b old mid new all held e kind h same end f = absurd h
+    fails_last (Some bytes) (Some left) flag b old mid new all held e kind h same end f = record {
       some = (mid, held, f);
       known =
-          subst (λ l. fails old l new e) (sym (h.parts ∙ ap (λ l. h.read ++ l) (ap (λ l. all ++ l) end ∙ (append-nil all ∙ same))))
+          subst (λ l. fails old l new e) (sym (parts_at_end bytes left all h.read h.parts end.0 ∙ ap (λ l. h.read ++ l) same))
           (after old mid new h.read held e kind h.whole h.taken f);
     }
 
@@ -217,8 +234,9 @@ module _ (records : Records) {S : Type 0} (takes : S → List ℕ → S → Type
             (sooner mid new f.taken (f.rest ++ left) e (subst (λ (g : Records). AreWholeRecords g f.taken) (sym same) f.whole) f.reason));
       }
 
-  -- ---- records of the buffer
+-- ---- records of the buffer
 
+module _ (records : Records) {S : Type 0} (takes : S → List ℕ → S → Type 0) where
   -- no record is whole
   pub lines_nothing : ((s : S) → takes s [] s) → (old : S) (items : List ℕ) (end : ℕ) (place : Place) → end ≤ length items → IsInOne records Start (take end items) → place ≡ place_of records Start (take end items) → TakesRecords records takes old old (take end items) items end place
   lines_nothing none old items end place within one is =

@@ -13,6 +13,7 @@ use Rattle.std.specs.Option.{IfSome}
 use Rattle.std.specs.Str.{bytes_eq}
 use Rattle.std.specs.String.{string_bytes, string_eq}
 use Rattle.std.specs.declared.string.String.{String}
+use Rattle.std.specs.declared.io.Error.{Error}
 use Rattle.sketch_frequencies.specs.History.{FrequentHistory, true_weight, total_weight, min_sample, min_size, budget_size}
 use Rattle.sketch_frequencies.specs.History.FrequentHistory.{New, Update}
 use Rattle.sketch_frequencies.specs.Rows.{MissesNone, Shows, ShowsExactly}
@@ -252,31 +253,31 @@ added_items m start s items new keeps added =
     }
 
 -- the report of what was counted
-made_report : (options : Options) (all : List (List ℕ)) (summary : Summary) (start s : Sketch) (text : List ℕ)
+made_report : (options : Options) (all : List (List ℕ)) (fails : List Bool) (summary : Summary) (start s : Sketch) (text : List ℕ)
     → StandsFor string_eq start (New options.size (max_sample_size options.size)) → KeepsTailBudget string_eq start (New options.size (max_sample_size options.size)) → start ≡ empty_state options.size (max_sample_size options.size) options.key
-    → CountsInputs options.weighing (Some all) summary.complete start s 0 summary.not_utf8 → summary.not_utf8 ≤ 2 ^ 64 - 1 → ShowsTop s options.layout options.threshold options.rows text → IsReport options all summary text
-made_report options all summary start s text new keeps empty (read, are, added, grown) fits shows =
+    → CountsInputs options.weighing (Some all) fails start s 0 summary.not_utf8 → summary.not_utf8 ≤ 2 ^ 64 - 1 → ShowsTop s options.layout options.threshold options.rows text → IsReport options all fails summary text
+made_report options all fails summary start s text new keeps empty (read, are, added, grown) fits shows =
     let items : Weighed = flat_map (weighed_of options.weighing) read in
     let r = reported_rows options.size items options.layout options.threshold options.rows s text (added_items options.size start s items new keeps added.0) shows in
     (read, s, r.0, are, omega (arith, grown, fits), added.1, subst (λ (t : Sketch). AddsWeighed t items s) empty added.0, r.1, r.2, shows.exactly)
 
-pub reported : (options : Options) (inputs : Option (List (List ℕ))) (summary : Summary) (held holds : Option (List ℕ)) (start s : Sketch) (text : List ℕ)
+pub reported : (options : Options) (inputs : Option (List (List ℕ))) (fails : List Bool) (summary : Summary) (held holds : Option (List ℕ)) (start s : Sketch) (text : List ℕ)
     → StandsFor string_eq start (New options.size (max_sample_size options.size)) → KeepsTailBudget string_eq start (New options.size (max_sample_size options.size)) → start ≡ empty_state options.size (max_sample_size options.size) options.key
-    → CountsInputs options.weighing inputs summary.complete start s 0 summary.not_utf8 → summary.not_utf8 ≤ 2 ^ 64 - 1 → ShowsTop s options.layout options.threshold options.rows text → Appends held holds text → WritesReport options inputs summary held holds
-reported options None summary held holds start s text new keeps empty counted fits shows wrote = tt
-reported options (Some all) summary held holds start s text new keeps empty counted fits shows wrote = (text, made_report options all summary start s text new keeps empty counted fits shows, wrote)
+    → CountsInputs options.weighing inputs fails start s 0 summary.not_utf8 → summary.not_utf8 ≤ 2 ^ 64 - 1 → ShowsTop s options.layout options.threshold options.rows text → Appends held holds text → WritesReport options inputs fails summary held holds
+reported options None fails summary held holds start s text new keeps empty counted fits shows wrote = tt
+reported options (Some all) fails summary held holds start s text new keeps empty counted fits shows wrote = (text, made_report options all fails summary start s text new keeps empty counted fits shows, wrote)
 
-pub reported_front : (options : Options) (inputs : Option (List (List ℕ))) (summary : Summary) (held holds : Option (List ℕ)) (start s : Sketch) (text : List ℕ)
+pub reported_front : (options : Options) (inputs : Option (List (List ℕ))) (fails : List Bool) (summary : Summary) (held holds : Option (List ℕ)) (start s : Sketch) (text : List ℕ)
     → StandsFor string_eq start (New options.size (max_sample_size options.size)) → KeepsTailBudget string_eq start (New options.size (max_sample_size options.size)) → start ≡ empty_state options.size (max_sample_size options.size) options.key
-    → CountsInputs options.weighing inputs summary.complete start s 0 summary.not_utf8 → summary.not_utf8 ≤ 2 ^ 64 - 1 → ShowsTop s options.layout options.threshold options.rows text → WritesFront held holds text → WritesReportFront options inputs held holds
-reported_front options None summary held holds start s text new keeps empty counted fits shows wrote = tt
-reported_front options (Some all) summary held holds start s text new keeps empty counted fits shows wrote = (summary, text, made_report options all summary start s text new keeps empty counted fits shows, wrote)
+    → CountsInputs options.weighing inputs fails start s 0 summary.not_utf8 → summary.not_utf8 ≤ 2 ^ 64 - 1 → ShowsTop s options.layout options.threshold options.rows text → WritesFront held holds text → WritesReportFront options inputs fails held holds
+reported_front options None fails summary held holds start s text new keeps empty counted fits shows wrote = tt
+reported_front options (Some all) fails summary held holds start s text new keeps empty counted fits shows wrote = (summary, text, made_report options all fails summary start s text new keeps empty counted fits shows, wrote)
 
 -- the error of what was counted
-pub error_of : (options : Options) (inputs : Option (List (List ℕ))) (complete : Bool) (start s : Sketch) (error before after : ℕ) → start ≡ empty_state options.size (max_sample_size options.size) options.key
-    → CountsInputs options.weighing inputs complete start s before after → error ≡ s.error → IsErrorOf options inputs complete error
-error_of options None complete start s error before after empty counted is = tt
-error_of options (Some all) complete start s error before after empty (read, are, added, grown) is =
+pub error_of : (options : Options) (inputs : Option (List (List ℕ))) (fails : List Bool) (start s : Sketch) (error before after : ℕ) → start ≡ empty_state options.size (max_sample_size options.size) options.key
+    → CountsInputs options.weighing inputs fails start s before after → error ≡ s.error → IsErrorOf options inputs fails error
+error_of options None fails start s error before after empty counted is = tt
+error_of options (Some all) fails start s error before after empty (read, are, added, grown) is =
     (read, s, are, subst (λ (t : Sketch). AddsWeighed t (flat_map (weighed_of options.weighing) read) s) empty added.0, is)
 
 -- a report on a merged sketch
@@ -308,17 +309,17 @@ merge_error options None s error merges is = tt
 merge_error options (Some all) s error merges is = (s, merges, is)
 
 -- a write of the report on a merged sketch failed
-pub merge_stopped : (options : MergeOptions) (was : Option (List (List ℕ))) (s : Sketch) (kept : Option Sketch) (has_failed : Bool) (held holds : Option (List ℕ)) (text : List ℕ)
-    → IfSome was (λ all. Merges options.images.max_bytes all s) → s.key ≡ options.images.key → IfSome kept (λ t. t ≡ s) → ShowsTop s options.layout options.threshold options.rows text → has_failed ≡ true → WritesFront held holds text
-    → IfSome was (λ all. StopsMerge options all kept has_failed held holds)
-merge_stopped options None s kept has_failed held holds text merges key is shows failed wrote = tt
-merge_stopped options (Some all) s kept has_failed held holds text merges key is shows failed wrote =
+pub merge_stopped : (options : MergeOptions) (was : Option (List (List ℕ))) (s : Sketch) (kept : Option Sketch) (write_error : Option Error) (held holds : Option (List ℕ)) (error : Error) (text : List ℕ)
+    → IfSome was (λ all. Merges options.images.max_bytes all s) → s.key ≡ options.images.key → IfSome kept (λ t. t ≡ s) → ShowsTop s options.layout options.threshold options.rows text → write_error ≡ Some error → WritesFront held holds text
+    → IfSome was (λ all. StopsMerge options all kept write_error held holds error)
+merge_stopped options None s kept write_error held holds error text merges key is shows failed wrote = tt
+merge_stopped options (Some all) s kept write_error held holds error text merges key is shows failed wrote =
     (failed, (text, made_merge options all s text merges shows, wrote), same_kept (λ t. Merges options.images.max_bytes all t × (t.key ≡ options.images.key)) kept s is (merges, key))
 
-pub items_kept : (options : Options) (inputs : Option (List (List ℕ))) (complete : Bool) (kept : Option Sketch) (start s : Sketch)
+pub items_kept : (options : Options) (inputs : Option (List (List ℕ))) (fails : List Bool) (kept : Option Sketch) (start s : Sketch)
     → StandsFor string_eq start (New options.size (max_sample_size options.size)) → KeepsTailBudget string_eq start (New options.size (max_sample_size options.size)) → start ≡ empty_state options.size (max_sample_size options.size) options.key
-    → (before after : ℕ) → CountsInputs options.weighing inputs complete start s before after → IfSome kept (λ t. t ≡ s) → KeepsItems options inputs complete kept
-items_kept options None complete kept start s new keeps empty before after counted is = tt
-items_kept options (Some all) complete kept start s new keeps empty before after (read, are, added, grown) is =
-    same_kept (λ t. (read : List (List ℕ)) × AreRead (splits_of options.weighing) complete all read × HasItems options.size (flat_map (weighed_of options.weighing) read) t × Counts options read t × (t.key ≡ options.key)) kept s is
+    → (before after : ℕ) → CountsInputs options.weighing inputs fails start s before after → IfSome kept (λ t. t ≡ s) → KeepsItems options inputs fails kept
+items_kept options None fails kept start s new keeps empty before after counted is = tt
+items_kept options (Some all) fails kept start s new keeps empty before after (read, are, added, grown) is =
+    same_kept (λ t. (read : List (List ℕ)) × AreRead (splits_of options.weighing) fails all read × HasItems options.size (flat_map (weighed_of options.weighing) read) t × Counts options read t × (t.key ≡ options.key)) kept s is
     (read, are, added_items options.size start s (flat_map (weighed_of options.weighing) read) new keeps added.0, subst (λ (t : Sketch). AddsWeighed t (flat_map (weighed_of options.weighing) read) s) empty added.0, added.0.key ∙ ap (λ (t : Sketch). t.key) empty)

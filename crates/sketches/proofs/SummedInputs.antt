@@ -1,10 +1,11 @@
 -- The sums of keys that are read of inputs and written, and why a run ended without.
-use Rattle.std.proofs.Common.{◌≡◌, ⊎_elim, ℕ, zero, suc, ◌+◌, ◌^◌, ◌<◌, ◌≤◌, Bool, List, [], ◌∷◌, ◌++◌, length, slice_get, Option, None, Some, IfSome, is_some, append_assoc, append-nil, length-append, refl, sym, ◌∙◌, ap, subst, arith}
+use Rattle.std.proofs.Common.{◌≡◌, ⊎_elim, ℕ, zero, suc, ◌+◌, ◌^◌, ◌<◌, ◌≤◌, Bool, false, List, [], ◌∷◌, ◌++◌, length, slice_get, Option, None, Some, IfSome, is_some, append_assoc, append-nil, length-append, refl, sym, ◌∙◌, ap, subst, arith}
 use Rattle.std.proofs.lemmas.Bool.{false≢true}
 use Rattle.std.proofs.lemmas.List.Concat.{flat_map-append}
 use Rattle.std.specs.Io.KnownBytes.{Appends}
 use Rattle.std.specs.List.{AllZip, flat_map}
 use Rattle.std.specs.Option.{unwrap_or}
+use Rattle.std.specs.declared.io.Error.{Error}
 use Rattle.sketch_base.specs.Records.{records_by, splits_by}
 use Rattle.sketch_base.specs.declared.record_part.RecordPart.{RecordPart}
 use Rattle.sketches.proofs.KeyWeights.{few_of_each, unweighed_among, weighed_among}
@@ -15,7 +16,7 @@ use Rattle.sketches.specs.KeySumLaws.{all_sums, no_sums}
 use Rattle.sketches.specs.KeySums.{AddsItems, AddsLines, ComesWhileWriting, FailsKeys, FailsSums, FailsTakingKeys, HoldsKeys, HoldsSums, Sends, Sums, SumsInputs, TakesKeys, WritesSomeSums, WritesSums, names, row_of, rows_at, rows_text, sum_lines}
 use Rattle.sketches.specs.KeyWeights.{Row, parts_in, row_line, total_line, unweighed_in, unweighed_lines, weighed_in, weighed_lines}
 use Rattle.sketches.specs.Outputs.{WritesFront}
-use Rattle.sketches.specs.Reading.{FailsInput, HasLongRecord}
+use Rattle.sketches.specs.Reading.{FailsInput, HasLongRecord, IsReadOf, TakesInput}
 use Rattle.sketches.specs.WeighFailures.{FailsLines}
 use Rattle.sketches.specs.Weighed.{Weighed, total_of, weight_of}
 use Rattle.sketches.specs.WeighingLaws.{total_both}
@@ -130,25 +131,24 @@ sums_printed options sums sums' order keys items total held adds =
     ap (λ n. total_line options.style options.header n ++ flat_map (row_line options.style) (rows_at sums' order)) is
     ∙ ap (λ l. total_line options.style options.header (total_of items) ++ l) (rows_named options.style sums' items order keys (adds.adds [] refl held.empty) all)
 
-pub exact_written : (options : ExactOptions) (keys : Option (List ℕ)) (was : Option (List (List ℕ))) (complete : Bool) (sums sums' : Sums) (order : List ℕ) (total : ℕ) (held holds : Option (List ℕ))
-    → IfSome keys (λ bytes. HoldsKeys sums order (parts_in options.keys_part bytes)) → IfSome was (λ inputs. SumsInputs options.chosen sums inputs complete sums' total) → Appends held holds (rows_text options total sums' order)
-    → IfSome keys (λ bytes. IfSome was (λ inputs. WritesSums options inputs complete bytes held holds))
-exact_written options None was complete sums sums' order total held holds named summed wrote = tt
-exact_written options (Some bytes) None complete sums sums' order total held holds named summed wrote = tt
-exact_written options (Some bytes) (Some inputs) complete sums sums' order total held holds named summed wrote = record {
+pub exact_written : (options : ExactOptions) (keys : Option (List ℕ)) (was : Option (List (List ℕ))) (fails : List Bool) (sums sums' : Sums) (order : List ℕ) (total : ℕ) (held holds : Option (List ℕ))
+    → IfSome keys (λ bytes. HoldsKeys sums order (parts_in options.keys_part bytes)) → IfSome was (λ inputs. SumsInputs options.chosen sums inputs fails sums' total) → Appends held holds (rows_text options total sums' order)
+    → IfSome keys (λ bytes. IfSome was (λ inputs. WritesSums options inputs fails bytes held holds))
+exact_written options None was fails sums sums' order total held holds named summed wrote = tt
+exact_written options (Some bytes) None fails sums sums' order total held holds named summed wrote = tt
+exact_written options (Some bytes) (Some inputs) fails sums sums' order total held holds named summed wrote = record {
   read = summed.read;
   are = summed.are;
   each = summed.each;
   wrote = subst (Appends held holds) (sums_printed options sums sums' order (parts_in options.keys_part bytes) (weighed_in options.chosen summed.read) total named summed.adds) wrote;
 }
 
-pub exact_cut : (options : ExactOptions) (keys : Option (List ℕ)) (was : Option (List (List ℕ))) (complete : Bool) (sums sums' : Sums) (order : List ℕ) (total : ℕ) (held holds : Option (List ℕ))
-    → IfSome keys (λ bytes. HoldsKeys sums order (parts_in options.keys_part bytes)) → IfSome was (λ inputs. SumsInputs options.chosen sums inputs complete sums' total) → WritesFront held holds (rows_text options total sums' order)
-    → IfSome keys (λ bytes. IfSome was (λ inputs. WritesSomeSums options inputs bytes held holds))
-exact_cut options None was complete sums sums' order total held holds named summed wrote = tt
-exact_cut options (Some bytes) None complete sums sums' order total held holds named summed wrote = tt
-exact_cut options (Some bytes) (Some inputs) complete sums sums' order total held holds named summed wrote = record {
-  complete = complete;
+pub exact_cut : (options : ExactOptions) (keys : Option (List ℕ)) (was : Option (List (List ℕ))) (fails : List Bool) (sums sums' : Sums) (order : List ℕ) (total : ℕ) (held holds : Option (List ℕ))
+    → IfSome keys (λ bytes. HoldsKeys sums order (parts_in options.keys_part bytes)) → IfSome was (λ inputs. SumsInputs options.chosen sums inputs fails sums' total) → WritesFront held holds (rows_text options total sums' order)
+    → IfSome keys (λ bytes. IfSome was (λ inputs. WritesSomeSums options inputs fails bytes held holds))
+exact_cut options None was fails sums sums' order total held holds named summed wrote = tt
+exact_cut options (Some bytes) None fails sums sums' order total held holds named summed wrote = tt
+exact_cut options (Some bytes) (Some inputs) fails sums sums' order total held holds named summed wrote = record {
   read = summed.read;
   are = summed.are;
   each = summed.each;
@@ -156,13 +156,13 @@ exact_cut options (Some bytes) (Some inputs) complete sums sums' order total hel
 }
 
 -- a failure while lines are written may come after some
-pub comes_late : (has_failed : Bool) (e : Failure) → FailsWriting has_failed e → ComesWhileWriting (Weights e)
-comes_late has_failed Memory f = tt
-comes_late has_failed LineTooLong f = absurd f
-comes_late has_failed TooManyItems f = absurd f
-comes_late has_failed BadSize f = absurd f
-comes_late has_failed (BadWeight found) f = absurd f
-comes_late has_failed (Write error) f = tt
+pub comes_late : (write_error : Option Error) (e : Failure) → FailsWriting write_error e → ComesWhileWriting (Weights e)
+comes_late write_error Memory f = tt
+comes_late write_error LineTooLong f = absurd f
+comes_late write_error TooManyItems f = absurd f
+comes_late write_error BadSize f = absurd f
+comes_late write_error (BadWeight found) f = absurd f
+comes_late write_error (Write error) f = tt
 
 -- ---- the file of keys
 
@@ -179,11 +179,14 @@ no_keys : (sums : Sums) (order : List ℕ) → sums ≡ [] → order ≡ [] → 
 no_keys sums order none empty =
     subst (λ (s : Sums). HoldsKeys s order []) (sym none) (subst (λ (o : List ℕ). HoldsKeys [] o []) (sym empty) (record { named = tt; among = λ key here. here; empty = tt }))
 
-pub keys_held : (options : ExactOptions) (keys : Option (List ℕ)) (old new : Keyed) → old.0.part ≡ options.keys_part → old.0.sums.entries ≡ [] → old.0.order.items ≡ [] → IfSome keys (λ bytes. TakesFile old bytes new)
+pub keys_held : {E : Type 0} (options : ExactOptions) (keys : Option (List ℕ)) (fails : Bool) (failure : Option E) (old new : Keyed) → is_some failure ≡ false → old.0.part ≡ options.keys_part → old.0.sums.entries ≡ [] → old.0.order.items ≡ []
+    → TakesInput (splits_by old.0.part) TakesFile keys fails failure old new
     → IfSome keys (λ bytes. HoldsKeys new.0.sums.entries new.0.order.items (parts_in options.keys_part bytes))
-keys_held options None old new part none empty taken = tt
-keys_held options (Some bytes) old new part none empty taken =
-    subst (λ (p : RecordPart). HoldsKeys new.0.sums.entries new.0.order.items (parts_in p bytes)) part (taken.0 [] (no_keys old.0.sums.entries old.0.order.items none empty))
+keys_held options None fails failure old new whole part none empty taken = tt
+keys_held options (Some bytes) fails failure old new whole part none empty (is, (read, of, taken)) =
+    let all : read ≡ bytes = subst (λ (b : Bool). IsReadOf (splits_by old.0.part) b bytes read) (sym is ∙ whole) of in
+    let takes : TakesFile old bytes new = subst (λ (l : List ℕ). TakesFile old l new) all taken in
+    subst (λ (p : RecordPart). HoldsKeys new.0.sums.entries new.0.order.items (parts_in p bytes)) part (takes.0 [] (no_keys old.0.sums.entries old.0.order.items none empty))
 
 file_failed : (options : ExactOptions) (limit : ℕ) (keys : Option (List ℕ)) (old : Keyed) (e : Failure) → old.0.part ≡ options.keys_part → old.0.max_keys ≡ options.max_keys → old.0.sums.entries ≡ [] → old.0.order.items ≡ []
     → (s : Keyed) × (bytes : List ℕ) × FailsTakingKeys s.0.max_keys s.0.sums.entries s.0.order.items (parts_in s.0.part bytes) e → IfSome keys (λ bytes. FailsTakingKeys old.0.max_keys old.0.sums.entries old.0.order.items (parts_in old.0.part bytes) e) → FailsKeys options limit keys e
@@ -229,10 +232,10 @@ each_added old new (bytes ∷ read) (mid, (first, kept), rest) =
       kept' ∙ kept,
     )
 
-pub inputs_summed : (was : Option (List (List ℕ))) (complete : Bool) (old new : Adder) → old.0.total ≡ 0 → TakesInputs (splits_by old.0.chosen.item) Adds was complete old new
-    → IfSome was (λ inputs. SumsInputs old.0.chosen old.0.sums.entries inputs complete new.0.sums.entries new.0.total)
-inputs_summed None complete old new begin taken = tt
-inputs_summed (Some inputs) complete old new begin (read, are, each) =
+pub inputs_summed : (was : Option (List (List ℕ))) (fails : List Bool) (complete : Bool) (old new : Adder) → old.0.total ≡ 0 → TakesInputs (splits_by old.0.chosen.item) Adds was fails complete old new
+    → IfSome was (λ inputs. SumsInputs old.0.chosen old.0.sums.entries inputs fails new.0.sums.entries new.0.total)
+inputs_summed None fails complete old new begin taken = tt
+inputs_summed (Some inputs) fails complete old new begin (is, (read, are, each)) =
     let (adds, same) = each_added old new read each in
     record {
       read = read;
@@ -259,18 +262,18 @@ without_one old after inputs found f =
     let all = ap (λ (l : List (List ℕ)). length l) (ap (unweighed_in p) f.parts ∙ unweighed_among p f.earlier f.later f.input) in
     omega (arith, some, all, length-append (unweighed_in p f.earlier) (here ++ unweighed_in p f.later), length-append here (unweighed_in p f.later))
 
-taking_failed : (limit : ℕ) (was : Option (List (List ℕ))) (has_failed : Bool) (old after : Adder) (e : Failure) → old.0.total ≡ 0 → FailsTakingInputs (splits_by old.0.chosen.item) Adds FailsAdds was old after e → FailsSums old.0.chosen limit was has_failed e
-taking_failed limit was has_failed old after Memory new f = tt
-taking_failed limit was has_failed old after LineTooLong new f = absurd f.some.2
-taking_failed limit None has_failed old after TooManyItems new f = tt
-taking_failed limit (Some inputs) has_failed old after TooManyItems new f = too_many old after inputs new f.known
-taking_failed limit None has_failed old after (BadWeight found) new f = tt
-taking_failed limit (Some inputs) has_failed old after (BadWeight found) new f = without_one old after inputs found f.known
-taking_failed limit was has_failed old after BadSize new f = absurd f.some.2
-taking_failed limit was has_failed old after (Write error) new f = absurd f.some.2
+taking_failed : (limit : ℕ) (was : Option (List (List ℕ))) (write_error : Option Error) (old after : Adder) (e : Failure) → old.0.total ≡ 0 → FailsTakingInputs (splits_by old.0.chosen.item) Adds FailsAdds was old after e → FailsSums old.0.chosen limit was write_error e
+taking_failed limit was write_error old after Memory new f = tt
+taking_failed limit was write_error old after LineTooLong new f = absurd f.some.2
+taking_failed limit None write_error old after TooManyItems new f = tt
+taking_failed limit (Some inputs) write_error old after TooManyItems new f = too_many old after inputs new f.known
+taking_failed limit None write_error old after (BadWeight found) new f = tt
+taking_failed limit (Some inputs) write_error old after (BadWeight found) new f = without_one old after inputs found f.known
+taking_failed limit was write_error old after BadSize new f = absurd f.some.2
+taking_failed limit was write_error old after (Write error) new f = absurd f.some.2
 
-pub summing_failed : (limit : ℕ) (was : Option (List (List ℕ))) (has_failed : Bool) (old after : Adder) (e : Failure) → old.0.total ≡ 0 → FailsInputs (splits_by old.0.chosen.item) Adds FailsAdds limit was old after e → FailsSums old.0.chosen limit was has_failed e
-summing_failed limit was has_failed old after e new failed = ⊎_elim
+pub summing_failed : (limit : ℕ) (was : Option (List (List ℕ))) (write_error : Option Error) (old after : Adder) (e : Failure) → old.0.total ≡ 0 → FailsInputs (splits_by old.0.chosen.item) Adds FailsAdds limit was old after e → FailsSums old.0.chosen limit was write_error e
+summing_failed limit was write_error old after e new failed = ⊎_elim
     (λ stops. ⊎_elim (λ memory. rw memory tt) (λ long. rw long.0 long.1) stops.0)
-    (λ taking. taking_failed limit was has_failed old after e new taking)
+    (λ taking. taking_failed limit was write_error old after e new taking)
     failed

@@ -5,6 +5,7 @@ use Rattle.std.proofs.lemmas.List.Concat.{flat_map-append}
 use Rattle.std.proofs.lemmas.List.Folds.{list_any_at}
 use Rattle.std.specs.Io.KnownBytes.{Appends}
 use Rattle.std.specs.List.{flat_map}
+use Rattle.std.specs.declared.io.Error.{Error}
 use Rattle.sketch_bloom.specs.State.{FilterState, all_inserted, contains_item, inserted, item_positions}
 use Rattle.sketch_bloom.proofs.SetAlgebra.{inserted_is_contained, union_keeps}
 use Rattle.sketch_frequencies.proofs.KeyedBatches.{all_zip_push}
@@ -92,11 +93,11 @@ module _ {W : Type 0} (contents : W → Option (List ℕ)) where
       let (part, repeated) = each_kept mid new read rest in
       (part ∙ same_part, repeated ∙ same_repeated)
 
-  pub written : (header : List ℕ) (held : Option (List ℕ)) (was : Option (List (List ℕ))) (complete : Bool) (old new : UnseenLines × W)
-      → Appends held (contents old.1) header → TakesInputs (splits_by old.0.part) Chooses was complete old new
-      → IfSome was (λ inputs. WritesUnseen old.0.written.form old.0.repeated old.0.part header old.0.filter new.0.filter inputs complete held (contents new.1))
-  written header held None complete old new begins taken = tt
-  written header held (Some inputs) complete old new begins (read, are, each) = record {
+  pub written : (header : List ℕ) (held : Option (List ℕ)) (was : Option (List (List ℕ))) (fails : List Bool) (complete : Bool) (old new : UnseenLines × W)
+      → Appends held (contents old.1) header → TakesInputs (splits_by old.0.part) Chooses was fails complete old new
+      → IfSome was (λ inputs. WritesUnseen old.0.written.form old.0.repeated old.0.part header old.0.filter new.0.filter inputs fails held (contents new.1))
+  written header held None fails complete old new begins taken = tt
+  written header held (Some inputs) fails complete old new begins (is, (read, are, each)) = record {
     read = read;
     are = are;
     written =
@@ -112,9 +113,9 @@ module _ {W : Type 0} (contents : W → Option (List ℕ)) where
   abbrev SomeUnseen : (header : List ℕ) (held : Option (List ℕ)) (old new : UnseenLines × W) (inputs : List (List ℕ)) → Type 0
   SomeUnseen header held old new inputs = WritesSomeUnseen old.0.written.form old.0.repeated old.0.part header old.0.filter inputs held (contents new.1)
 
-  abbrev pub FailsChoosing : (has_failed : W → Bool) → UnseenLines × W → List ℕ → UnseenLines × W → Failure → Type 0
-  FailsChoosing has_failed old bytes new failure =
-      FailsWriting (has_failed new.1) failure
+  abbrev pub FailsChoosing : (write_error : W → Option Error) → UnseenLines × W → List ℕ → UnseenLines × W → Failure → Type 0
+  FailsChoosing write_error old bytes new failure =
+      FailsWriting (write_error new.1) failure
       × WritesFront (contents old.1) (contents new.1) (text_of old.0.written.form (unseen_lines old.0.repeated old.0.part old.0.filter (raws_by old.0.part bytes)))
 
   stopped : (header : List ℕ) (held : Option (List ℕ)) (old new : UnseenLines × W) (inputs : List (List ℕ)) → Appends held (contents old.1) header → TakesFirst (splits_by old.0.part) Chooses inputs old new → SomeUnseen header held old new inputs
@@ -130,9 +131,9 @@ module _ {W : Type 0} (contents : W → Option (List ℕ)) where
         (each_written old new t.read t.taken).0);
   }
 
-  failed_among : (has_failed : W → Bool) (header : List ℕ) (held : Option (List ℕ)) (old new : UnseenLines × W) (inputs : List (List ℕ)) (e : Failure) → Appends held (contents old.1) header
-      → FailsAmong (splits_by old.0.part) Chooses (FailsChoosing has_failed) inputs old new e → SomeUnseen header held old new inputs
-  failed_among has_failed header held old new inputs e begins f =
+  failed_among : (write_error : W → Option Error) (header : List ℕ) (held : Option (List ℕ)) (old new : UnseenLines × W) (inputs : List (List ℕ)) (e : Failure) → Appends held (contents old.1) header
+      → FailsAmong (splits_by old.0.part) Chooses (FailsChoosing write_error) inputs old new e → SomeUnseen header held old new inputs
+  failed_among write_error header held old new inputs e begins f =
       let p = old.0.part in
       let r = old.0.repeated in
       let earlier : List (List ℕ) = flat_map (raws_by p) f.read in
@@ -161,12 +162,12 @@ module _ {W : Type 0} (contents : W → Option (List ℕ)) where
             front;
       }
 
-  pub some_written : (has_failed : W → Bool) (limit : ℕ) (header : List ℕ) (held : Option (List ℕ)) (was : Option (List (List ℕ))) (old new : UnseenLines × W) (e : Failure) → Appends held (contents old.1) header
-      → FailsInputs (splits_by old.0.part) Chooses (FailsChoosing has_failed) limit was old new e → IfSome was (SomeUnseen header held old new)
-  some_written has_failed limit header held None old new e begins failed = tt
-  some_written has_failed limit header held (Some inputs) old new e begins failed = ⊎_elim
+  pub some_written : (write_error : W → Option Error) (limit : ℕ) (header : List ℕ) (held : Option (List ℕ)) (was : Option (List (List ℕ))) (old new : UnseenLines × W) (e : Failure) → Appends held (contents old.1) header
+      → FailsInputs (splits_by old.0.part) Chooses (FailsChoosing write_error) limit was old new e → IfSome was (SomeUnseen header held old new)
+  some_written write_error limit header held None old new e begins failed = tt
+  some_written write_error limit header held (Some inputs) old new e begins failed = ⊎_elim
       (λ stops. stopped header held old new inputs begins stops.1)
-      (λ taking. failed_among has_failed header held old new inputs e begins taking.known)
+      (λ taking. failed_among write_error header held old new inputs e begins taking.known)
       failed
 
 -- the header alone, or nothing
@@ -176,20 +177,20 @@ header_written form repeated part header filter (Some inputs) held holds front =
     record { first = []; later = inputs; parts = refl; read = []; fronts = tt; written = front_more held holds header [] front }
 
 -- why a run that writes records failed
-pub writing_failed : (part : RecordPart) (limit : ℕ) (was : Option (List (List ℕ))) (has_failed : Bool) (e : Failure) → FailsWriting has_failed e → FailsWrittenLines part limit was has_failed e
-writing_failed part limit was has_failed Memory f = tt
-writing_failed part limit was has_failed LineTooLong f = absurd f
-writing_failed part limit was has_failed TooManyItems f = absurd f
-writing_failed part limit was has_failed BadSize f = absurd f
-writing_failed part limit was has_failed (BadWeight found) f = absurd f
-writing_failed part limit was has_failed (Write error) f = f
+pub writing_failed : (part : RecordPart) (limit : ℕ) (was : Option (List (List ℕ))) (write_error : Option Error) (e : Failure) → FailsWriting write_error e → FailsWrittenLines part limit was write_error e
+writing_failed part limit was write_error Memory f = tt
+writing_failed part limit was write_error LineTooLong f = absurd f
+writing_failed part limit was write_error TooManyItems f = absurd f
+writing_failed part limit was write_error BadSize f = absurd f
+writing_failed part limit was write_error (BadWeight found) f = absurd f
+writing_failed part limit was write_error (Write error) f = f
 
-pub lines_failed : (part : RecordPart) (limit : ℕ) (was : Option (List (List ℕ))) (has_failed : Bool) (e : Failure) → (e ≡ Memory) ⊎ ((e ≡ LineTooLong) × IfSome was (HaveLongRecord (splits_by part) limit)) → FailsWrittenLines part limit was has_failed e
-lines_failed part limit was has_failed e stops = ⊎_elim (λ memory. rw memory tt) (λ long. rw long.0 long.1) stops
+pub lines_failed : (part : RecordPart) (limit : ℕ) (was : Option (List (List ℕ))) (write_error : Option Error) (e : Failure) → (e ≡ Memory) ⊎ ((e ≡ LineTooLong) × IfSome was (HaveLongRecord (splits_by part) limit)) → FailsWrittenLines part limit was write_error e
+lines_failed part limit was write_error e stops = ⊎_elim (λ memory. rw memory tt) (λ long. rw long.0 long.1) stops
 
-module _ {W : Type 0} (contents : W → Option (List ℕ)) (has_failed : W → Bool) where
-  pub unseen_failed : (limit : ℕ) (was : Option (List (List ℕ))) (old new : UnseenLines × W) (e : Failure) → FailsInputs (splits_by old.0.part) (Chooses contents) (FailsChoosing contents has_failed) limit was old new e → FailsWrittenLines old.0.part limit was (has_failed new.1) e
+module _ {W : Type 0} (contents : W → Option (List ℕ)) (write_error : W → Option Error) where
+  pub unseen_failed : (limit : ℕ) (was : Option (List (List ℕ))) (old new : UnseenLines × W) (e : Failure) → FailsInputs (splits_by old.0.part) (Chooses contents) (FailsChoosing contents write_error) limit was old new e → FailsWrittenLines old.0.part limit was (write_error new.1) e
   unseen_failed limit was old new e failed = ⊎_elim
-      (λ stops. lines_failed old.0.part limit was (has_failed new.1) e stops.0)
-      (λ taking. writing_failed old.0.part limit was (has_failed new.1) e taking.some.2.0)
+      (λ stops. lines_failed old.0.part limit was (write_error new.1) e stops.0)
+      (λ taking. writing_failed old.0.part limit was (write_error new.1) e taking.some.2.0)
       failed

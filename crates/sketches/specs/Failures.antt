@@ -1,6 +1,7 @@
 -- When each error of a run comes.
-use Rattle.std.specs.Prelude.{◌≡◌, ◌⊎◌, ◌<◌, ◌*◌, ℕ, ◌+◌, ◌^◌, ◌≤◌, Bool, true, List, length, Option, IfSome, IsSome}
+use Rattle.std.specs.Prelude.{◌≡◌, ◌⊎◌, ◌<◌, ◌*◌, ℕ, ◌+◌, ◌^◌, ◌≤◌, List, length, Option, Some, IfSome, IsSome}
 use Rattle.std.specs.List.{flat_map}
+use Rattle.std.specs.declared.io.Error.{Error}
 use Rattle.sketch_bloom.specs.Sizes.{AreEnoughBitsRounded, IsLn2TimesWithin}
 use Rattle.sketch_frequencies.specs.Sizes.{size_fault}
 use Rattle.sketches.specs.Added.{Sketch}
@@ -48,21 +49,21 @@ FailsLines chosen old bytes failure = FailsWeighing old (weighed_of chosen bytes
 abbrev pub FailsLine : Weighing → Sketch → List ℕ → Failure → Type 0
 FailsLine chosen old line failure = FailsWeighing old (weighed_of_line chosen line) (unweighed_of_line chosen line) failure
 
--- A report is not written, or not whole. Memory may be exhausted at any time. `output` holds if the output cannot be written.
+-- A report is not written, or not whole. Memory may be exhausted at any time. `output` holds of the error of the output.
 -- Otherwise a line has more bytes than the limit, the weights of all items are at least 2^64, a line with an item has no weight, or the size is not allowed.
-abbrev pub FailsTop : Options → Option (List (List ℕ)) → (output : Type 0) → Failure → Type 0
+abbrev pub FailsTop : Options → Option (List (List ℕ)) → (output : Error → Type 0) → Failure → Type 0
 FailsTop options was output Memory = Unit {0}
 FailsTop options was output LineTooLong = IfSome was (HaveLongRecord (splits_of options.weighing) (options.max_line + 1))
 FailsTop options was output TooManyItems = IfSome was (λ inputs. 2 ^ 64 ≤ total_of (flat_map (weighed_of options.weighing) inputs))
 FailsTop options was output (BadWeight found) = IfSome was (λ inputs. 0 < length (flat_map (unweighed_of options.weighing) inputs))
 FailsTop options was output BadSize = IsSome (size_fault options.size)
-FailsTop options was output (Write error) = output
+FailsTop options was output (Write error) = output error
 
--- while records are written, the memory is exhausted, or a write has failed
-abbrev pub FailsWriting : (has_failed : Bool) → Failure → Type 0
-FailsWriting has_failed Memory = Unit {0}
-FailsWriting has_failed (Write error) = has_failed ≡ true
-FailsWriting has_failed _ = ⊥
+-- while records are written, the memory is exhausted, or a write has failed with this error
+abbrev pub FailsWriting : (write_error : Option Error) → Failure → Type 0
+FailsWriting write_error Memory = Unit {0}
+FailsWriting write_error (Write error) = write_error ≡ Some error
+FailsWriting write_error _ = ⊥
 
 -- Memory is exhausted while a filter is made, or a filter of this size is not allowed: for no items, for fewer than 2 questions,
 -- without bits or hashes, with more than 137438953152 bits, or with more than 32767 hashes.
@@ -76,17 +77,17 @@ FailsFilter (Target target) BadSize =
 FailsFilter (Shape shape) BadSize = HasNoSize (Shape shape)
 FailsFilter size _ = ⊥
 
--- The records of inputs are not all written. Memory may be exhausted at any time, or a write has failed. Otherwise a record has at
+-- The records of inputs are not all written. Memory may be exhausted at any time, or a write has failed with this error. Otherwise a record has at
 -- least `limit` bytes.
-abbrev pub FailsWrittenLines : RecordPart → (limit : ℕ) → Option (List (List ℕ)) → (has_failed : Bool) → Failure → Type 0
-FailsWrittenLines part limit was has_failed Memory = Unit {0}
-FailsWrittenLines part limit was has_failed LineTooLong = IfSome was (HaveLongRecord (splits_by part) limit)
-FailsWrittenLines part limit was has_failed TooManyItems = ⊥
-FailsWrittenLines part limit was has_failed BadSize = ⊥
-FailsWrittenLines part limit was has_failed (BadWeight found) = ⊥
-FailsWrittenLines part limit was has_failed (Write error) = has_failed ≡ true
+abbrev pub FailsWrittenLines : RecordPart → (limit : ℕ) → Option (List (List ℕ)) → (write_error : Option Error) → Failure → Type 0
+FailsWrittenLines part limit was write_error Memory = Unit {0}
+FailsWrittenLines part limit was write_error LineTooLong = IfSome was (HaveLongRecord (splits_by part) limit)
+FailsWrittenLines part limit was write_error TooManyItems = ⊥
+FailsWrittenLines part limit was write_error BadSize = ⊥
+FailsWrittenLines part limit was write_error (BadWeight found) = ⊥
+FailsWrittenLines part limit was write_error (Write error) = write_error ≡ Some error
 
 -- a run that writes unseen records ends as any that writes records, or a filter of this size is not allowed
-abbrev pub FailsUniq : UniqOptions → FilterSize → Option (List (List ℕ)) → (has_failed : Bool) → Failure → Type 0
-FailsUniq options size was has_failed BadSize = FailsFilter size BadSize
-FailsUniq options size was has_failed failure = FailsWrittenLines options.part (options.max_line + 1) was has_failed failure
+abbrev pub FailsUniq : UniqOptions → FilterSize → Option (List (List ℕ)) → (write_error : Option Error) → Failure → Type 0
+FailsUniq options size was write_error BadSize = FailsFilter size BadSize
+FailsUniq options size was write_error failure = FailsWrittenLines options.part (options.max_line + 1) was write_error failure

@@ -4,6 +4,7 @@ use denote.RattleType.{RattleType}
 use Rattle.std.specs.contracts.alloc.Global as heap
 use Rattle.std.specs.contracts.impls.GlobalAllocator.TheImpl.{ghosts}
 use Rattle.std.specs.contracts.string.String as string
+use Rattle.std.specs.declared.io.Error.{Error}
 use Rattle.sketch_base.specs.declared.fault.Fault.{Fault}
 use Rattle.sketch_frequencies.specs.Image.{first_fault_within, prefix_bytes}
 use Rattle.sketch_frequencies.specs.Items.{text_codec}
@@ -45,8 +46,8 @@ IsBadImage limit image (Write error) = ⊥
 abbrev pub IsRejected : ℕ → List ℕ → ImageFailure → Type 0
 IsRejected limit image failure = IsUnread limit image failure ⊎ IsBadImage limit image failure
 
--- why a merge of these images ends. A read or an allocation can fail at any images. `output` holds if the output cannot be written
-abbrev pub EndsMerge : ℕ → List (List ℕ) → (output : Type 0) → ImageFailure → Type 0
+-- why a merge of these images ends. A read or an allocation can fail at any images. `output` holds of the error of the output
+abbrev pub EndsMerge : ℕ → List (List ℕ) → (output : Error → Type 0) → ImageFailure → Type 0
 EndsMerge limit images output Memory = Unit {0}
 EndsMerge limit images output NoImage = images ≡ []
 EndsMerge limit images output (Read error) = Unit {0}
@@ -54,7 +55,7 @@ EndsMerge limit images output TooLong = Any (λ image. limit < length image) ima
 EndsMerge limit images output (Rejected fault) = Any (λ image. fault_within limit image ≡ Some fault) images
 EndsMerge limit images output TrailingBytes = Any (λ image. prefix_bytes text_codec image < length image) images
 EndsMerge limit images output TooManyItems = 2 ^ 64 ≤ sum_by total_in images
-EndsMerge limit images output (Write error) = output
+EndsMerge limit images output (Write error) = output error
 
 -- the output could not be written
 abbrev pub IsWriteFailure : ImageFailure → Type 0
@@ -66,6 +67,17 @@ IsWriteFailure (Rejected fault) = ⊥
 IsWriteFailure TrailingBytes = ⊥
 IsWriteFailure TooManyItems = ⊥
 IsWriteFailure (Write error) = Unit {0}
+
+-- the output could not be written, and `output` holds of the error
+abbrev pub IsOfWrite : (output : Error → Type 0) → ImageFailure → Type 0
+IsOfWrite output Memory = ⊥
+IsOfWrite output NoImage = ⊥
+IsOfWrite output (Read error) = ⊥
+IsOfWrite output TooLong = ⊥
+IsOfWrite output (Rejected fault) = ⊥
+IsOfWrite output TrailingBytes = ⊥
+IsOfWrite output TooManyItems = ⊥
+IsOfWrite output (Write error) = output error
 
 -- why a merge of two sketches of this total ends
 abbrev pub EndsAdding : ℕ → ImageFailure → Type 0

@@ -5,6 +5,7 @@ use Rattle.std.specs.Io.KnownBytes.{Appends}
 use Rattle.std.specs.List.{AllZip, flat_map}
 use Rattle.std.specs.String.{string_bytes, string_eq}
 use Rattle.std.specs.declared.string.String.{String}
+use Rattle.std.specs.declared.io.Error.{Error}
 use Rattle.counter_table.specs.Tables.{sum_of}
 use Rattle.sketch_frequencies.specs.History.{FrequentHistory, true_weight, total_weight, min_sample, min_size}
 use Rattle.sketch_frequencies.specs.Image.{IsImageOf, IsSpelledFor, Restores, RestoresBudget, prefix_bytes, total_at, unless_empty}
@@ -105,10 +106,10 @@ IsMergedError options images error = (s : Sketch) × Merges options.images.max_b
 abbrev pub WritesMerge : MergeOptions → List (List ℕ) → (held holds : Option (List ℕ)) → Type 0
 WritesMerge options images held holds = (text : List ℕ) × IsMergeReport options images text × Appends held holds text
 
--- A write has failed. The output received the front of a report on the merged sketch, which was kept before.
-abbrev pub StopsMerge : MergeOptions → List (List ℕ) → (kept : Option Sketch) → (has_failed : Bool) → (held holds : Option (List ℕ)) → Type 0
-StopsMerge options images kept has_failed held holds =
-    (has_failed ≡ true) × ((text : List ℕ) × IsMergeReport options images text × WritesFront held holds text)
+-- A write has failed with this error. The output received the front of a report on the merged sketch, which was kept before.
+abbrev pub StopsMerge : MergeOptions → List (List ℕ) → (kept : Option Sketch) → (write_error : Option Error) → (held holds : Option (List ℕ)) → Error → Type 0
+StopsMerge options images kept write_error held holds error =
+    (write_error ≡ Some error) × ((text : List ℕ) × IsMergeReport options images text × WritesFront held holds text)
     × IfSome kept (λ s. Merges options.images.max_bytes images s × (s.key ≡ options.images.key))
 
 -- The writer received an image of the sketch, as `serialize` writes it. If the sketch has items, the bytes are an image of a sketch
@@ -121,12 +122,12 @@ pub record WritesImage (s : Sketch) (held holds : Option (List ℕ)) : Type 0 wh
 
 -- the sketch that was kept is that of a report: it has the items of what was read of the inputs, and its table hashes under the key of
 -- the run
-abbrev pub KeepsItems : Options → Option (List (List ℕ)) → Bool → Option Sketch → Type 0
-KeepsItems options inputs complete kept = IfSome inputs (λ all. IfSome kept (λ s.
-    (read : List (List ℕ)) × AreRead (splits_of options.weighing) complete all read
+abbrev pub KeepsItems : Options → Option (List (List ℕ)) → (fails : List Bool) → Option Sketch → Type 0
+KeepsItems options inputs fails kept = IfSome inputs (λ all. IfSome kept (λ s.
+    (read : List (List ℕ)) × AreRead (splits_of options.weighing) fails all read
     × HasItems options.size (flat_map (weighed_of options.weighing) read) s × Counts options read s × (s.key ≡ options.key)))
 
--- A write has failed. The output received the front of a report, and the sketch was kept before.
-abbrev pub StopsTop : Options → Option (List (List ℕ)) → (kept : Option Sketch) → (has_failed : Bool) → (held holds : Option (List ℕ)) → Type 0
-StopsTop options inputs kept has_failed held holds =
-    (has_failed ≡ true) × WritesReportFront options inputs held holds × ((complete : Bool) × KeepsItems options inputs complete kept)
+-- A write has failed with this error. The output received the front of a report, and the sketch was kept before.
+abbrev pub StopsTop : Options → Option (List (List ℕ)) → (fails : List Bool) → (kept : Option Sketch) → (write_error : Option Error) → (held holds : Option (List ℕ)) → Error → Type 0
+StopsTop options inputs fails kept write_error held holds error =
+    (write_error ≡ Some error) × WritesReportFront options inputs fails held holds × KeepsItems options inputs fails kept

@@ -1,20 +1,26 @@
 -- What is taken of inputs that are opened one after another.
-use Rattle.std.specs.Prelude.{◌≡◌, ◌⊎◌, ℕ, Bool, true, List, [], ◌∷◌, ◌++◌, Option, Some, IfSome, MatchOption}
-use Rattle.std.specs.List.{AllZip}
-use Rattle.sketches.specs.Reading.{AreFirstRecords, HasLongRecord}
+use Rattle.std.specs.Prelude.{◌≡◌, ◌⊎◌, ℕ, Bool, not, List, [], ◌∷◌, ◌++◌, Option, Some, IfSome, MatchOption}
+use Rattle.std.specs.List.{AllZip, list_any}
+use Rattle.sketches.specs.Reading.{AreFirstRecords, HasLongRecord, IsReadOf}
 use Rattle.sketches.specs.declared.failure.Failure.{Failure}
 use Rattle.sketches.specs.declared.failure.Failure.TheVariants.{Memory, LineTooLong}
 use Rattle.sketch_base.specs.declared.records.Records.{Records}
 
 -- the next input was opened, and is left no more; or none is left
-abbrev pub OpensNext : {R : Type 0} → (R → Option (List ℕ)) → Option (List (List ℕ)) → Option (List (List ℕ)) → Option R → Type 0
-OpensNext remaining was is next = IfSome was (λ inputs. MatchOption next (inputs ≡ []) (λ reader.
-    (bytes : List ℕ) × (later : List (List ℕ)) × (inputs ≡ bytes ∷ later) × (remaining reader ≡ Some bytes) × (is ≡ Some later)))
+abbrev pub OpensNext : {R : Type 0} → (R → Option (List ℕ)) → (R → Bool) → Option (List (List ℕ)) → Option (List (List ℕ)) → List Bool → List Bool → Option R → Type 0
+OpensNext remaining fails_after was is fails fails' next = IfSome was (λ inputs. MatchOption next ((inputs ≡ []) × (fails ≡ [])) (λ reader.
+    (bytes : List ℕ) × (later : List (List ℕ)) × (inputs ≡ bytes ∷ later) × (remaining reader ≡ Some bytes) × (is ≡ Some later)
+    × (fails ≡ fails_after reader ∷ fails')))
 
--- what was read of each input: the first records of each, and all of them if no read failed
-pub record AreRead (records : Records) (complete : Bool) (inputs read : List (List ℕ)) : Type 0 where
-  pub fronts : AllZip (AreFirstRecords records) inputs read
-  pub whole : complete ≡ true → read ≡ inputs
+-- what was read of each input, given whether a read fails after its bytes: all of it, or the records that end before the failure
+abbrev pub AreRead : Records → (fails : List Bool) → (inputs read : List (List ℕ)) → Type 0
+AreRead records [] [] [] = Unit {0}
+AreRead records (fail ∷ fails) (bytes ∷ inputs) (taken ∷ read) = IsReadOf records fail bytes taken × AreRead records fails inputs read
+AreRead records _ _ _ = ⊥
+
+-- whether no read fails
+abbrev pub none_fails : List Bool → Bool
+none_fails fails = not (list_any (λ fail. fail) fails)
 
 -- one of the inputs has a record of at least `limit` bytes
 pub record HaveLongRecord (records : Records) (limit : ℕ) (inputs : List (List ℕ)) : Type 0 where
@@ -32,9 +38,9 @@ module _ {S : Type 0} (takes : S → List ℕ → S → Type 0) where
 
 module _ (records : Records) {S : Type 0} (takes : S → List ℕ → S → Type 0) where
   -- the records of what was read of each input were taken
-  abbrev pub TakesInputs : Option (List (List ℕ)) → Bool → (old new : S) → Type 0
-  TakesInputs was complete old new = IfSome was (λ inputs.
-      (read : List (List ℕ)) × AreRead records complete inputs read × TakesEach takes old read new)
+  abbrev pub TakesInputs : Option (List (List ℕ)) → (fails : List Bool) → (complete : Bool) → (old new : S) → Type 0
+  TakesInputs was fails complete old new = IfSome was (λ inputs. (complete ≡ none_fails fails)
+      × ((read : List (List ℕ)) × AreRead records fails inputs read × TakesEach takes old read new))
 
   -- the first records of the first of these inputs were taken
   pub record TakesFirst (inputs : List (List ℕ)) (old new : S) : Type 0 where

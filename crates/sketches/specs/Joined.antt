@@ -30,9 +30,9 @@ FindsKeys wanted part filter keys = (raw key : List ℕ) → Contains keys key �
 -- The writer received a header, and then those records of what was read of each input whose items the filter of all keys contains, or,
 -- unless `wanted`, the others. One that its input ends without a line feed gets one before the next. The filter is returned.
 -- What the run did is `are`, `written` and `returned`; `finds` is the law above for these keys.
-pub record WritesJoined (form : RecordForm) (wanted : Bool) (part : RecordPart) (header : List ℕ) (filter filter' : FilterState) (keys : List (List ℕ)) (inputs : List (List ℕ)) (complete : Bool) (held holds : Option (List ℕ)) : Type 0 where
+pub record WritesJoined (form : RecordForm) (wanted : Bool) (part : RecordPart) (header : List ℕ) (filter filter' : FilterState) (keys : List (List ℕ)) (inputs : List (List ℕ)) (fails : List Bool) (held holds : Option (List ℕ)) : Type 0 where
   pub read : List (List ℕ)
-  pub are : AreRead (splits_by part) complete inputs read
+  pub are : AreRead (splits_by part) fails inputs read
   pub written : Appends held holds (header ++ text_of form (joined_lines wanted part (with_items filter keys) (flat_map (raws_by part) read)))
   pub finds : FindsKeys wanted part (with_items filter keys) keys
   pub returned : filter' ≡ with_items filter keys

@@ -4,6 +4,7 @@ use Rattle.std.specs.Global.{Global}
 use Rattle.std.specs.Io.KnownBytes.{Appends}
 use Rattle.std.specs.List.{AllZip, IsDistinct, flat_map}
 use Rattle.std.specs.Str.{bytes_eq}
+use Rattle.std.specs.declared.io.Error.{Error}
 use Rattle.std.specs.declared.vec.Vec.{Vec}
 use Rattle.sketch_base.specs.Records.{splits_by}
 use Rattle.sketches.specs.Inputs.{AreRead, HaveLongRecord}
@@ -33,17 +34,16 @@ sums_text options read keys =
 
 -- The writer received the total weight of what was read of the inputs, and the line of each key of the file, in its order. Each record
 -- of the inputs with an item has a weight that counts.
-pub record WritesSums (options : ExactOptions) (inputs : List (List ℕ)) (complete : Bool) (keys : List ℕ) (held holds : Option (List ℕ)) : Type 0 where
+pub record WritesSums (options : ExactOptions) (inputs : List (List ℕ)) (fails : List Bool) (keys : List ℕ) (held holds : Option (List ℕ)) : Type 0 where
   pub read : List (List ℕ)
-  pub are : AreRead (splits_by options.chosen.item) complete inputs read
+  pub are : AreRead (splits_by options.chosen.item) fails inputs read
   pub each : unweighed_in options.chosen read ≡ []
   pub wrote : Appends held holds (sums_text options read keys)
 
 -- The writer received the front of that.
-pub record WritesSomeSums (options : ExactOptions) (inputs : List (List ℕ)) (keys : List ℕ) (held holds : Option (List ℕ)) : Type 0 where
-  pub complete : Bool
+pub record WritesSomeSums (options : ExactOptions) (inputs : List (List ℕ)) (fails : List Bool) (keys : List ℕ) (held holds : Option (List ℕ)) : Type 0 where
   pub read : List (List ℕ)
-  pub are : AreRead (splits_by options.chosen.item) complete inputs read
+  pub are : AreRead (splits_by options.chosen.item) fails inputs read
   pub each : unweighed_in options.chosen read ≡ []
   pub wrote : WritesFront held holds (sums_text options read keys)
 
@@ -62,27 +62,27 @@ FailsKeys options limit keys LineTooLong = IfSome keys (HasLongRecord (splits_by
 FailsKeys options limit keys BadSize = IfSome keys (λ bytes. HaveMoreKeys options.max_keys (parts_in options.keys_part bytes))
 FailsKeys options limit keys _ = ⊥
 
--- a read of the keys fails, or a failure comes while they are taken
-abbrev pub FailsFileKeys : ExactOptions → (limit : ℕ) → Option (List ℕ) → ExactFailure → Type 0
-FailsFileKeys options limit keys (Unread error) = Unit {0}
-FailsFileKeys options limit keys (Keys failure) = FailsKeys options limit keys failure
-FailsFileKeys options limit keys (Weights failure) = ⊥
+-- a read fails after the bytes of the keys, or a failure comes while they are taken
+abbrev pub FailsFileKeys : ExactOptions → (limit : ℕ) → Option (List ℕ) → (fails : Bool) → ExactFailure → Type 0
+FailsFileKeys options limit keys fails (Unread error) = IfSome keys (λ _. fails ≡ true)
+FailsFileKeys options limit keys fails (Keys failure) = FailsKeys options limit keys failure
+FailsFileKeys options limit keys fails (Weights failure) = ⊥
 
--- While the inputs are read and lines are written, memory may be exhausted, or a write has failed. Otherwise a record of an input has
+-- While the inputs are read and lines are written, memory may be exhausted, or a write has failed with this error. Otherwise a record of an input has
 -- more bytes than the limit, the total of the inputs is at least 2^64, or a record of an input with an item has no weight that counts.
-abbrev pub FailsSums : WeighedRecord → (limit : ℕ) → Option (List (List ℕ)) → (has_failed : Bool) → Failure → Type 0
-FailsSums chosen limit was has_failed Memory = Unit {0}
-FailsSums chosen limit was has_failed LineTooLong = IfSome was (HaveLongRecord (splits_by chosen.item) limit)
-FailsSums chosen limit was has_failed TooManyItems = IfSome was (λ inputs. 2 ^ 64 ≤ total_of (weighed_in chosen inputs))
-FailsSums chosen limit was has_failed (BadWeight found) = IfSome was (λ inputs. 0 < length (unweighed_in chosen inputs))
-FailsSums chosen limit was has_failed BadSize = ⊥
-FailsSums chosen limit was has_failed (Write error) = has_failed ≡ true
+abbrev pub FailsSums : WeighedRecord → (limit : ℕ) → Option (List (List ℕ)) → (write_error : Option Error) → Failure → Type 0
+FailsSums chosen limit was write_error Memory = Unit {0}
+FailsSums chosen limit was write_error LineTooLong = IfSome was (HaveLongRecord (splits_by chosen.item) limit)
+FailsSums chosen limit was write_error TooManyItems = IfSome was (λ inputs. 2 ^ 64 ≤ total_of (weighed_in chosen inputs))
+FailsSums chosen limit was write_error (BadWeight found) = IfSome was (λ inputs. 0 < length (unweighed_in chosen inputs))
+FailsSums chosen limit was write_error BadSize = ⊥
+FailsSums chosen limit was write_error (Write error) = write_error ≡ Some error
 
--- a read of the keys may fail; or a failure comes while keys are read, or later
-abbrev pub FailsExact : ExactOptions → (keys : Option (List ℕ)) → Option (List (List ℕ)) → (has_failed : Bool) → ExactFailure → Type 0
-FailsExact options keys was has_failed (Unread error) = Unit {0}
-FailsExact options keys was has_failed (Keys failure) = FailsKeys options (options.max_line + 1) keys failure
-FailsExact options keys was has_failed (Weights failure) = FailsSums options.chosen (options.max_line + 1) was has_failed failure
+-- a read fails after the bytes of the keys; or a failure comes while keys are read, or later
+abbrev pub FailsExact : ExactOptions → (keys : Option (List ℕ)) → (keys_fail : Bool) → Option (List (List ℕ)) → (write_error : Option Error) → ExactFailure → Type 0
+FailsExact options keys keys_fail was write_error (Unread error) = IfSome keys (λ _. keys_fail ≡ true)
+FailsExact options keys keys_fail was write_error (Keys failure) = FailsKeys options (options.max_line + 1) keys failure
+FailsExact options keys keys_fail was write_error (Weights failure) = FailsSums options.chosen (options.max_line + 1) was write_error failure
 
 -- the file of keys could not be read whole, or it has a key too many
 abbrev pub IsOfKeys : ExactFailure → Type 0
@@ -146,9 +146,9 @@ abbrev pub AddsLines : WeighedRecord → (sums : Sums) (total : ℕ) → List (L
 AddsLines chosen sums total all sums' total' = AddsItems sums total (weighed_lines chosen all) sums' total' × (unweighed_lines chosen all ≡ [])
 
 -- What was read of inputs was added, from a total of 0.
-pub record SumsInputs (chosen : WeighedRecord) (sums : Sums) (inputs : List (List ℕ)) (complete : Bool) (sums' : Sums) (total' : ℕ) : Type 0 where
+pub record SumsInputs (chosen : WeighedRecord) (sums : Sums) (inputs : List (List ℕ)) (fails : List Bool) (sums' : Sums) (total' : ℕ) : Type 0 where
   pub read : List (List ℕ)
-  pub are : AreRead (splits_by chosen.item) complete inputs read
+  pub are : AreRead (splits_by chosen.item) fails inputs read
   pub each : unweighed_in chosen read ≡ []
   pub adds : AddsItems sums 0 (weighed_in chosen read) sums' total'
 

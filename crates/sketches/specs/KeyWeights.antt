@@ -14,7 +14,7 @@ use Rattle.sketch_countmin.specs.State.{CountState, IsMinCell, empty_state}
 use Rattle.sketches.specs.Inputs.{AreRead}
 use Rattle.sketches.specs.Json.{json_lossy}
 use Rattle.sketches.specs.Outputs.{WritesFront}
-use Rattle.sketches.specs.Reading.{AreFirstRecords}
+use Rattle.sketches.specs.Reading.{AreFirstRecords, IsReadOf}
 use Rattle.sketch_base.specs.Decimals.{number_in}
 use Rattle.sketch_base.specs.Records.{part_in, records_by, splits_by}
 use Rattle.sketches.specs.TextEscapes.{text_escaped}
@@ -156,13 +156,12 @@ pub record IsWeightOf (hashes buckets seed : ℕ) (items : Weighed) (row : Row) 
   pub reached : (r : ℕ) × (r < hashes) × (row.0 ≡ bucket_weight buckets seed items row.1 r)
 
 -- The writer received the total weight of what was read of the inputs, and a line for each key of what was read of the file of keys,
--- in its order. Each record of the inputs with an item has a weight. No read of the file failed if `failure` is none.
-pub record WritesWeights {E : Type 0} (options : WeighOptions) (inputs : List (List ℕ)) (complete : Bool) (keys : List ℕ) (failure : Option E) (held holds : Option (List ℕ)) : Type 0 where
+-- in its order. Each record of the inputs with an item has a weight.
+pub record WritesWeights (options : WeighOptions) (inputs : List (List ℕ)) (fails : List Bool) (keys : List ℕ) (keys_fail : Bool) (held holds : Option (List ℕ)) : Type 0 where
   pub read : List (List ℕ)
-  pub are : AreRead (splits_by options.chosen.item) complete inputs read
+  pub are : AreRead (splits_by options.chosen.item) fails inputs read
   pub read_keys : List ℕ
-  pub front : AreFirstRecords (splits_by options.keys_part) keys read_keys
-  pub whole : failure ≡ None → read_keys ≡ keys
+  pub are_keys : IsReadOf (splits_by options.keys_part) keys_fail keys read_keys
   pub hashes : ℕ
   pub buckets : ℕ
   pub table : IsTableFor options.parts options.questions hashes buckets
@@ -175,10 +174,9 @@ pub record WritesWeights {E : Type 0} (options : WeighOptions) (inputs : List (L
       (total_line options.style options.header (total_of (weighed_in options.chosen read)) ++ flat_map (row_line options.style) rows)
 
 -- The writer received the front of that. The front has lines of the first keys of the file.
-pub record WritesSomeWeights (options : WeighOptions) (inputs : List (List ℕ)) (keys : List ℕ) (held holds : Option (List ℕ)) : Type 0 where
-  pub complete : Bool
+pub record WritesSomeWeights (options : WeighOptions) (inputs : List (List ℕ)) (fails : List Bool) (keys : List ℕ) (held holds : Option (List ℕ)) : Type 0 where
   pub read : List (List ℕ)
-  pub are : AreRead (splits_by options.chosen.item) complete inputs read
+  pub are : AreRead (splits_by options.chosen.item) fails inputs read
   pub each : unweighed_in options.chosen read ≡ []
   pub hashes : ℕ
   pub buckets : ℕ

@@ -1,6 +1,6 @@
 -- What is taken of the bytes of an input, record by record.
-use Rattle.std.specs.Prelude.{◌≡◌, ℕ, ◌+◌, ◌-◌, ◌<◌, ◌≤◌, ◌⊎◌, false, List, ◌++◌, length, take, drop, slice_index, All, Option, IfSome, MatchOption, Result, MatchResult}
-use Rattle.std.specs.Io.KnownBytes.{Consumes, IsAtEnd, Keeps}
+use Rattle.std.specs.Prelude.{◌≡◌, ℕ, ◌+◌, ◌-◌, ◌<◌, ◌≤◌, ◌⊎◌, Bool, true, false, List, [], ◌++◌, length, take, drop, slice_index, All, Option, is_some, IfSome, MatchOption, Result, MatchResult}
+use Rattle.std.specs.Io.KnownBytes.{Consumes, Keeps}
 use Rattle.sketch_base.specs.Csv.{EndsRecord, IsBehindLastEnd, IsInOneRecord, place_after}
 use Rattle.sketch_base.specs.Split.{IsBehindLast, separates}
 use Rattle.sketch_base.specs.declared.place.Place.{Place}
@@ -23,6 +23,10 @@ AreWholeRecords (Csv delimiter) bytes = 0 < length bytes → EndsRecord delimite
 -- these bytes are the first records of an input: all of it, or whole records
 abbrev pub AreFirstRecords : Records → List ℕ → List ℕ → Type 0
 AreFirstRecords records bytes read = (rest : List ℕ) × (bytes ≡ read ++ rest) × (0 < length rest → AreWholeRecords records read)
+
+-- all known bytes were read. After them a read fails, or the input ends
+abbrev pub StopsAfter : Option (List ℕ) → (fails is : Bool) → Type 0
+StopsAfter known fails is = IfSome known (λ left. (left ≡ []) × (fails ≡ is))
 
 -- none of these bytes is a line feed
 abbrev pub IsInOneLine : List ℕ → Type 0
@@ -50,20 +54,25 @@ HasLongRecord records limit bytes =
     × IsInOne records Start line
 
 -- a read put bytes after the first `held` ones of the buffer, was interrupted, or failed. If it put none, the input is at its end
-abbrev pub Fills : {E : Type 0} → Option (List ℕ) → Option (List ℕ) → ℕ → List ℕ → List ℕ → Result (Option ℕ) E → Type 0
-Fills was is held old new result =
+abbrev pub Fills : {E : Type 0} → Option (List ℕ) → Option (List ℕ) → (fails : Bool) → ℕ → List ℕ → List ℕ → Result (Option ℕ) E → Type 0
+Fills was is fails held old new result =
     (length new ≡ length old) × (take held new ≡ take held old)
     × MatchResult result (λ found. MatchOption found (Keeps was is) (λ count. (held + count ≤ length new)
-    × Consumes was is (take count (drop held new)) × (count ≡ 0 → IsAtEnd is)))
-    (λ _. Keeps was is)
+    × Consumes was is (take count (drop held new)) × (count ≡ 0 → StopsAfter is fails false)))
+    (λ _. Keeps was is × StopsAfter is fails true)
+
+-- what is taken of an input: all of it, or, if a read fails after these bytes, the records that end among them
+abbrev pub IsReadOf : Records → (fails : Bool) → (bytes read : List ℕ) → Type 0
+IsReadOf records false bytes read = read ≡ bytes
+IsReadOf records true bytes read =
+    (cut : List ℕ) × (bytes ≡ read ++ cut) × AreWholeRecords records read × IsInOne records Start cut
 
 -- `takes old bytes new`: the bytes of records were taken between two states
 module _ (records : Records) {S : Type 0} (takes : S → List ℕ → S → Type 0) where
-  -- the records of an input were taken. If a read failed, they are the records that were read whole before
-  abbrev pub TakesInput : {E : Type 0} → Option (List ℕ) → Option E → (old new : S) → Type 0
-  TakesInput input failure old new =
-      IfSome input (λ bytes. MatchOption failure (takes old bytes new)
-      (λ _. (read : List ℕ) × AreFirstRecords records bytes read × takes old read new))
+  -- the records of an input were taken. There is an error if a read fails after its bytes, and only then
+  abbrev pub TakesInput : {E : Type 0} → Option (List ℕ) → (fails : Bool) → Option E → (old new : S) → Type 0
+  TakesInput input fails failure old new =
+      IfSome input (λ bytes. (is_some failure ≡ fails) × ((read : List ℕ) × IsReadOf records fails bytes read × takes old read new))
 
   -- whole records of these bytes were taken, and the bytes after them, which are in one record, are at the front of the buffer
   pub record TakesRecords (old new : S) (bytes buffer : List ℕ) (kept : ℕ) (place : Place) : Type 0 where

@@ -129,9 +129,9 @@ Counts options read s =
 
 -- The text is a report on the items of what was read of the inputs, whose records all have weights. Its error is that of the sketch
 -- that counts them. If exact numbers are wanted, it is 0. The summary has the number of these records whose items are not UTF-8.
-abbrev pub IsReport : Options → List (List ℕ) → Summary → List ℕ → Type 0
-IsReport options inputs summary text =
-    (read : List (List ℕ)) × (s : Sketch) × (rows : List Row) × AreRead (splits_of options.weighing) summary.complete inputs read
+abbrev pub IsReport : Options → List (List ℕ) → (fails : List Bool) → Summary → List ℕ → Type 0
+IsReport options inputs fails summary text =
+    (read : List (List ℕ)) × (s : Sketch) × (rows : List Row) × AreRead (splits_of options.weighing) fails inputs read
     × (summary.not_utf8 ≡ min (not_utf8_in options.weighing (flat_map (records_of options.weighing) read)) (2 ^ 64 - 1))
     × (flat_map (unweighed_of options.weighing) read ≡ []) × Counts options read s
     × (text ≡ report_text options.layout s.error (total_of (flat_map (weighed_of options.weighing) read)) rows)
@@ -139,16 +139,16 @@ IsReport options inputs summary text =
     × (options.layout.exact ≡ true → s.error ≡ 0)
 
 -- exact numbers are not to be had: the error is that of the sketch that counts what was read
-abbrev pub IsErrorOf : Options → Option (List (List ℕ)) → (complete : Bool) → (error : ℕ) → Type 0
-IsErrorOf options inputs complete error = IfSome inputs (λ all.
-    (read : List (List ℕ)) × (s : Sketch) × AreRead (splits_of options.weighing) complete all read × Counts options read s × (error ≡ s.error))
+abbrev pub IsErrorOf : Options → Option (List (List ℕ)) → (fails : List Bool) → (error : ℕ) → Type 0
+IsErrorOf options inputs fails error = IfSome inputs (λ all.
+    (read : List (List ℕ)) × (s : Sketch) × AreRead (splits_of options.weighing) fails all read × Counts options read s × (error ≡ s.error))
 
 -- the output received a report on these inputs
-abbrev pub WritesReport : Options → Option (List (List ℕ)) → Summary → Option (List ℕ) → Option (List ℕ) → Type 0
-WritesReport options inputs summary held holds = IfSome inputs (λ all.
-    (text : List ℕ) × IsReport options all summary text × Appends held holds text)
+abbrev pub WritesReport : Options → Option (List (List ℕ)) → (fails : List Bool) → Summary → Option (List ℕ) → Option (List ℕ) → Type 0
+WritesReport options inputs fails summary held holds = IfSome inputs (λ all.
+    (text : List ℕ) × IsReport options all fails summary text × Appends held holds text)
 
 -- it received the front of one
-abbrev pub WritesReportFront : Options → Option (List (List ℕ)) → Option (List ℕ) → Option (List ℕ) → Type 0
-WritesReportFront options inputs held holds = IfSome inputs (λ all.
-    (summary : Summary) × (text : List ℕ) × IsReport options all summary text × WritesFront held holds text)
+abbrev pub WritesReportFront : Options → Option (List (List ℕ)) → (fails : List Bool) → Option (List ℕ) → Option (List ℕ) → Type 0
+WritesReportFront options inputs fails held holds = IfSome inputs (λ all.
+    (summary : Summary) × (text : List ℕ) × IsReport options all fails summary text × WritesFront held holds text)

@@ -3,6 +3,7 @@ use Rattle.std.specs.Prelude.{◌≡◌, ◌≢◌, ◌⊎◌, ℕ, ℤ, pos, ne
 use Rattle.std.specs.FinSet as set
 use Rattle.std.specs.Fmt.{decimal}
 use Rattle.std.specs.Io.KnownBytes.{Appends}
+use Rattle.std.specs.declared.io.Error.{Error}
 use Rattle.sketch_base.specs.Fields.{byte_at}
 use Rattle.sketch_bloom.specs.Image as filters
 use Rattle.sketch_bloom.specs.State.{FilterState}
@@ -10,7 +11,7 @@ use Rattle.sketch_base.specs.declared.fault.Fault.TheVariants.{NegativeTotal}
 use Rattle.sketch_countmin.specs.Image as counts
 use Rattle.sketch_countmin.specs.State.{CountState}
 use Rattle.sketches.specs.Added.{Sketch}
-use Rattle.sketches.specs.ImageFailures.{IsBadImage, IsUnread, IsWriteFailure}
+use Rattle.sketches.specs.ImageFailures.{IsBadImage, IsOfWrite, IsUnread}
 use Rattle.sketches.specs.Images.{Loads}
 use Rattle.sketches.specs.Outputs.{WritesFront}
 use Rattle.sketches.specs.declared.images.ImageFailure.{ImageFailure}
@@ -105,13 +106,13 @@ ShowsImage limit seed image held holds =
     (text : List ℕ) × StatesAs (is_of_filter image) (is_of_counts image) limit seed image text × Appends held holds text
 
 -- a write has failed, and the writer received the front of the lines of the image
-abbrev pub StopsShow : (limit seed : ℕ) → List ℕ → (has_failed : Bool) → (held holds : Option (List ℕ)) → Type 0
-StopsShow limit seed image has_failed held holds =
-    (has_failed ≡ true)
+abbrev pub StopsShow : (limit seed : ℕ) → List ℕ → (write_error : Option Error) → (held holds : Option (List ℕ)) → Error → Type 0
+StopsShow limit seed image write_error held holds error =
+    (write_error ≡ Some error)
     × ((text : List ℕ) × StatesAs (is_of_filter image) (is_of_counts image) limit seed image text × WritesFront held holds text)
 
--- why the image is not shown, or not whole. `output` holds if the output cannot be written
-abbrev pub IsNotShown : (limit seed : ℕ) → List ℕ → (output : Type 0) → ImageFailure → Type 0
+-- why the image is not shown, or not whole. `output` holds of the error of the output
+abbrev pub IsNotShown : (limit seed : ℕ) → List ℕ → (output : Error → Type 0) → ImageFailure → Type 0
 IsNotShown limit seed image output failure =
     IsUnread limit image failure
-    ⊎ (IsBadAs (is_of_filter image) (is_of_counts image) limit seed image failure ⊎ (IsWriteFailure failure × output))
+    ⊎ (IsBadAs (is_of_filter image) (is_of_counts image) limit seed image failure ⊎ IsOfWrite output failure)

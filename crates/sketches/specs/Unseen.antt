@@ -70,9 +70,9 @@ AreFirst part filter raws =
 -- The writer received a header, and then the records of what was read of each input whose items were not seen before, or, with
 -- `repeated`, the others. One that its input ends without a line feed gets one before the next. The filter has taken the items of all
 -- records that were read. What the run did is `are`, `written` and `kept`; `first` is the law above for these records.
-pub record WritesUnseen (form : RecordForm) (repeated : Bool) (part : RecordPart) (header : List ℕ) (filter filter' : FilterState) (inputs : List (List ℕ)) (complete : Bool) (held holds : Option (List ℕ)) : Type 0 where
+pub record WritesUnseen (form : RecordForm) (repeated : Bool) (part : RecordPart) (header : List ℕ) (filter filter' : FilterState) (inputs : List (List ℕ)) (fails : List Bool) (held holds : Option (List ℕ)) : Type 0 where
   pub read : List (List ℕ)
-  pub are : AreRead (splits_by part) complete inputs read
+  pub are : AreRead (splits_by part) fails inputs read
   pub written : Appends held holds (header ++ text_of form (unseen_lines repeated part filter (flat_map (raws_by part) read)))
   pub first : AreFirst part filter (flat_map (raws_by part) read)
   pub kept : filter' ≡ with_lines part filter (flat_map (raws_by part) read)

@@ -1,5 +1,6 @@
 -- When each error of a run that prints the weights of keys comes.
-use Rattle.std.specs.Prelude.{◌≡◌, ◌⊎◌, ℕ, ◌+◌, ◌*◌, ◌^◌, ◌<◌, ◌≤◌, Bool, true, List, length, Option, IfSome}
+use Rattle.std.specs.Prelude.{◌≡◌, ◌⊎◌, ℕ, ◌+◌, ◌*◌, ◌^◌, ◌<◌, ◌≤◌, List, length, Option, Some, IfSome}
+use Rattle.std.specs.declared.io.Error.{Error}
 use Rattle.sketch_countmin.specs.Sizes.{IsETimesWithin}
 use Rattle.sketches.specs.Inputs.{HaveLongRecord}
 use Rattle.sketches.specs.Reading.{HasLongRecord}
@@ -31,18 +32,18 @@ FailsTable parts questions BadSize =
     ⊎ ((hashes buckets : ℕ) × IsTableFor parts questions hashes buckets × (2 ^ 30 ≤ hashes * buckets))))
 FailsTable parts questions _ = ⊥
 
--- A run that prints the weights of keys ends. Memory may be exhausted at any time, or a write has failed. Otherwise a record of an
+-- A run that prints the weights of keys ends. Memory may be exhausted at any time, or a write has failed with this error. Otherwise a record of an
 -- input or of the file of keys has more bytes than the limit, the total of the inputs is at least 2^64, a record of an input with an
 -- item has no weight, or a table of this size is not allowed.
-abbrev pub FailsWeigh : WeighOptions → Option (List (List ℕ)) → Option (List ℕ) → (has_failed : Bool) → Failure → Type 0
-FailsWeigh options was keys has_failed Memory = Unit {0}
-FailsWeigh options was keys has_failed LineTooLong =
+abbrev pub FailsWeigh : WeighOptions → Option (List (List ℕ)) → Option (List ℕ) → (write_error : Option Error) → Failure → Type 0
+FailsWeigh options was keys write_error Memory = Unit {0}
+FailsWeigh options was keys write_error LineTooLong =
     IfSome was (HaveLongRecord (splits_by options.chosen.item) (options.max_line + 1))
     ⊎ IfSome keys (HasLongRecord (splits_by options.keys_part) (options.max_line + 1))
-FailsWeigh options was keys has_failed TooManyItems = IfSome was (λ inputs. 2 ^ 64 ≤ total_of (weighed_in options.chosen inputs))
-FailsWeigh options was keys has_failed (BadWeight found) = IfSome was (λ inputs. 0 < length (unweighed_in options.chosen inputs))
-FailsWeigh options was keys has_failed BadSize = FailsTable options.parts options.questions BadSize
-FailsWeigh options was keys has_failed (Write error) = has_failed ≡ true
+FailsWeigh options was keys write_error TooManyItems = IfSome was (λ inputs. 2 ^ 64 ≤ total_of (weighed_in options.chosen inputs))
+FailsWeigh options was keys write_error (BadWeight found) = IfSome was (λ inputs. 0 < length (unweighed_in options.chosen inputs))
+FailsWeigh options was keys write_error BadSize = FailsTable options.parts options.questions BadSize
+FailsWeigh options was keys write_error (Write error) = write_error ≡ Some error
 
 -- the failure may come after lines were written
 abbrev pub ComesLate : Failure → Type 0

@@ -1,10 +1,14 @@
 //! The exact weights of keys in inputs.
-ghost use Rattle.std.specs.Prelude.{◌≡◌, ◌⊎◌, Bool, IfErr, IfOk, IfSome, OnErr, OnOk};
+ghost use Rattle.std.specs.Prelude.{◌≡◌, ◌⊎◌, ◌+◌, false, Option, IfErr, IfOk, IfSome, OnErr, OnOk};
 ghost use Rattle.std.specs.Io.KnownBytes.{Appends};
+ghost use Rattle.std.specs.declared.io.Error.{Error};
+ghost use Rattle.sketch_base.specs.Records.{splits_by};
 ghost use Rattle.sketches.specs.Failures.{FailsWriting};
+ghost use Rattle.sketches.specs.Inputs.{HaveLongRecord, none_fails};
 ghost use Rattle.sketches.specs.KeySums.{ComesWhileWriting, FailsExact, FailsFileKeys, FailsSums, HoldsKeys, IsOfKeys, SumsInputs, WritesSomeSums, WritesSums, rows_text};
 ghost use Rattle.sketches.specs.KeyWeights.{parts_in};
 ghost use Rattle.sketches.specs.Outputs.{WritesFront};
+ghost use Rattle.sketches.specs.Reading.{HasLongRecord};
 
 use crate::failure::Failure;
 use crate::file_keys::{FileKeys, KeyMap};
@@ -12,6 +16,7 @@ use crate::inputs::{Inputs, read_inputs};
 use crate::item_weigher::WeighedRecord;
 use crate::key_sums::KeySums;
 use crate::layout::Style;
+use crate::line_source::LineSource;
 use crate::output::Output;
 use crate::reading::{BLOCK, read_lines};
 use crate::sum_rows::write_rows;
@@ -20,7 +25,6 @@ use sketch_base::records::RecordPart;
 use std::alloc::Global;
 use std::hash::RandomState;
 use std::io;
-use std::io::Read;
 
 /// What is weighed and printed.
 #[derive(Clone, Copy)]
@@ -72,7 +76,7 @@ pub enum ExactFailure {
 /// is written. Returns `Weights` with `TooManyItems` if the total exceeds 2^64 - 1, with `BadWeight` if a record with an item has no weight
 /// and this is an error, and with `LineTooLong` if a record exceeds the limit. The output is not written then. Returns `Weights` with
 /// `Memory` if an allocation fails, and with `Write` if a write fails. Then the output has the front of what would be written.
-pub fn weigh_exactly<I: Inputs, R: Read, W: Output>(
+pub fn weigh_exactly<I: Inputs, R: LineSource, W: Output>(
     alloc: Global,
     options: ExactOptions,
     state: RandomState,
@@ -80,14 +84,18 @@ pub fn weigh_exactly<I: Inputs, R: Read, W: Output>(
     inputs: &mut I,
     writer: &mut W,
 ) -> Result<ExactSummary, ExactFailure>
-    ensures written { IfOk result (λ done. IfSome (R.remaining keys.old) (λ bytes. IfSome (I.inputs inputs.old)
-        (λ all. WritesSums options all done.complete bytes (W.contents writer.old) (W.contents writer.new)))) }
+    ensures written { OnOk result (IfSome (R.remaining keys.old) (λ bytes. IfSome (I.inputs inputs.old)
+        (λ all. WritesSums options all (I.fails inputs.old) bytes (W.contents writer.old) (W.contents writer.new)))) }
+    ensures complete { IfOk result (λ done. IfSome (I.inputs inputs.old) (λ _. done.complete ≡ none_fails (I.fails inputs.old))) }
+    ensures complete_keys { OnOk result (IfSome (R.remaining keys.old) (λ _. R.fails keys.old ≡ false)) }
 
     // When each error comes, and what it leaves unchanged.
-    ensures failed { IfErr result (FailsExact options (R.remaining keys.old) (I.inputs inputs.old) (W.has_failed writer.new)) }
+    ensures failed { IfErr result (FailsExact options (R.remaining keys.old) (R.fails keys.old) (I.inputs inputs.old) (W.failure writer.new)) }
+    ensures too_long { OnOk result (IfSome (I.inputs inputs.old) (λ all. HaveLongRecord (splits_by options.chosen.item) (options.max_line + 1) all → ⊥)) }
+    ensures too_long_keys { OnOk result (IfSome (R.remaining keys.old) (λ bytes. HasLongRecord (splits_by options.keys_part) (options.max_line + 1) bytes → ⊥)) }
     ensures unread { IfErr result (λ failure. IsOfKeys failure → (inputs.new ≡ inputs.old) × (writer.new ≡ writer.old)) }
     ensures unwritten { IfErr result (λ failure. (writer.new ≡ writer.old) ⊎ (ComesWhileWriting failure × IfSome (R.remaining keys.old)
-        (λ bytes. IfSome (I.inputs inputs.old) (λ all. WritesSomeSums options all bytes (W.contents writer.old) (W.contents writer.new))))) }
+        (λ bytes. IfSome (I.inputs inputs.old) (λ all. WritesSomeSums options all (I.fails inputs.old) bytes (W.contents writer.old) (W.contents writer.new))))) }
 {
     let limit = options.max_line as usize + 1;
     let mut buffer = match vec![in alloc; 0; limit.min(BLOCK)] {
@@ -121,7 +129,7 @@ pub fn weigh_exactly<I: Inputs, R: Read, W: Output>(
 ///
 /// Returns `Unread` if a read fails. Returns `Keys` with `BadSize` if the file has more than `max_keys` distinct keys, with `LineTooLong`
 /// if a record has at least `limit` bytes, and with `Memory` if an allocation fails.
-fn keys_of<R: Read>(
+fn keys_of<R: LineSource>(
     alloc: Global,
     options: ExactOptions,
     state: RandomState,
@@ -130,7 +138,9 @@ fn keys_of<R: Read>(
     limit: usize,
 ) -> Result<FileKeys, ExactFailure>
     ensures taken { IfOk result (λ file. IfSome (R.remaining keys.old) (λ bytes. HoldsKeys file.sums.entries file.order.items (parts_in options.keys_part bytes))) }
-    ensures failed { IfErr result (FailsFileKeys options limit (R.remaining keys.old)) }
+    ensures complete { OnOk result (IfSome (R.remaining keys.old) (λ _. R.fails keys.old ≡ false)) }
+    ensures too_long { OnOk result (IfSome (R.remaining keys.old) (λ bytes. HasLongRecord (splits_by options.keys_part) limit bytes → ⊥)) }
+    ensures failed { IfErr result (FailsFileKeys options limit (R.remaining keys.old) (R.fails keys.old)) }
 {
     let mut file = FileKeys {
         part: options.keys_part,
@@ -159,8 +169,10 @@ fn sums_of<I: Inputs>(
     buffer: &mut Vec<u8>,
     limit: usize,
 ) -> Result<(KeySums, bool), Failure>
-    ensures summed { IfOk result (λ done. IfSome (I.inputs inputs.old) (λ all. SumsInputs chosen sums.entries all done.1 done.0.sums.entries done.0.total)) }
-    ensures failed { (has_failed : Bool) → IfErr result (FailsSums chosen limit (I.inputs inputs.old) has_failed) }
+    ensures summed { IfOk result (λ done. IfSome (I.inputs inputs.old) (λ all. SumsInputs chosen sums.entries all (I.fails inputs.old) done.0.sums.entries done.0.total)) }
+    ensures complete { IfOk result (λ done. IfSome (I.inputs inputs.old) (λ _. done.1 ≡ none_fails (I.fails inputs.old))) }
+    ensures too_long { OnOk result (IfSome (I.inputs inputs.old) (λ all. HaveLongRecord (splits_by chosen.item) limit all → ⊥)) }
+    ensures failed { (write_error : Option Error) → IfErr result (FailsSums chosen limit (I.inputs inputs.old) write_error) }
 {
     let mut adder = KeySums {
         sums,
@@ -188,7 +200,7 @@ fn write_sums<W: Output>(
 ) -> Result<(), Failure>
     ensures written { OnOk result (Appends (W.contents writer.old) (W.contents writer.new) (rows_text options total sums.now.entries order.now)) }
     ensures front { OnErr result (WritesFront (W.contents writer.old) (W.contents writer.new) (rows_text options total sums.now.entries order.now)) }
-    ensures failed { IfErr result (FailsWriting (W.has_failed writer.new)) }
+    ensures failed { IfErr result (FailsWriting (W.failure writer.new)) }
 {
     write_total(alloc, options.style, options.header, total, writer)?;
     write_rows(alloc, options.style, sums, order, writer)?;

@@ -5,6 +5,7 @@ use crate::csv_header::{AfterHeader, Headed};
 use crate::csv_options::{Column, CsvOptions};
 use crate::file_sizes::size_of_file;
 use crate::inputs::Inputs;
+use crate::line_source::LineSource;
 use crate::progress::Progress;
 use crate::weighing::CsvPart;
 use crate::words::{is_marked, shown};
@@ -26,6 +27,12 @@ impl Read for Input {
             Input::File(file) => file.read(buf),
             Input::Stdin(stdin) => stdin.read(buf),
         }
+    }
+}
+
+impl LineSource for Input {
+    fn read_some(&mut self, buf: &mut [u8]) -> io::Result<usize> {
+        self.read(buf)
     }
 }
 
@@ -53,6 +60,12 @@ impl<'r> Read for Opened<'r> {
             progress.add(count as u64);
         }
         Ok(count)
+    }
+}
+
+impl<'r> LineSource for Opened<'r> {
+    fn read_some(&mut self, buf: &mut [u8]) -> io::Result<usize> {
+        self.read(buf)
     }
 }
 

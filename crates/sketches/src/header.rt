@@ -15,7 +15,7 @@ use crate::output::Output;
 pub fn write_header<W: Output>(header: &[u8], writer: &mut W) -> Result<(), Failure>
     ensures written { OnOk result (Appends (W.contents writer.old) (W.contents writer.new) header.now) }
     ensures front { OnErr result (WritesFront (W.contents writer.old) (W.contents writer.new) header.now) }
-    ensures failed { IfErr result (FailsWriting (W.has_failed writer.new)) }
+    ensures failed { IfErr result (FailsWriting (W.failure writer.new)) }
 {
     match writer.write_all(header) {
         Ok(()) => Ok(()),

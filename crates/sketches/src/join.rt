@@ -1,9 +1,12 @@
 //! The records of inputs whose items are in a file of keys.
-ghost use Rattle.std.specs.Prelude.{◌≡◌, ◌⊎◌, IfErr, IfOk, IfSome, IsErrOf};
+ghost use Rattle.std.specs.Prelude.{◌≡◌, ◌⊎◌, ◌+◌, false, IfErr, IfOk, IfSome, IsErrOf, OnOk};
+ghost use Rattle.sketch_base.specs.Records.{splits_by};
 ghost use Rattle.sketch_bloom.specs.State.{FilterState};
 ghost use Rattle.sketches.specs.FilterSizes.{HasNoSize, IsFilterOf};
+ghost use Rattle.sketches.specs.Inputs.{HaveLongRecord, none_fails};
 ghost use Rattle.sketches.specs.JoinFailures.{FailsInsertion, FailsJoin, IsOfKeys};
 ghost use Rattle.sketches.specs.Joined.{WritesJoined, WritesSomeJoined, keys_of};
+ghost use Rattle.sketches.specs.Reading.{HasLongRecord};
 ghost use Rattle.sketches.specs.Unseen.{with_items};
 
 use crate::ended_text::{EndedText, RecordForm};
@@ -13,13 +16,13 @@ use crate::header::write_header;
 use crate::inputs::{Inputs, read_inputs};
 use crate::joined::JoinedLines;
 use crate::key_lines::KeyLines;
+use crate::line_source::LineSource;
 use crate::output::Output;
 use crate::reading::{BLOCK, read_lines};
 use sketch_base::records::RecordPart;
 use sketch_bloom::BloomFilter;
 use std::alloc::Global;
 use std::io;
-use std::io::Read;
 
 /// Which records are written, and the filter of the keys.
 #[derive(Clone, Copy)]
@@ -75,7 +78,7 @@ pub enum JoinFailure {
 /// `LineTooLong` if a record of the keys exceeds the limit, and with `Memory` if an allocation fails. Then no input is read and nothing
 /// is written, and after `BadSize` no key is read. Returns `Lines` with `LineTooLong` if a record exceeds the limit, with `Memory` if
 /// an allocation fails, and with `Write` if a write fails. Then the output has the front of what would be written.
-pub fn join<K: Read, I: Inputs, W: Output>(
+pub fn join<K: LineSource, I: Inputs, W: Output>(
     alloc: Global,
     options: JoinOptions,
     keys: &mut K,
@@ -85,13 +88,17 @@ pub fn join<K: Read, I: Inputs, W: Output>(
 ) -> Result<JoinSummary, JoinFailure>
     ensures written { IfOk result (λ summary. (filter : FilterState) × IsFilterOf options.size options.seed filter
         × IfSome (K.remaining keys.old) (λ bytes. IfSome (I.inputs inputs.old) (λ all. WritesJoined options.form options.wanted options.part header.now filter summary.filter
-        (keys_of options.keys_part bytes) all summary.complete (W.contents writer.old) (W.contents writer.new)))) }
+        (keys_of options.keys_part bytes) all (I.fails inputs.old) (W.contents writer.old) (W.contents writer.new)))) }
+    ensures complete { IfOk result (λ summary. IfSome (I.inputs inputs.old) (λ _. summary.complete ≡ none_fails (I.fails inputs.old))) }
+    ensures complete_keys { OnOk result (IfSome (K.remaining keys.old) (λ _. K.fails keys.old ≡ false)) }
 
     // When each error comes, and what it leaves unchanged.
-    ensures failed { IfErr result (FailsJoin options (K.remaining keys.old) (I.inputs inputs.old) (W.has_failed writer.new)) }
+    ensures failed { IfErr result (FailsJoin options (K.remaining keys.old) (K.fails keys.old) (I.inputs inputs.old) (W.failure writer.new)) }
     ensures front { IfErr result (λ failure. (writer.new ≡ writer.old) ⊎ ((filter : FilterState) × IsFilterOf options.size options.seed filter
         × IfSome (K.remaining keys.old) (λ bytes. IfSome (I.inputs inputs.old) (λ all. WritesSomeJoined options.form options.wanted options.part header.now
         filter (keys_of options.keys_part bytes) all (W.contents writer.old) (W.contents writer.new))))) }
+    ensures too_long { OnOk result (IfSome (I.inputs inputs.old) (λ all. HaveLongRecord (splits_by options.part) (options.max_line + 1) all → ⊥)) }
+    ensures too_long_keys { OnOk result (IfSome (K.remaining keys.old) (λ bytes. HasLongRecord (splits_by options.keys_part) (options.max_line + 1) bytes → ⊥)) }
     ensures bad_size { HasNoSize options.size → IsErrOf result (JoinFailure.Keys Failure.BadSize) }
     ensures unread_keys { IsErrOf result (JoinFailure.Keys Failure.BadSize) → keys.new ≡ keys.old }
     ensures unread { IfErr result (λ failure. IsOfKeys failure → (inputs.new ≡ inputs.old) × (writer.new ≡ writer.old)) }
@@ -136,7 +143,7 @@ pub fn join<K: Read, I: Inputs, W: Output>(
 ///
 /// Returns `Unread` if a read of the keys fails. Returns `Keys` with `LineTooLong` if a record has at least `limit` bytes, and with
 /// `Memory` if an allocation fails.
-fn insert_keys<K: Read>(
+fn insert_keys<K: LineSource>(
     alloc: Global,
     filter: BloomFilter,
     part: RecordPart,
@@ -145,7 +152,9 @@ fn insert_keys<K: Read>(
     limit: usize,
 ) -> Result<BloomFilter, JoinFailure>
     ensures inserted { IfOk result (λ inserted. IfSome (K.remaining keys.old) (λ bytes. inserted ≡ with_items filter (keys_of part bytes))) }
-    ensures failed { IfErr result (FailsInsertion part limit (K.remaining keys.old)) }
+    ensures complete { OnOk result (IfSome (K.remaining keys.old) (λ _. K.fails keys.old ≡ false)) }
+    ensures too_long { OnOk result (IfSome (K.remaining keys.old) (λ bytes. HasLongRecord (splits_by part) limit bytes → ⊥)) }
+    ensures failed { IfErr result (FailsInsertion part limit (K.remaining keys.old) (K.fails keys.old)) }
 {
     let mut lines = KeyLines { filter, part };
     match read_lines(alloc, &mut lines, &mut (), keys, buffer, limit) {

@@ -43,7 +43,7 @@ impl<W: Output> LineSink<W> for JoinedLines {
     ghost takes = { λ old bytes new. Prints (W.contents old.1) (W.contents new.1) old.0.written.form new.0.written.form (joined_lines old.0.wanted old.0.part old.0.filter (raws_by old.0.part bytes))
         × (new.0.filter ≡ old.0.filter) × (new.0.part ≡ old.0.part) × (new.0.wanted ≡ old.0.wanted) };
 
-    ghost fails = { λ old bytes new failure. FailsWriting (W.has_failed new.1) failure
+    ghost fails = { λ old bytes new failure. FailsWriting (W.failure new.1) failure
         × WritesFront (W.contents old.1) (W.contents new.1) (text_of old.0.written.form (joined_lines old.0.wanted old.0.part old.0.filter (raws_by old.0.part bytes))) };
 
     ghost takes_same = { λ r s xs taken. ap splits_by taken.2 };

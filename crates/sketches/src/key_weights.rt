@@ -40,7 +40,7 @@ impl<W: Output> LineSink<W> for KeyWeights {
     ghost takes = { λ old bytes new. WritesEstimates old.0.style old.0.sketch (parts_in old.0.part bytes) (W.contents old.1) (W.contents new.1)
         × (new.0.sketch ≡ old.0.sketch) × (new.0.part ≡ old.0.part) × (new.0.style ≡ old.0.style) };
 
-    ghost fails = { λ old bytes new failure. FailsWriting (W.has_failed new.1) failure
+    ghost fails = { λ old bytes new failure. FailsWriting (W.failure new.1) failure
         × WritesSomeEstimates old.0.style old.0.sketch (parts_in old.0.part bytes) (W.contents old.1) (W.contents new.1) };
 
     ghost takes_same = { λ r s xs taken. ap splits_by taken.2 };

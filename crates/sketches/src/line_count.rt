@@ -1,16 +1,18 @@
 //! Counts the records of an input.
-ghost use Rattle.std.specs.Prelude.{◌≡◌, ◌+◌, ◌≤◌, ◌^◌, IfErr, IfOk, IfSome, length};
+ghost use Rattle.std.specs.Prelude.{◌≡◌, ◌+◌, ◌≤◌, ◌^◌, false, IfErr, IfOk, IfSome, OnOk, length};
+ghost use Rattle.sketch_base.specs.Records.{splits_by};
 ghost use Rattle.sketches.specs.JoinFailures.{FailsCount};
+ghost use Rattle.sketches.specs.Reading.{HasLongRecord};
 ghost use Rattle.sketches.specs.RecordParts.{raws_by};
 
 use crate::failure::Failure;
 use crate::join::JoinFailure;
 use crate::line_sink::LineSink;
+use crate::line_source::LineSource;
 use crate::reading::{BLOCK, read_lines};
 use crate::records::next_record_with_end;
 use sketch_base::records::{RecordPart, Records};
 use std::alloc::Global;
-use std::io::Read;
 
 /// The number of records that were taken.
 #[derive(Drop)]
@@ -65,14 +67,16 @@ impl LineSink<()> for LineCount {
 ///
 /// Returns `Unread` if a read fails. Returns `Keys` with `LineTooLong` if a record has more than `max_line` bytes, with `Memory` if
 /// an allocation fails, and with `TooManyItems` if there are 2^64 records or more.
-pub fn count_lines<R: Read>(
+pub fn count_lines<R: LineSource>(
     alloc: Global,
     part: RecordPart,
     reader: &mut R,
     max_line: u32,
 ) -> Result<u64, JoinFailure>
     ensures counted { IfOk result (λ lines. IfSome (R.remaining reader.old) (λ bytes. lines ≡ length (raws_by part bytes))) }
-    ensures failed { IfErr result (FailsCount part (max_line + 1) (R.remaining reader.old)) }
+    ensures complete { OnOk result (IfSome (R.remaining reader.old) (λ _. R.fails reader.old ≡ false)) }
+    ensures too_long { OnOk result (IfSome (R.remaining reader.old) (λ bytes. HasLongRecord (splits_by part) (max_line + 1) bytes → ⊥)) }
+    ensures failed { IfErr result (FailsCount part (max_line + 1) (R.remaining reader.old) (R.fails reader.old)) }
 {
     let limit = max_line as usize + 1;
     let mut buffer = match vec![in alloc; 0; limit.min(BLOCK)] {

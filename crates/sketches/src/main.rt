@@ -54,6 +54,7 @@ mod layout;
 mod line_count;
 mod line_items;
 mod line_sink;
+mod line_source;
 mod merge;
 mod options;
 mod output;

@@ -56,7 +56,7 @@ pub fn merge<I: Images, K: Keeper, W: Output>(
         (λ all. IfSome (K.kept keeper.new) (Merges options.images.max_bytes all))) }
     ensures keyed { OnOk result (IfSome (K.kept keeper.new) (λ kept. kept.key ≡ options.images.key)) }
     ensures err { IfErr result (λ failure. IfSome (I.images images.old) (λ all. EndsMerge options.images.max_bytes all
-        (StopsMerge options all (K.kept keeper.new) (W.has_failed writer.new) (W.contents writer.old) (W.contents writer.new)) failure)) }
+        (StopsMerge options all (K.kept keeper.new) (W.failure writer.new) (W.contents writer.old) (W.contents writer.new)) failure)) }
     ensures unwritten { IfErr result (λ failure. IsWriteFailure failure ⊎ (writer.new ≡ writer.old)) }
 {
     let sketch = merge_images(alloc, &options.images, images)?;
@@ -94,7 +94,7 @@ fn merge_images<I: Images>(
 ) -> Result<FrequentItemsSketch<String>, ImageFailure>
     ensures key { IfOk result (λ sketch. sketch.key ≡ options.now.key) }
     ensures merged { IfOk result (λ sketch. IfSome (I.images images.old) (λ all. Merges options.now.max_bytes all sketch)) }
-    ensures err { IfErr result (λ failure. IfSome (I.images images.old) (λ all. EndsMerge options.now.max_bytes all ⊥ failure)) }
+    ensures err { IfErr result (λ failure. IfSome (I.images images.old) (λ all. EndsMerge options.now.max_bytes all (λ _. ⊥) failure)) }
 {
     let Some(first) = images.next() else {
         return Err(ImageFailure::NoImage);

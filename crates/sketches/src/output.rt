@@ -1,7 +1,8 @@
-//! Outputs, of which it is known whether a write failed.
-ghost use Rattle.std.specs.Prelude.{◌≡◌, ◌<◌, ℕ, Bool, true, false, List, Option, None, OnErr, OnOk, length};
+//! Outputs, of which it is known with which error a write failed.
+ghost use Rattle.std.specs.Prelude.{◌≡◌, ◌<◌, ℕ, List, Option, None, Some, IfErr, OnErr, OnOk, length};
 ghost use Rattle.std.specs.Io.{WritesAtMost};
 ghost use Rattle.std.specs.Io.KnownBytes.{Appends, WriteAppends};
+ghost use Rattle.std.specs.declared.io.Error.{Error};
 ghost use Rattle.sketches.specs.Outputs.{WritesFront};
 
 use std::io;
@@ -12,36 +13,36 @@ pub trait Output {
     // The bytes that were written, where they are known.
     ghost contents: { Self → Option (List ℕ) } = { λ _. None };
 
-    // Whether a write has failed.
-    ghost has_failed: { Self → Bool };
+    // The error of the last write that failed, if any.
+    ghost failure: { Self → Option Error };
 
     /// Writes all bytes.
     ///
     /// # Errors
     ///
-    /// Returns an error if a write fails. Bytes before may have been written.
+    /// Returns the error of a write that fails. Bytes before may have been written.
     fn write_all(&mut self, bytes: &[u8]) -> io::Result<()>
         ensures written { OnOk result (Appends (contents self.old) (contents self.new) bytes.now) }
-        ensures kept { OnOk result (has_failed self.new ≡ has_failed self.old) }
+        ensures kept { OnOk result (failure self.new ≡ failure self.old) }
         ensures front { OnErr result (WritesFront (contents self.old) (contents self.new) bytes.now) }
-        ensures failed { OnErr result (has_failed self.new ≡ true) };
+        ensures failed { IfErr result (λ error. failure self.new ≡ Some error) };
 }
 
-/// A writer, and whether one of its writes failed.
+/// A writer, and the error of the last of its writes that failed.
 #[derive(Drop)]
 pub struct Watched<W> {
     inner: W,
-    failed: bool,
+    failure: Option<io::Error>,
 }
 
 impl<W: Write> Watched<W> {
     /// Watches a writer from now on.
     pub fn new(inner: W) -> Self
-        ensures { result ≡ record { inner = inner; failed = false } }
+        ensures { result ≡ record { inner = inner; failure = None } }
     {
         Watched {
             inner,
-            failed: false,
+            failure: None,
         }
     }
 
@@ -53,23 +54,24 @@ impl<W: Write> Watched<W> {
     fn write_some(&mut self, bytes: &[u8]) -> io::Result<usize>
         ensures bound { WritesAtMost result bytes.now }
         ensures bytes { WriteAppends (W.contents self.old.inner) (W.contents self.new.inner) result bytes.now }
-        ensures kept { OnOk result (self.new.failed ≡ self.old.failed) }
-        ensures failed { OnErr result (self.new.failed ≡ true) }
+        ensures kept { OnOk result (self.new.failure ≡ self.old.failure) }
+        ensures failed { IfErr result (λ error. self.new.failure ≡ Some error) }
     {
         match self.inner.write(bytes) {
             Ok(count) if count > 0 => Ok(count),
-            Ok(_) => Err(self.failure(io::Error::from(ErrorKind::WriteZero))),
+            Ok(_) => Err(self.noted(io::Error::from(ErrorKind::WriteZero))),
             Err(error) if error.kind() == ErrorKind::Interrupted => Ok(0),
-            Err(error) => Err(self.failure(error)),
+            Err(error) => Err(self.noted(error)),
         }
     }
 
-    /// Returns the error of a write, after it is noted that one failed.
-    fn failure(&mut self, error: io::Error) -> io::Error
+    /// Returns the error of a write, after it is noted.
+    fn noted(&mut self, error: io::Error) -> io::Error
         ensures kept { self.new.inner ≡ self.old.inner }
-        ensures failed { self.new.failed ≡ true }
+        ensures noted { self.new.failure ≡ Some error }
+        ensures same { result ≡ error }
     {
-        self.failed = true;
+        self.failure = Some(error);
         error
     }
 }
@@ -77,7 +79,7 @@ impl<W: Write> Watched<W> {
 impl<W: Write> Output for Watched<W> {
     ghost contents = { λ w. W.contents w.inner };
 
-    ghost has_failed = { λ w. w.failed };
+    ghost failure = { λ w. w.failure };
 
     fn write_all(&mut self, bytes: &[u8]) -> io::Result<()> {
         let mut rest = bytes;
@@ -91,6 +93,6 @@ impl<W: Write> Output for Watched<W> {
             };
             rest = &rest[count..];
         }
-        Err(self.failure(io::Error::from(ErrorKind::Interrupted)))
+        Err(self.noted(io::Error::from(ErrorKind::Interrupted)))
     }
 }

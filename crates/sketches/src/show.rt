@@ -35,7 +35,7 @@ pub fn show<R: Read + Drop, W: Output>(
     ensures shown { (image : List ℕ) → IsOpened R.remaining image opened
         → OnOk result (ShowsImage options.now.max_bytes seed image (W.contents writer.old) (W.contents writer.new)) }
     ensures err { (image : List ℕ) → IsOpened R.remaining image opened → IfErr result (IsNotShown options.now.max_bytes seed image
-        (StopsShow options.now.max_bytes seed image (W.has_failed writer.new) (W.contents writer.old) (W.contents writer.new))) }
+        (StopsShow options.now.max_bytes seed image (W.failure writer.new) (W.contents writer.old) (W.contents writer.new))) }
     ensures unwritten { IfErr result (λ failure. IsWriteFailure failure ⊎ (writer.new ≡ writer.old)) }
 {
     let image = match read_opened(alloc, options.max_bytes, opened) {

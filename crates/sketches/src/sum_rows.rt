@@ -29,7 +29,7 @@ pub fn write_rows<W: Output>(
 ) -> Result<(), Failure>
     ensures written { OnOk result (Appends (W.contents writer.old) (W.contents writer.new) (flat_map (row_line style) (rows_at sums.now.entries order.now))) }
     ensures front { OnErr result (WritesFront (W.contents writer.old) (W.contents writer.new) (flat_map (row_line style) (rows_at sums.now.entries order.now))) }
-    ensures failed { IfErr result (FailsWriting (W.has_failed writer.new)) }
+    ensures failed { IfErr result (FailsWriting (W.failure writer.new)) }
 {
     let mut written = Vec::new(alloc);
     let mut number = String::new(alloc);
@@ -67,7 +67,7 @@ fn append_row(
 fn send<W: Output>(least: usize, written: &mut Vec<u8>, writer: &mut W) -> Result<(), Failure>
     ensures sent { OnOk result (Sends least (W.contents writer.old) written.old.items (W.contents writer.new) written.new.items) }
     ensures front { OnErr result (WritesFront (W.contents writer.old) (W.contents writer.new) written.old.items) }
-    ensures failed { IfErr result (FailsWriting (W.has_failed writer.new)) }
+    ensures failed { IfErr result (FailsWriting (W.failure writer.new)) }
 {
     if written.len() < least {
         return Ok(());

@@ -1,9 +1,11 @@
 //! The most frequent items of inputs.
-ghost use Rattle.std.specs.Prelude.{◌≡◌, ◌⊎◌, ◌<◌, true, IfErr, IfNone, IfOk, IfSome, IsErrOf, IsSome};
+ghost use Rattle.std.specs.Prelude.{◌≡◌, ◌⊎◌, ◌+◌, ◌<◌, true, IfErr, IfNone, IfOk, IfSome, IsErrOf, IsSome, OnOk};
 ghost use Rattle.sketch_frequencies.specs.Sizes.{size_fault};
 ghost use Rattle.sketches.specs.Failures.{FailsTop, IsOfOutput};
 ghost use Rattle.sketches.specs.Images.{KeepsItems, StopsTop};
+ghost use Rattle.sketches.specs.Inputs.{HaveLongRecord, none_fails};
 ghost use Rattle.sketches.specs.Reports.{IsErrorOf, WritesReport};
+ghost use Rattle.sketches.specs.Weighed.{splits_of};
 
 use crate::counting::ItemCounter;
 use crate::failure::Failure;
@@ -67,16 +69,18 @@ pub fn top<I: Inputs, K: Keeper, W: Output>(
     keeper: &mut K,
     writer: &mut W,
 ) -> Result<Summary, Failure>
-    ensures written { IfOk result (λ summary. IfNone summary.inexact (WritesReport options (I.inputs inputs.old) summary
+    ensures written { IfOk result (λ summary. IfNone summary.inexact (WritesReport options (I.inputs inputs.old) (I.fails inputs.old) summary
         (W.contents writer.old) (W.contents writer.new))) }
     ensures inexact { IfOk result (λ summary. IfSome summary.inexact
         (λ error. (options.layout.exact ≡ true) × (0 < error) × (writer.new ≡ writer.old))) }
-    ensures inexact_error { IfOk result (λ summary. IfSome summary.inexact (IsErrorOf options (I.inputs inputs.old) summary.complete)) }
-    ensures kept { IfOk result (λ summary. KeepsItems options (I.inputs inputs.old) summary.complete (K.kept keeper.new)) }
+    ensures inexact_error { IfOk result (λ summary. IfSome summary.inexact (IsErrorOf options (I.inputs inputs.old) (I.fails inputs.old))) }
+    ensures kept { OnOk result (KeepsItems options (I.inputs inputs.old) (I.fails inputs.old) (K.kept keeper.new)) }
+    ensures complete { IfOk result (λ summary. IfSome (I.inputs inputs.old) (λ _. summary.complete ≡ none_fails (I.fails inputs.old))) }
 
     // When each error comes, and what it leaves unchanged.
-    ensures failed { IfErr result (FailsTop options (I.inputs inputs.old) (StopsTop options (I.inputs inputs.old) (K.kept keeper.new)
-        (W.has_failed writer.new) (W.contents writer.old) (W.contents writer.new))) }
+    ensures failed { IfErr result (FailsTop options (I.inputs inputs.old) (StopsTop options (I.inputs inputs.old) (I.fails inputs.old) (K.kept keeper.new)
+        (W.failure writer.new) (W.contents writer.old) (W.contents writer.new))) }
+    ensures too_long { OnOk result (IfSome (I.inputs inputs.old) (λ all. HaveLongRecord (splits_of options.weighing) (options.max_line + 1) all → ⊥)) }
     ensures bad_size { IsSome (size_fault options.size) → IsErrOf result Failure.BadSize }
     ensures unread { IsErrOf result Failure.BadSize → inputs.new ≡ inputs.old }
     ensures unwritten { IfErr result (λ failure. IsOfOutput failure ⊎ (writer.new ≡ writer.old)) }

@@ -1,8 +1,10 @@
 //! The records of inputs whose items were not seen before.
-ghost use Rattle.std.specs.Prelude.{◌≡◌, ◌⊎◌, ◌+◌, IfErr, IfOk, IfSome, IsErrOf};
+ghost use Rattle.std.specs.Prelude.{◌≡◌, ◌⊎◌, ◌+◌, IfErr, IfOk, IfSome, IsErrOf, OnOk};
+ghost use Rattle.sketch_base.specs.Records.{splits_by};
 ghost use Rattle.sketch_bloom.specs.State.{FilterState};
 ghost use Rattle.sketches.specs.Failures.{FailsWrittenLines, FailsUniq};
 ghost use Rattle.sketches.specs.FilterSizes.{HasNoSize, IsFilterOf};
+ghost use Rattle.sketches.specs.Inputs.{HaveLongRecord, none_fails};
 ghost use Rattle.sketches.specs.Unseen.{WritesSomeUnseen, WritesUnseen};
 
 use crate::ended_text::{EndedText, RecordForm};
@@ -63,13 +65,15 @@ pub fn uniq<I: Inputs, W: Output>(
 ) -> Result<Summary, Failure>
     ensures written { IfOk result (λ summary. (filter : FilterState) × IsFilterOf size seed filter
         × IfSome (I.inputs inputs.old) (λ all. WritesUnseen options.form options.repeated options.part header.now filter summary.filter all
-        summary.complete (W.contents writer.old) (W.contents writer.new))) }
+        (I.fails inputs.old) (W.contents writer.old) (W.contents writer.new))) }
+    ensures complete { IfOk result (λ summary. IfSome (I.inputs inputs.old) (λ _. summary.complete ≡ none_fails (I.fails inputs.old))) }
 
     // When each error comes, and what it leaves unchanged.
-    ensures failed { IfErr result (FailsUniq options size (I.inputs inputs.old) (W.has_failed writer.new)) }
+    ensures failed { IfErr result (FailsUniq options size (I.inputs inputs.old) (W.failure writer.new)) }
     ensures front { IfErr result (λ failure. (writer.new ≡ writer.old) ⊎ ((filter : FilterState) × IsFilterOf size seed filter
         × IfSome (I.inputs inputs.old) (λ all. WritesSomeUnseen options.form options.repeated options.part header.now filter all
         (W.contents writer.old) (W.contents writer.new)))) }
+    ensures too_long { OnOk result (IfSome (I.inputs inputs.old) (λ all. HaveLongRecord (splits_by options.part) (options.max_line + 1) all → ⊥)) }
     ensures bad_size { HasNoSize size → IsErrOf result Failure.BadSize }
     ensures unread { IsErrOf result Failure.BadSize → (inputs.new ≡ inputs.old) × (writer.new ≡ writer.old) }
 {
@@ -94,9 +98,11 @@ pub fn uniq_after<I: Inputs, W: Output>(
     writer: &mut W,
 ) -> Result<Summary, Failure>
     ensures written { IfOk result (λ summary. IfSome (I.inputs inputs.old) (λ all. WritesUnseen options.form options.repeated options.part header.now filter
-        summary.filter all summary.complete (W.contents writer.old) (W.contents writer.new))) }
-    ensures failed { IfErr result (FailsWrittenLines options.part (options.max_line + 1) (I.inputs inputs.old) (W.has_failed writer.new)) }
-    ensures front { IfErr result (λ failure. IfSome (I.inputs inputs.old) (λ all. WritesSomeUnseen options.form options.repeated options.part header.now filter
+        summary.filter all (I.fails inputs.old) (W.contents writer.old) (W.contents writer.new))) }
+    ensures complete { IfOk result (λ summary. IfSome (I.inputs inputs.old) (λ _. summary.complete ≡ none_fails (I.fails inputs.old))) }
+    ensures too_long { OnOk result (IfSome (I.inputs inputs.old) (λ all. HaveLongRecord (splits_by options.part) (options.max_line + 1) all → ⊥)) }
+    ensures failed { IfErr result (FailsWrittenLines options.part (options.max_line + 1) (I.inputs inputs.old) (W.failure writer.new)) }
+    ensures front { IfErr result (λ failure. IfSome (I.inputs inputs.old) (λ all. WritesSomeUnseen options.repeated options.part header.now filter
         all (W.contents writer.old) (W.contents writer.new))) }
 {
     let mut lines = UnseenLines {

@@ -1,13 +1,16 @@
 //! The weights of keys in inputs.
-ghost use Rattle.std.specs.Prelude.{◌≡◌, ◌⊎◌, ◌≤◌, IfErr, IfOk, IfSome, IsErrOf, OnErr, OnOk};
+ghost use Rattle.std.specs.Prelude.{◌≡◌, ◌⊎◌, ◌+◌, ◌≤◌, is_some, IfErr, IfOk, IfSome, IsErrOf, OnErr, OnOk};
 ghost use Rattle.std.specs.Io.KnownBytes.{Appends};
 ghost use Rattle.sketch_base.specs.Hashes.{seed_hash};
+ghost use Rattle.sketch_base.specs.Records.{splits_by};
 ghost use Rattle.sketch_countmin.specs.State.{empty_state};
 ghost use Rattle.sketch_countmin.specs.History.CountHistory.{New};
 ghost use Rattle.sketch_countmin.specs.Stands.{StandsFor};
 ghost use Rattle.sketches.specs.Failures.{FailsWriting};
 ghost use Rattle.sketches.specs.WeighFailures.{ComesLate, FailsTable, FailsWeigh};
+ghost use Rattle.sketches.specs.Inputs.{HaveLongRecord, none_fails};
 ghost use Rattle.sketches.specs.Outputs.{WritesFront};
+ghost use Rattle.sketches.specs.Reading.{HasLongRecord};
 ghost use Rattle.sketches.specs.KeyWeights.{IsEmptyTable, WritesSomeWeights, WritesWeights, total_line, usable_seed};
 
 use crate::failure::Failure;
@@ -15,6 +18,7 @@ use crate::inputs::{Inputs, read_inputs};
 use crate::item_weigher::{ItemWeigher, WeighedRecord};
 use crate::key_weights::KeyWeights;
 use crate::layout::Style;
+use crate::line_source::LineSource;
 use crate::output::Output;
 use crate::reading::{BLOCK, read_lines};
 use crate::weight_lines::write_total_line;
@@ -23,7 +27,6 @@ use sketch_base::{DEFAULT_UPDATE_SEED, ErrorKind, compute_seed_hash};
 use sketch_countmin::{CountMinSketch, suggest_num_buckets, suggest_num_hashes};
 use std::alloc::{AllocError, Global};
 use std::io;
-use std::io::Read;
 
 /// What is weighed and printed, and the size of the sketch.
 #[derive(Clone, Copy)]
@@ -68,22 +71,26 @@ pub struct Weighed {
 /// exceeds 2^64 - 1, and `BadWeight` if a record with an item has no weight and this is an error. The output is not written then. Returns
 /// `LineTooLong` if a record exceeds the limit, `Memory` if an allocation fails, and `Write` if a write fails. Then the output has the
 /// front of what would be written.
-pub fn weigh<I: Inputs, R: Read, W: Output>(
+pub fn weigh<I: Inputs, R: LineSource, W: Output>(
     alloc: Global,
     options: WeighOptions,
     inputs: &mut I,
     keys: &mut R,
     writer: &mut W,
 ) -> Result<Weighed, Failure>
-    ensures written { IfOk result (λ done. IfSome (I.inputs inputs.old) (λ all. IfSome (R.remaining keys.old)
-        (λ bytes. WritesWeights options all done.complete bytes done.failure (W.contents writer.old) (W.contents writer.new)))) }
+    ensures written { OnOk result (IfSome (I.inputs inputs.old) (λ all. IfSome (R.remaining keys.old)
+        (λ bytes. WritesWeights options all (I.fails inputs.old) bytes (R.fails keys.old) (W.contents writer.old) (W.contents writer.new)))) }
+    ensures complete { IfOk result (λ done. IfSome (I.inputs inputs.old) (λ _. done.complete ≡ none_fails (I.fails inputs.old))) }
+    ensures complete_keys { IfOk result (λ done. IfSome (R.remaining keys.old) (λ _. is_some done.failure ≡ R.fails keys.old)) }
 
     // When each error comes, and what it leaves unchanged.
-    ensures failed { IfErr result (FailsWeigh options (I.inputs inputs.old) (R.remaining keys.old) (W.has_failed writer.new)) }
+    ensures failed { IfErr result (FailsWeigh options (I.inputs inputs.old) (R.remaining keys.old) (W.failure writer.new)) }
+    ensures too_long { OnOk result (IfSome (I.inputs inputs.old) (λ all. HaveLongRecord (splits_by options.chosen.item) (options.max_line + 1) all → ⊥)) }
+    ensures too_long_keys { OnOk result (IfSome (R.remaining keys.old) (λ bytes. HasLongRecord (splits_by options.keys_part) (options.max_line + 1) bytes → ⊥)) }
     ensures bad_size { (options.parts ≡ 0) ⊎ (options.questions ≤ 1) → IsErrOf result Failure.BadSize }
     ensures unread { IsErrOf result Failure.BadSize → (inputs.new ≡ inputs.old) × (keys.new ≡ keys.old) }
     ensures unwritten { IfErr result (λ failure. (writer.new ≡ writer.old) ⊎ (ComesLate failure × IfSome (I.inputs inputs.old)
-        (λ all. IfSome (R.remaining keys.old) (λ bytes. WritesSomeWeights options all bytes (W.contents writer.old) (W.contents writer.new))))) }
+        (λ all. IfSome (R.remaining keys.old) (λ bytes. WritesSomeWeights options all (I.fails inputs.old) bytes (W.contents writer.old) (W.contents writer.new))))) }
 {
     let sketch = table_for(alloc, options.parts, options.questions, options.seed)?;
     let mut weigher = ItemWeigher {
@@ -164,7 +171,7 @@ pub fn write_total<W: Output>(
 ) -> Result<(), Failure>
     ensures written { OnOk result (Appends (W.contents writer.old) (W.contents writer.new) (total_line style wanted total)) }
     ensures front { OnErr result (WritesFront (W.contents writer.old) (W.contents writer.new) (total_line style wanted total)) }
-    ensures failed { IfErr result (FailsWriting (W.has_failed writer.new)) }
+    ensures failed { IfErr result (FailsWriting (W.failure writer.new)) }
 {
     if !wanted {
         return Ok(());

@@ -4,5 +4,5 @@ use Rattle.sketches.proofs.inputs.read_inputs.Given as goal
 
 abbrev pub invariant-each : goal.invariant-each
 invariant-each g l =
-    HasTakenSome (g.S.LineSink.splits l.fn.sink) g.S.LineSink.takes l.complete (g.I.Inputs.inputs l.fn.inputs) (g.I.Inputs.inputs l.inputs) (l.fn.sink, l.fn.output) (l.sink, l.output)
+    HasTakenSome (g.S.LineSink.splits l.fn.sink) l.limit g.S.LineSink.takes l.complete (g.I.Inputs.inputs l.fn.inputs) (g.I.Inputs.inputs l.inputs) (g.I.Inputs.fails l.fn.inputs) (g.I.Inputs.fails l.inputs) (l.fn.sink, l.fn.output) (l.sink, l.output)
     × (g.S.LineSink.splits l.sink ≡ g.S.LineSink.splits l.fn.sink)

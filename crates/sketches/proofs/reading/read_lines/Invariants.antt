@@ -10,4 +10,6 @@ invariant-reads g l =
     × IsInOne l.records Start (take l.held l.buffer.items)
     × (l.place ≡ place_of l.records Start (take l.held l.buffer.items))
     × (g.S.LineSink.splits l.sink ≡ l.records)
-    × HasTaken l.records g.S.LineSink.takes (g.R.Read.remaining l.fn.reader) (g.R.Read.remaining l.reader) (l.fn.sink, l.fn.output) (l.sink, l.output) (take l.held l.buffer.items)
+    × HasTaken l.records l.limit g.S.LineSink.takes (g.R.LineSource.remaining l.fn.reader) (g.R.LineSource.remaining l.reader) (l.fn.sink, l.fn.output) (l.sink, l.output) (take l.held l.buffer.items)
+    × (length l.buffer.items ≤ l.limit)
+    × (g.R.LineSource.fails l.reader ≡ g.R.LineSource.fails l.fn.reader)

@@ -7,7 +7,7 @@ use Rattle.sketches.proofs.uniq.uniq_after.Goals as goal
 pub returns-clause-written : goal.returns-clause-written
 returns-clause-written g c =
     let o = c.args.options in
-    written g.W.Output.contents c.args.header.now (g.W.Output.contents c.args.writer.now) (g.I.Inputs.inputs c.args.inputs.now) c.in_ok-complete.complete (record { filter = c.args.filter; part = o.part; repeated = o.repeated; left_out = 0; written = record { alloc = c.args.alloc; bytes = c.new.result; form = o.form } }, c.write_header.new.writer) (c.read_inputs.new.sink, c.read_inputs.new.output) c.in_ok-write_header.ensures.written c.in_ok-complete.ensures.taken
+    written g.W.Output.contents c.args.header.now (g.W.Output.contents c.args.writer.now) (g.I.Inputs.inputs c.args.inputs.now) (g.I.Inputs.fails c.args.inputs.now) c.in_ok-complete.complete (record { filter = c.args.filter; part = o.part; repeated = o.repeated; left_out = 0; written = record { alloc = c.args.alloc; bytes = c.new.result; form = o.form } }, c.write_header.new.writer) (c.read_inputs.new.sink, c.read_inputs.new.output) c.in_ok-write_header.ensures.written c.in_ok-complete.ensures.taken
 
 pub returns-in_err-buffer-clause-front : goal.returns-in_err-buffer-clause-front
 returns-in_err-buffer-clause-front g c =
@@ -24,7 +24,9 @@ returns-in_err-write_header g c =
     let was = g.I.Inputs.inputs c.args.inputs.now in
     rw (e.1, e.2) (record {
       written = tt;
-      failed = writing_failed o.part (o.max_line + 1) was (g.W.Output.has_failed c.write_header.new.writer) _ f.failed;
+      complete = tt;
+      too_long = tt;
+      failed = writing_failed o.part (o.max_line + 1) was (g.W.Output.failure c.write_header.new.writer) _ f.failed;
       front = header_written o.form o.repeated o.part c.args.header.now c.args.filter was (g.W.Output.contents c.args.writer.now) (g.W.Output.contents c.write_header.new.writer) f.front;
     })
 
@@ -36,6 +38,8 @@ returns-in_err-complete g c =
     let f = c.in_err-complete.ensures.failed in
     rw (e.1, e.2) (record {
       written = tt;
-      failed = unseen_failed g.W.Output.contents g.W.Output.has_failed (o.max_line + 1) was (record { filter = c.args.filter; part = o.part; repeated = o.repeated; left_out = 0; written = record { alloc = c.args.alloc; bytes = c.new.result; form = o.form } }, c.write_header.new.writer) (c.read_inputs.new.sink, c.read_inputs.new.output) _ f;
-      front = some_written g.W.Output.contents g.W.Output.has_failed (o.max_line + 1) c.args.header.now (g.W.Output.contents c.args.writer.now) was (record { filter = c.args.filter; part = o.part; repeated = o.repeated; left_out = 0; written = record { alloc = c.args.alloc; bytes = c.new.result; form = o.form } }, c.write_header.new.writer) (c.read_inputs.new.sink, c.read_inputs.new.output) _ c.in_ok-write_header.ensures.written f;
+      complete = tt;
+      too_long = tt;
+      failed = unseen_failed g.W.Output.contents g.W.Output.failure (o.max_line + 1) was (record { filter = c.args.filter; part = o.part; repeated = o.repeated; left_out = 0; written = record { alloc = c.args.alloc; bytes = c.new.result; form = o.form } }, c.write_header.new.writer) (c.read_inputs.new.sink, c.read_inputs.new.output) _ f;
+      front = some_written g.W.Output.contents g.W.Output.failure (o.max_line + 1) c.args.header.now (g.W.Output.contents c.args.writer.now) was (record { filter = c.args.filter; part = o.part; repeated = o.repeated; left_out = 0; written = record { alloc = c.args.alloc; bytes = c.new.result; form = o.form } }, c.write_header.new.writer) (c.read_inputs.new.sink, c.read_inputs.new.output) _ c.in_ok-write_header.ensures.written f;
     })
