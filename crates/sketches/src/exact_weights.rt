@@ -2,7 +2,7 @@
 ghost use Rattle.std.specs.Prelude.{◌≡◌, ◌⊎◌, Bool, IfErr, IfOk, IfSome, OnErr, OnOk};
 ghost use Rattle.std.specs.Io.KnownBytes.{Appends};
 ghost use Rattle.sketches.specs.Failures.{FailsWriting};
-ghost use Rattle.sketches.specs.KeySums.{ComesWhileWriting, FailsExact, FailsFileKeys, FailsSums, HoldsKeys, IsOfKeys, SumsInputs, WritesSomeSums, WritesSums, rows_text};
+ghost use Rattle.sketches.specs.KeySums.{ComesWhileWriting, FailsExact, FailsFileKeys, FailsSums, HaveFewKeys, HoldsKeys, IsOfKeys, SumsInputs, WritesSomeSums, WritesSums, rows_text};
 ghost use Rattle.sketches.specs.KeyWeights.{parts_in};
 ghost use Rattle.sketches.specs.Outputs.{WritesFront};
 
@@ -82,6 +82,8 @@ pub fn weigh_exactly<I: Inputs, R: Read, W: Output>(
     ensures written { IfOk result (λ done. IfSome (R.remaining keys.old) (λ bytes. IfSome (I.inputs inputs.old)
         (λ all. WritesSums options all done.complete bytes (W.contents writer.old) (W.contents writer.new)))) }
 
+    ensures few { IfOk result (λ done. IfSome (R.remaining keys.old) (λ bytes. HaveFewKeys options.max_keys (parts_in options.keys_part bytes))) }
+
     // When each error comes, and what it leaves unchanged.
     ensures failed { IfErr result (FailsExact options (R.remaining keys.old) (I.inputs inputs.old) (W.has_failed writer.new)) }
     ensures unread { IfErr result (λ failure. IsOfKeys failure → (inputs.new ≡ inputs.old) × (writer.new ≡ writer.old)) }
@@ -129,6 +131,7 @@ fn keys_of<R: Read>(
     limit: usize,
 ) -> Result<FileKeys, ExactFailure>
     ensures taken { IfOk result (λ file. IfSome (R.remaining keys.old) (λ bytes. HoldsKeys file.sums.entries file.order.items (parts_in options.keys_part bytes))) }
+    ensures few { IfOk result (λ file. IfSome (R.remaining keys.old) (λ bytes. HaveFewKeys options.max_keys (parts_in options.keys_part bytes))) }
     ensures failed { IfErr result (FailsFileKeys options limit (R.remaining keys.old)) }
 {
     let mut file = FileKeys {
