@@ -1,19 +1,25 @@
 -- The sums of keys that are read of inputs and written, and why a run ended without.
-use Rattle.std.proofs.Common.{◌≡◌, ⊎_elim, ℕ, zero, suc, ◌+◌, ◌^◌, ◌<◌, ◌≤◌, Bool, false, List, [], ◌∷◌, ◌++◌, length, slice_get, Option, None, Some, IfSome, is_some, append_assoc, append-nil, length-append, refl, sym, ◌∙◌, ap, subst, arith}
+use Rattle.std.proofs.Common.{◌≡◌, ⊎_elim, ℕ, zero, suc, ◌+◌, ◌^◌, ◌<◌, ◌≤◌, Bool, false, List, [], ◌∷◌, ◌++◌, length, slice_get, Option, None, Some, IfSome, Contains, is_some, append_assoc, append-nil, length-append, refl, sym, ◌∙◌, ap, subst, arith}
 use Rattle.std.proofs.lemmas.Bool.{false≢true}
 use Rattle.std.proofs.lemmas.List.Concat.{flat_map-append}
+use Rattle.std.proofs.lemmas.List.Elements.{Contains-append_cases, Contains-push_cases}
+use Rattle.std.proofs.lemmas.Map.Made.{length-le_from_is_member}
+use Rattle.std.proofs.lemmas.Map.Views.{Contains-from_any, list_any-from_Contains}
+use Rattle.std.proofs.lemmas.Option.{get_or_from_slice_get, slice_get_within}
+use Rattle.std.specs.Cmp.Lexicographic.{nat_list_eq_equiv}
 use Rattle.std.specs.Io.KnownBytes.{Appends}
 use Rattle.std.specs.List.{AllZip, flat_map}
 use Rattle.std.specs.Option.{unwrap_or}
 use Rattle.std.specs.declared.io.Error.{Error}
 use Rattle.sketch_base.specs.Records.{records_by, splits_by}
 use Rattle.sketch_base.specs.declared.record_part.RecordPart.{RecordPart}
+use Rattle.sketches.proofs.TakenKeys.{length_names, same_bytes}
 use Rattle.sketches.proofs.KeyWeights.{few_of_each, unweighed_among, weighed_among}
 use Rattle.sketches.specs.Appending.{appends_both, appends_none, front_after, front_all, front_more, front_same}
 use Rattle.sketches.specs.Failures.{FailsWriting}
 use Rattle.sketches.specs.Inputs.{FailsAmong, FailsInputs, FailsTakingInputs, TakesEach, TakesInputs}
 use Rattle.sketches.specs.KeySumLaws.{all_sums, no_sums}
-use Rattle.sketches.specs.KeySums.{AddsItems, AddsLines, ComesWhileWriting, FailsKeys, FailsSums, FailsTakingKeys, HoldsKeys, HoldsSums, Sends, Sums, SumsInputs, TakesKeys, WritesSomeSums, WritesSums, names, row_of, rows_at, rows_text, sum_lines}
+use Rattle.sketches.specs.KeySums.{AddsItems, AddsLines, ComesWhileWriting, FailsKeys, FailsSums, FailsTakingKeys, HaveFewKeys, HoldsKeys, HoldsSums, Sends, StaysWithin, Sums, SumsInputs, TakesKeys, WritesSomeSums, WritesSums, names, row_of, rows_at, rows_text, sum_lines}
 use Rattle.sketches.specs.KeyWeights.{Row, parts_in, row_line, total_line, unweighed_in, unweighed_lines, weighed_in, weighed_lines}
 use Rattle.sketches.specs.Outputs.{WritesFront}
 use Rattle.sketches.specs.Reading.{FailsInput, HasLongRecord, IsReadOf, TakesInput}
@@ -164,13 +170,39 @@ comes_late write_error BadSize f = absurd f
 comes_late write_error (BadWeight found) f = absurd f
 comes_late write_error (Write error) f = tt
 
+-- ---- the number of keys
+
+-- a key of the file is one of the map
+named_among : (sums : Sums) (order : List ℕ) (keys : List (List ℕ)) (k : List ℕ) → AllZip (λ i k. slice_get (names sums) i ≡ Some k) order keys → Contains keys k → Contains (names sums) k
+named_among sums [] [] k all here = absurd (omega (arith, here.1))
+named_among sums [] (x ∷ keys) k all here = absurd all
+named_among sums (i ∷ order) [] k all here = absurd all
+named_among sums (i ∷ order) (x ∷ keys) k all here = ⊎_elim
+    (λ first. ⊎_elim
+    (λ no. absurd (omega (arith, no.1)))
+    (λ same. subst (Contains (names sums)) same (i, slice_get_within (names sums) i x all.0, get_or_from_slice_get (names sums) i x x all.0))
+    (Contains-push_cases [] x k first))
+    (λ later. named_among sums order keys k all.1 later)
+    (Contains-append_cases (x ∷ []) keys k here)
+
+few_keys : (max : ℕ) (sums : Sums) (order : List ℕ) (keys : List (List ℕ)) → HoldsKeys sums order keys → length sums ≤ max → HaveFewKeys max keys
+few_keys max sums order keys holds small = λ (some, distinct, among, many).
+    omega (
+      arith,
+      many,
+      small,
+      length_names sums,
+      length-le_from_is_member nat_list_eq_equiv some (names sums) distinct
+          (λ q here. list_any-from_Contains nat_list_eq_equiv q (names sums) (named_among sums order keys q holds.named (among q (Contains-from_any same_bytes q some here)))),
+    )
+
 -- ---- the file of keys
 
 abbrev Keyed : Type 0
 Keyed = FileKeys × Unit {0}
 
 abbrev pub TakesFile : Keyed → List ℕ → Keyed → Type 0
-TakesFile old bytes new = TakesKeys old.0.sums.entries old.0.order.items (parts_in old.0.part bytes) new.0.sums.entries new.0.order.items × (new.0.part ≡ old.0.part) × (new.0.max_keys ≡ old.0.max_keys)
+TakesFile old bytes new = TakesKeys old.0.sums.entries old.0.order.items (parts_in old.0.part bytes) new.0.sums.entries new.0.order.items × (new.0.part ≡ old.0.part) × (new.0.max_keys ≡ old.0.max_keys) × StaysWithin old.0.max_keys old.0.sums.entries new.0.sums.entries
 
 abbrev pub FailsFile : Keyed → List ℕ → Keyed → Failure → Type 0
 FailsFile old bytes new failure = FailsTakingKeys old.0.max_keys old.0.sums.entries old.0.order.items (parts_in old.0.part bytes) failure
@@ -179,14 +211,24 @@ no_keys : (sums : Sums) (order : List ℕ) → sums ≡ [] → order ≡ [] → 
 no_keys sums order none empty =
     subst (λ (s : Sums). HoldsKeys s order []) (sym none) (subst (λ (o : List ℕ). HoldsKeys [] o []) (sym empty) (record { named = tt; among = λ key here. here; empty = tt }))
 
-pub keys_held : {E : Type 0} (options : ExactOptions) (keys : Option (List ℕ)) (fails : Bool) (failure : Option E) (old new : Keyed) → is_some failure ≡ false → old.0.part ≡ options.keys_part → old.0.sums.entries ≡ [] → old.0.order.items ≡ []
-    → TakesInput (splits_by old.0.part) TakesFile keys fails failure old new
-    → IfSome keys (λ bytes. HoldsKeys new.0.sums.entries new.0.order.items (parts_in options.keys_part bytes))
-keys_held options None fails failure old new whole part none empty taken = tt
-keys_held options (Some bytes) fails failure old new whole part none empty (is, (read, of, taken)) =
+pub file_taken : {E : Type 0} (keys : Option (List ℕ)) (fails : Bool) (failure : Option E) (old new : Keyed) → is_some failure ≡ false → TakesInput (splits_by old.0.part) TakesFile keys fails failure old new → IfSome keys (λ bytes. TakesFile old bytes new)
+file_taken None fails failure old new whole taken = tt
+file_taken (Some bytes) fails failure old new whole (is, (read, of, taken)) =
     let all : read ≡ bytes = subst (λ (b : Bool). IsReadOf (splits_by old.0.part) b bytes read) (sym is ∙ whole) of in
-    let takes : TakesFile old bytes new = subst (λ (l : List ℕ). TakesFile old l new) all taken in
-    subst (λ (p : RecordPart). HoldsKeys new.0.sums.entries new.0.order.items (parts_in p bytes)) part (takes.0 [] (no_keys old.0.sums.entries old.0.order.items none empty))
+    subst (λ (l : List ℕ). TakesFile old l new) all taken
+
+pub keys_held : (options : ExactOptions) (keys : Option (List ℕ)) (old new : Keyed) → old.0.part ≡ options.keys_part → old.0.sums.entries ≡ [] → old.0.order.items ≡ [] → IfSome keys (λ bytes. TakesFile old bytes new)
+    → IfSome keys (λ bytes. HoldsKeys new.0.sums.entries new.0.order.items (parts_in options.keys_part bytes))
+keys_held options None old new part none empty taken = tt
+keys_held options (Some bytes) old new part none empty taken =
+    subst (λ (p : RecordPart). HoldsKeys new.0.sums.entries new.0.order.items (parts_in p bytes)) part (taken.0 [] (no_keys old.0.sums.entries old.0.order.items none empty))
+
+pub keys_few : (options : ExactOptions) (keys : Option (List ℕ)) (old new : Keyed) → old.0.part ≡ options.keys_part → old.0.max_keys ≡ options.max_keys → old.0.sums.entries ≡ [] → old.0.order.items ≡ [] → IfSome keys (λ bytes. TakesFile old bytes new)
+    → IfSome keys (λ bytes. HaveFewKeys options.max_keys (parts_in options.keys_part bytes))
+keys_few options None old new part max none empty taken = tt
+keys_few options (Some bytes) old new part max none empty taken =
+    few_keys options.max_keys new.0.sums.entries new.0.order.items (parts_in options.keys_part bytes) (keys_held options (Some bytes) old new part none empty taken)
+    (subst (λ (m : ℕ). length new.0.sums.entries ≤ m) max (taken.3 (omega (arith, ap (λ (s : Sums). length s) none))))
 
 file_failed : (options : ExactOptions) (limit : ℕ) (keys : Option (List ℕ)) (old : Keyed) (e : Failure) → old.0.part ≡ options.keys_part → old.0.max_keys ≡ options.max_keys → old.0.sums.entries ≡ [] → old.0.order.items ≡ []
     → (s : Keyed) × (bytes : List ℕ) × FailsTakingKeys s.0.max_keys s.0.sums.entries s.0.order.items (parts_in s.0.part bytes) e → IfSome keys (λ bytes. FailsTakingKeys old.0.max_keys old.0.sums.entries old.0.order.items (parts_in old.0.part bytes) e) → FailsKeys options limit keys e

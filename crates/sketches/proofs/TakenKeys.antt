@@ -99,7 +99,7 @@ holds_more items (x ∷ sums) k v holds is = (holds.0, holds_more items sums k v
 names_more : (sums : Sums) (k : Key) → names (sums ++ (k, 0) ∷ []) ≡ names sums ++ k.items ∷ []
 names_more sums k = map-append (λ (entry : Key × ℕ). entry.0.items) sums ((k, 0) ∷ [])
 
-length_names : (sums : Sums) → length (names sums) ≡ length sums
+pub length_names : (sums : Sums) → length (names sums) ≡ length sums
 length_names [] = refl
 length_names (x ∷ sums) = ap suc (length_names sums)
 
@@ -127,7 +127,7 @@ key_taken sums sums' order key index finds = λ keys holds. ⊎_elim
 
 -- ---- the index of a key
 
-same_bytes : (x y : List ℕ) → bytes_eq x y ≡ true → x ≡ y
+pub same_bytes : (x y : List ℕ) → bytes_eq x y ≡ true → x ≡ y
 same_bytes x y e = (bytes_eq-Decides x y).0 e
 
 found_passes : (test : Key → Bool) (sums : Sums) (k : Key) → lookup_key test sums ≡ Some k → test k ≡ true

@@ -4,7 +4,7 @@ use Rattle.std.proofs.lemmas.List.Elements.{Contains-append_left}
 use Rattle.sketch_base.specs.Records.{records_by, splits_by}
 use Rattle.sketch_base.specs.declared.record_part.RecordPart.{RecordPart}
 use Rattle.sketches.specs.AddingLaws.{records_both}
-use Rattle.sketches.specs.KeySums.{AddsItems, AddsLines, FailsTakingKeys, HaveMoreKeys, HoldsKeys, HoldsSums, Sums, TakesKeys}
+use Rattle.sketches.specs.KeySums.{AddsItems, AddsLines, FailsTakingKeys, HaveMoreKeys, HoldsKeys, HoldsSums, StaysWithin, Sums, TakesKeys}
 use Rattle.sketches.specs.KeyWeightLaws.{parts_append, records_none, unweighed_append, weighed_append}
 use Rattle.sketches.specs.KeyWeights.{parts_in, unweighed_line, unweighed_lines, weighed_line, weighed_lines}
 use Rattle.sketches.specs.Reading.{AreWholeRecords}
@@ -45,24 +45,25 @@ taking_after max a b o p xs ys (Write error) takes f = f
 
 -- what a sink of keys does with bytes of records
 abbrev Takes : (p : RecordPart) (m : ℕ) (a : Sums) (o : List ℕ) → List ℕ → (b : Sums) (o' : List ℕ) (q : RecordPart) (n : ℕ) → Type 0
-Takes p m a o bytes b o' q n = TakesKeys a o (parts_in p bytes) b o' × (q ≡ p) × (n ≡ m)
+Takes p m a o bytes b o' q n = TakesKeys a o (parts_in p bytes) b o' × (q ≡ p) × (n ≡ m) × StaysWithin m a b
 
 pub keys_none : (p : RecordPart) (m : ℕ) (a : Sums) (o : List ℕ) → Takes p m a o [] a o p m
-keys_none p m a o = rw (records_none p) (taken_none a o, refl, refl)
+keys_none p m a o = rw (records_none p) (taken_none a o, refl, refl, λ small. small)
 
 pub keys_both : (xs ys : List ℕ) (p q r : RecordPart) → AreWholeRecords (splits_by p) xs → (m n k : ℕ) (a b c : Sums) (o o' o'' : List ℕ) → Takes p m a o xs b o' q n → Takes q n b o' ys c o'' r k → Takes p m a o (xs ++ ys) c o'' r k
-keys_both xs ys p q r whole m n k a b c o o' o'' (first, part, max) (second, part', max') = (
+keys_both xs ys p q r whole m n k a b c o o' o'' (first, part, max, within) (second, part', max', within') = (
   subst (λ l. TakesKeys a o l c o'') (sym (parts_append p xs ys whole))
       (taken_both a b c o o' o'' (parts_in p xs) (parts_in p ys) first (subst (λ (t : RecordPart). TakesKeys b o' (parts_in t ys) c o'') part second)),
   part' ∙ part,
   max' ∙ max,
+  λ small. subst (λ (t : ℕ). StaysWithin t b c) max within' (within small),
 )
 
 pub keys_sooner : (xs ys : List ℕ) (p : RecordPart) → AreWholeRecords (splits_by p) xs → (m : ℕ) (a : Sums) (o : List ℕ) (e : Failure) → FailsTakingKeys m a o (parts_in p xs) e → FailsTakingKeys m a o (parts_in p (xs ++ ys)) e
 keys_sooner xs ys p whole m a o e f = subst (λ l. FailsTakingKeys m a o l e) (sym (parts_append p xs ys whole)) (taking_more m a o (parts_in p xs) (parts_in p ys) e f)
 
 pub keys_later : (xs ys : List ℕ) (p q : RecordPart) → AreWholeRecords (splits_by p) xs → (m n : ℕ) (a b : Sums) (o o' : List ℕ) (e : Failure) → Takes p m a o xs b o' q n → FailsTakingKeys n b o' (parts_in q ys) e → FailsTakingKeys m a o (parts_in p (xs ++ ys)) e
-keys_later xs ys p q whole m n a b o o' e (first, part, max) f =
+keys_later xs ys p q whole m n a b o o' e (first, part, max, within) f =
     subst (λ l. FailsTakingKeys m a o l e) (sym (parts_append p xs ys whole))
     (taking_after m a b o o' (parts_in p xs) (parts_in p ys) e first
     (subst (λ (t : RecordPart). FailsTakingKeys m b o' (parts_in t ys) e) part (subst (λ (t : ℕ). FailsTakingKeys t b o' (parts_in q ys) e) max f)))

@@ -54,6 +54,10 @@ abbrev pub HaveMoreKeys : (max : ℕ) → List (List ℕ) → Type 0
 HaveMoreKeys max keys =
     (some : List (List ℕ)) × IsDistinct bytes_eq some × ((key : List ℕ) → Contains some key → Contains keys key) × (max < length some)
 
+-- there are at most `max` distinct keys among these
+abbrev pub HaveFewKeys : (max : ℕ) → List (List ℕ) → Type 0
+HaveFewKeys max keys = HaveMoreKeys max keys → ⊥
+
 -- While the keys are taken, memory may be exhausted. Otherwise a record of the file has at least `limit` bytes, or the file has more than
 -- `max_keys` distinct keys.
 abbrev pub FailsKeys : ExactOptions → (limit : ℕ) → Option (List ℕ) → Failure → Type 0
@@ -124,6 +128,10 @@ pub record FindsKey (sums : Sums) (key : List ℕ) (sums' : Sums) (index : ℕ) 
 -- the keys follow those that the map had
 abbrev pub TakesKeys : (sums : Sums) (order : List ℕ) → (more : List (List ℕ)) → (sums' : Sums) (order' : List ℕ) → Type 0
 TakesKeys sums order more sums' order' = (keys : List (List ℕ)) → HoldsKeys sums order keys → HoldsKeys sums' order' (keys ++ more)
+
+-- the map does not exceed `max` keys, if it did not before
+abbrev pub StaysWithin : (max : ℕ) → Sums → Sums → Type 0
+StaysWithin max sums sums' = length sums ≤ max → length sums' ≤ max
 
 -- while keys are taken, memory is exhausted, or there are more than `max` distinct keys
 abbrev pub FailsTakingKeys : (max : ℕ) (sums : Sums) (order : List ℕ) → (more : List (List ℕ)) → Failure → Type 0

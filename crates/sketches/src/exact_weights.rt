@@ -5,7 +5,7 @@ ghost use Rattle.std.specs.declared.io.Error.{Error};
 ghost use Rattle.sketch_base.specs.Records.{splits_by};
 ghost use Rattle.sketches.specs.Failures.{FailsWriting};
 ghost use Rattle.sketches.specs.Inputs.{HaveLongRecord, none_fails};
-ghost use Rattle.sketches.specs.KeySums.{ComesWhileWriting, FailsExact, FailsFileKeys, FailsSums, HoldsKeys, IsOfKeys, SumsInputs, WritesSomeSums, WritesSums, rows_text};
+ghost use Rattle.sketches.specs.KeySums.{ComesWhileWriting, FailsExact, FailsFileKeys, FailsSums, HaveFewKeys, HoldsKeys, IsOfKeys, SumsInputs, WritesSomeSums, WritesSums, rows_text};
 ghost use Rattle.sketches.specs.KeyWeights.{parts_in};
 ghost use Rattle.sketches.specs.Outputs.{WritesFront};
 ghost use Rattle.sketches.specs.Reading.{HasLongRecord};
@@ -88,6 +88,7 @@ pub fn weigh_exactly<I: Inputs, R: LineSource, W: Output>(
         (λ all. WritesSums options all (I.fails inputs.old) bytes (W.contents writer.old) (W.contents writer.new)))) }
     ensures complete { IfOk result (λ done. IfSome (I.inputs inputs.old) (λ _. done.complete ≡ none_fails (I.fails inputs.old))) }
     ensures complete_keys { OnOk result (IfSome (R.remaining keys.old) (λ _. R.fails keys.old ≡ false)) }
+    ensures few { OnOk result (IfSome (R.remaining keys.old) (λ bytes. HaveFewKeys options.max_keys (parts_in options.keys_part bytes))) }
 
     // When each error comes, and what it leaves unchanged.
     ensures failed { IfErr result (FailsExact options (R.remaining keys.old) (R.fails keys.old) (I.inputs inputs.old) (W.failure writer.new)) }
@@ -140,6 +141,7 @@ fn keys_of<R: LineSource>(
     ensures taken { IfOk result (λ file. IfSome (R.remaining keys.old) (λ bytes. HoldsKeys file.sums.entries file.order.items (parts_in options.keys_part bytes))) }
     ensures complete { OnOk result (IfSome (R.remaining keys.old) (λ _. R.fails keys.old ≡ false)) }
     ensures too_long { OnOk result (IfSome (R.remaining keys.old) (λ bytes. HasLongRecord (splits_by options.keys_part) limit bytes → ⊥)) }
+    ensures few { OnOk result (IfSome (R.remaining keys.old) (λ bytes. HaveFewKeys options.max_keys (parts_in options.keys_part bytes))) }
     ensures failed { IfErr result (FailsFileKeys options limit (R.remaining keys.old) (R.fails keys.old)) }
 {
     let mut file = FileKeys {

@@ -1,7 +1,7 @@
 //! Takes the keys of a file.
 ghost use Rattle.std.specs.Prelude.{◌≡◌, ℕ, List, [], ◌∷◌, IfErr, IfOk, OnOk};
 ghost use Rattle.sketch_base.specs.Records.{part_in};
-ghost use Rattle.sketches.specs.KeySums.{FailsTakingKeys, FindsKey, TakesKeys};
+ghost use Rattle.sketches.specs.KeySums.{FailsTakingKeys, FindsKey, StaysWithin, TakesKeys};
 ghost use Rattle.sketches.specs.KeyWeights.{parts_in};
 
 use crate::failure::Failure;
@@ -35,7 +35,8 @@ impl LineSink<()> for FileKeys {
     ghost splits = { λ s. splits_by s.part };
 
     ghost takes = { λ old bytes new. TakesKeys old.0.sums.entries old.0.order.items (parts_in old.0.part bytes) new.0.sums.entries new.0.order.items
-        × (new.0.part ≡ old.0.part) × (new.0.max_keys ≡ old.0.max_keys) };
+        × (new.0.part ≡ old.0.part) × (new.0.max_keys ≡ old.0.max_keys)
+        × StaysWithin old.0.max_keys old.0.sums.entries new.0.sums.entries };
 
     ghost fails = { λ old bytes new failure. FailsTakingKeys old.0.max_keys old.0.sums.entries old.0.order.items (parts_in old.0.part bytes) failure };
 
@@ -81,6 +82,7 @@ fn add_keys(
     order: &mut Vec<usize>,
 ) -> Result<(), Failure>
     ensures taken { OnOk result (TakesKeys sums.old.entries order.old.items (parts_in part bytes.now) sums.new.entries order.new.items) }
+    ensures within { OnOk result (StaysWithin max_keys sums.old.entries sums.new.entries) }
     ensures failed { IfErr result (FailsTakingKeys max_keys sums.old.entries order.old.items (parts_in part bytes.now)) }
 {
     let mut rest = bytes;
@@ -104,6 +106,7 @@ fn add_record(
     order: &mut Vec<usize>,
 ) -> Result<(), Failure>
     ensures taken { OnOk result (TakesKeys sums.old.entries order.old.items (part_in part row.now) sums.new.entries order.new.items) }
+    ensures within { OnOk result (StaysWithin max_keys sums.old.entries sums.new.entries) }
     ensures failed { IfErr result (FailsTakingKeys max_keys sums.old.entries order.old.items (part_in part row.now)) }
 {
     let mut text = Vec::new(alloc);
@@ -122,6 +125,7 @@ fn add_key(
     order: &mut Vec<usize>,
 ) -> Result<(), Failure>
     ensures taken { OnOk result (TakesKeys sums.old.entries order.old.items (key.now ∷ []) sums.new.entries order.new.items) }
+    ensures within { OnOk result (StaysWithin max_keys sums.old.entries sums.new.entries) }
     ensures failed { IfErr result (FailsTakingKeys max_keys sums.old.entries order.old.items (key.now ∷ [])) }
 {
     let index = index_of(alloc, max_keys, key, sums)?;
@@ -133,6 +137,7 @@ fn add_key(
 #[inline(always)]
 fn index_of(alloc: Global, max_keys: u32, key: &[u8], sums: &mut KeyMap) -> Result<usize, Failure>
     ensures found { IfOk result (FindsKey sums.old.entries key.now sums.new.entries) }
+    ensures within { OnOk result (StaysWithin max_keys sums.old.entries sums.new.entries) }
     ensures failed { (order : List ℕ) → IfErr result (FailsTakingKeys max_keys sums.old.entries order (key.now ∷ [])) }
 {
     if let Some((index, _, _)) = sums.get_full(key) {

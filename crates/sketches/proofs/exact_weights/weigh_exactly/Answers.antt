@@ -17,3 +17,6 @@ returns-clause-unwritten g c =
       exact_cut c.args.options (g.R.LineSource.remaining c.args.keys.now) (g.I.Inputs.inputs c.args.inputs.now) (g.I.Inputs.fails c.args.inputs.now) c.in_ok-file.file.sums.entries c.in-Ok-sums_of.done.0.sums.entries c.in_ok-file.file.order.items c.in-Ok-sums_of.done.0.total (g.W.Output.contents c.args.writer.now) (g.W.Output.contents c.write_sums.new.writer)
           c.in_ok-file.ensures.taken c.in-Ok-sums_of.ensures.summed (rw c.deref.ensures.value at c.in-Err-write_sums.ensures.front),
     )
+
+pub returns-in-Ok-write_sums-clause-few : goal.returns-in-Ok-write_sums-clause-few
+returns-in-Ok-write_sums-clause-few g c = c.in_ok-file.ensures.few
