@@ -93,11 +93,11 @@ class Objects:
             ran = self.tests.run(["weigh", "--keys", "keys", "--json", *names])
             total, *rows = plain[1].decode("utf-8", "replace").split("\n")[:-1]
             found = objects_of(ran[1])
-            same = found is not None and found[0] == {"total": int(total.split(" ")[2])} and [row["weight"] for row in found[1:]] == [int(row.split("\t")[0]) for row in rows]
+            same = bool(found) and found[0] == {"total": int(total.split(" ")[2])} and [row["weight"] for row in found[1:]] == [int(row.split("\t")[0]) for row in rows]
             self.check(f"random objects {round} of weigh", ran[0] == 0 and same, (ran, plain))
             with open(os.path.join(self.tests.work, "keys"), "rb") as file:
                 keys = texts_of(file.read())
-            self.check(f"random objects {round} of weigh: keys", found is not None and [row["item"] for row in found[1:]] == keys, (found, keys))
+            self.check(f"random objects {round} of weigh: keys", bool(found) and [row["item"] for row in found[1:]] == keys, (found, keys))
 
     def options(self):
         """JSON has no escapes of its own."""

@@ -28,7 +28,7 @@ FindsKeys wanted part filter keys = (raw key : List ℕ) → Contains keys key �
     → written_of wanted (is_seen filter (item_of part raw)) raw ≡ (if wanted then raw ∷ [] else [])
 
 -- The writer received a header, and then those records of what was read of each input whose items the filter of all keys contains, or,
--- unless `wanted`, the others. One that its input ends without a line feed gets one before the next. The filter is returned.
+-- unless `wanted`, the others. They are written in `form`: with their ends, or as JSON objects. The filter is returned.
 -- What the run did is `are`, `written` and `returned`; `finds` is the law above for these keys.
 pub record WritesJoined (form : RecordForm) (wanted : Bool) (part : RecordPart) (header : List ℕ) (filter filter' : FilterState) (keys : List (List ℕ)) (inputs : List (List ℕ)) (fails : List Bool) (held holds : Option (List ℕ)) : Type 0 where
   pub read : List (List ℕ)

@@ -68,8 +68,8 @@ AreFirst part filter raws =
     Contains (item_of part raw) item → Contains (flat_map (item_of part) before) item → ⊥
 
 -- The writer received a header, and then the records of what was read of each input whose items were not seen before, or, with
--- `repeated`, the others. One that its input ends without a line feed gets one before the next. The filter has taken the items of all
--- records that were read. What the run did is `are`, `written` and `kept`; `first` is the law above for these records.
+-- `repeated`, the others. They are written in `form`: with their ends, or as JSON objects. The filter has taken the items of all records
+-- that were read. What the run did is `are`, `written` and `kept`; `first` is the law above for these records.
 pub record WritesUnseen (form : RecordForm) (repeated : Bool) (part : RecordPart) (header : List ℕ) (filter filter' : FilterState) (inputs : List (List ℕ)) (fails : List Bool) (held holds : Option (List ℕ)) : Type 0 where
   pub read : List (List ℕ)
   pub are : AreRead (splits_by part) fails inputs read
