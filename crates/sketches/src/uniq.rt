@@ -102,7 +102,7 @@ pub fn uniq_after<I: Inputs, W: Output>(
     ensures complete { IfOk result (λ summary. IfSome (I.inputs inputs.old) (λ _. summary.complete ≡ none_fails (I.fails inputs.old))) }
     ensures too_long { OnOk result (IfSome (I.inputs inputs.old) (λ all. HaveLongRecord (splits_by options.part) (options.max_line + 1) all → ⊥)) }
     ensures failed { IfErr result (FailsWrittenLines options.part (options.max_line + 1) (I.inputs inputs.old) (W.failure writer.new)) }
-    ensures front { IfErr result (λ failure. IfSome (I.inputs inputs.old) (λ all. WritesSomeUnseen options.repeated options.part header.now filter
+    ensures front { IfErr result (λ failure. IfSome (I.inputs inputs.old) (λ all. WritesSomeUnseen options.form options.repeated options.part header.now filter
         all (W.contents writer.old) (W.contents writer.new))) }
 {
     let mut lines = UnseenLines {
