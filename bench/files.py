@@ -1,8 +1,9 @@
 """Times the program `sketches` on files beside what people use today, checks each result, and prints a table and draws a plot.
 
-    LC_ALL=C /usr/bin/python3 bench/files.py PROGRAM SIZE RUNS
+    LC_ALL=C /usr/bin/python3 bench/files.py PROGRAM SIZE RUNS [JOB ..]
 
-`bench/files.sh` calls it, and has what it needs. The files have SIZE MB each and come from a fixed seed. The tools of a job run by
+`bench/files.sh` calls it, and has what it needs. The files have SIZE MB each and come from a fixed seed. A JOB is a part of the name of a
+function that makes a job, such as `weighed`; without one all jobs run. The tools of a job run by
 turns, RUNS times each, and their last results are checked:
 
 - An exact tool must return the true numbers, or the exact lines.
@@ -10,6 +11,8 @@ turns, RUNS times each, and their last results are checked:
   the last row's bound.
 - `sketches uniq` must print lines of the exact result in order, and miss at most the share that its note states.
 - `sketches join` must print each line that is a key, in order, and at most twice the share of others that its note states.
+- `sketches weigh` must print the true number of each key, in order, and with `--error` at least the true number, and for at most 1 in 500 keys
+  more above it than the error.
 """
 import collections
 import csv
@@ -25,7 +28,7 @@ from xml.sax.saxutils import escape
 
 TOP = os.path.dirname(os.path.dirname(os.path.abspath(__file__)))
 OUT = f"{TOP}/bench/out/files"
-PROGRAM, SIZE, RUNS = sys.argv[1], int(sys.argv[2]), int(sys.argv[3])
+PROGRAM, SIZE, RUNS, ONLY = sys.argv[1], int(sys.argv[2]), int(sys.argv[3]), sys.argv[4:]
 DATA = f"{OUT}/{SIZE}"
 LOG, LINES, WORDS, EMPTY = f"{DATA}/log", f"{DATA}/lines", f"{DATA}/words", f"{DATA}/empty"
 PLAIN, QUOTED = f"{DATA}/plain.csv", f"{DATA}/quoted.csv"
@@ -210,6 +213,22 @@ def joined_check(lines, keys):
     return check
 
 
+def estimates_check(counts, keys):
+    """Returns a check that the output has a number for each key, in order, which is at least the true one and for few keys more than 0.1
+    percent of all above it."""
+    total = counts.total()
+
+    def check(output, _):
+        rows = [line.split(b"\t", 1) for line in output.split(b"\n")[:-1]]
+        if [key for _, key in rows] != keys or any(int(number) < counts[key] for number, key in rows):
+            wrong("another key, or a number below the true one")
+        above = sum(1000 * (int(number) - counts[key]) > total for number, key in rows)
+        if 500 * above > len(keys):
+            wrong(f"{above} numbers are too large")
+
+    return check
+
+
 def same_check(expected):
     """Returns a check that the output has exactly these lines."""
     def check(output, _):
@@ -302,19 +321,47 @@ def unseen_job():
     ], RUNS)
 
 
-def joined_job():
-    """Returns a job for the lines that are in a file of keys, which has every fifth distinct line."""
-    lines = read_lines(LINES)
+def written_keys(lines):
+    """Writes a file of keys, which has every fifth distinct line. Returns its keys and its name."""
     keys = list(dict.fromkeys(lines))[::5]
     path = f"{OUT}/keys"
     with open(path, "wb") as file:
         file.write(b"".join(key + b"\n" for key in keys))
+    return keys, path
+
+
+def joined_job():
+    """Returns a job for the lines that are in a file of keys."""
+    lines = read_lines(LINES)
+    keys, path = written_keys(lines)
     known = set(keys)
     exact = same_check([line for line in lines if line in known])
     return Job(f"lines in a file of keys, {SIZE} MB", "line", len(lines), [
         Tool("sketches join --keys", [PROGRAM, "join", "--keys", path, LINES], joined_check(lines, known)),
         Tool("mawk, keys of an array", ["mawk", "NR == FNR { keys[$0]; next } $0 in keys", path, LINES], exact),
         Tool("grep -xFf", ["grep", "-xFf", path, LINES], exact),
+    ], RUNS)
+
+
+BY_KEYS = """
+import collections, sys
+counts = collections.Counter(open(sys.argv[2], "rb"))
+sys.stdout.buffer.write(b"".join(b"%d\\t%b" % (counts[key], key) for key in open(sys.argv[1], "rb")))
+"""
+
+
+def weighed_job():
+    """Returns a job for how often each key of a file occurs."""
+    lines = read_lines(LINES)
+    keys, path = written_keys(lines)
+    counts = collections.Counter(lines)
+    exact = same_check([b"%d\t%b" % (counts[key], key) for key in keys])
+    mawk = "NR == FNR { keys[++c] = $0; n[$0] = 0; next } $0 in n { n[$0]++ } END { for (i = 1; i <= c; i++) print n[keys[i]] \"\\t\" keys[i] }"
+    return Job(f"numbers of keys, {SIZE} MB", "line", len(lines), [
+        Tool("sketches weigh --keys", [PROGRAM, "weigh", "--no-header", "--keys", path, LINES], exact),
+        Tool("sketches weigh --error 0.1%", [PROGRAM, "weigh", "--no-header", "--error", "0.1%", "--keys", path, LINES], estimates_check(counts, keys)),
+        Tool("mawk, keys of an array", ["mawk", mawk, path, LINES], exact),
+        Tool("Python's Counter of all lines", [sys.executable, "-c", BY_KEYS, path, LINES], exact),
     ], RUNS)
 
 
@@ -440,15 +487,17 @@ def main():
         lambda: csv_job("field 3 of CSV", PLAIN, False),
         lambda: csv_job("field 3 of CSV, quoted", QUOTED, False),
         lambda: csv_job("field 3 of CSV, quoted, by weights", QUOTED, True),
-        unseen_job, joined_job, merge_job, empty_job]
+        unseen_job, joined_job, weighed_job, merge_job, empty_job]
     for maker in makers:
+        if ONLY and not any(word in maker.__name__ for word in ONLY):
+            continue
         job = maker()
         if job is None:
             print("`sketches merge` is not in this program", file=sys.stderr)
             continue
         results.append((job, run(job)))
         print("\n".join(table_rows(*results[-1])), flush=True)
-    path = f"{TOP}/bench/files.svg" if SIZE == DEFAULT else f"{OUT}/files.svg"
+    path = f"{TOP}/bench/files.svg" if SIZE == DEFAULT and not ONLY else f"{OUT}/files.svg"
     with open(path, "w", encoding="utf-8") as file:
         file.write(plot(results, about))
     print(f"every result was right; the plot is in {os.path.relpath(path, TOP)}", file=sys.stderr)

@@ -22,4 +22,6 @@ mkdir -p "$out"
 for source in exact measure; do
     rustc --edition 2024 -O -o "$out/$source" "$top/bench/$source.rs"
 done
-exec env LC_ALL=C /usr/bin/python3 "$top/bench/files.py" "$program" "${SIZE:-100}" "${RUNS:-5}"
+# JOBS are parts of names of jobs; without them all run.
+read -ra jobs <<<"${JOBS:-}"
+exec env LC_ALL=C /usr/bin/python3 "$top/bench/files.py" "$program" "${SIZE:-100}" "${RUNS:-5}" "${jobs[@]}"
