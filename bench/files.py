@@ -11,8 +11,8 @@ turns, RUNS times each, and their last results are checked:
   the last row's bound.
 - `sketches uniq` must print lines of the exact result in order, and miss at most the share that its note states.
 - `sketches join` must print each line that is a key, in order, and at most twice the share of others that its note states.
-- `sketches weigh` must print the true number of each key, in order, and with `--error` at least the true number, and for at most 1 in 500 keys
-  more above it than the error.
+- `sketches weigh` must print the true number of each key, in order. With `--error` a number may be above the true one, and for at most 1 in
+  500 keys by more than the error.
 """
 import collections
 import csv
