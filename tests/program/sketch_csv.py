@@ -18,6 +18,7 @@ import sys
 import tempfile
 import time
 
+from columns import made_of_row
 from texts import text_of as text_of_records
 
 sys.path.append(os.path.dirname(os.path.dirname(os.path.abspath(__file__))))
@@ -168,7 +169,7 @@ class Tests(checks.Checks):
             (["-f", "2"], b"a,b\n1\n2,\n3,x,y\n", b"# error 0 of 2\n1\t1\t\n1\t1\tx\n"),
             (["-d", ";", "-f", "b"], b"a;b\n1;\"x;y\"\n", b"# error 0 of 1\n1\t1\tx;y\n"),
             (["-d", "\t", "-f", "2"], b"a\tb\n1\tx y\n", b"# error 0 of 1\n1\t1\tx y\n"),
-            (["-f", "a,b"], b'"a,b",c\n1,2\n', b"# error 0 of 1\n1\t1\t1\n"),
+            (["-f", '"a,b"'], b'"a,b",c\n1,2\n', b"# error 0 of 1\n1\t1\t1\n"),
             (["-f", 'x"y'], b'"x""y",c\n1,2\n', b"# error 0 of 1\n1\t1\t1\n"),
             (["-f", "a"], b"\xef\xbb\xbfa,b\n1,2\n", b"# error 0 of 1\n1\t1\t1\n"),
             (["-f", "a"], b'\xef\xbb\xbf"a",b\n1,2\n', b"# error 0 of 1\n1\t1\t1\n"),
@@ -247,9 +248,9 @@ class Tests(checks.Checks):
         self.file("keys.csv", mark + b'"a,x"\n3\n')
         for words, wanted in [
             (["uniq", "-f", 1, "--no-csv-header", one, two], mark + b'"a,x",b\n1,2\n3,4'),
-            (["uniq", "-f", "a,x", one, two], mark + b'"a,x",b\n1,2\n3,4'),
+            (["uniq", "-f", '"a,x"', one, two], mark + b'"a,x",b\n1,2\n3,4'),
             (["join", "-f", 1, "--no-csv-header", "--keys-field", 1, "--keys", "keys.csv", one, two], mark + b'"a,x",b\n"a,x",c\n3,4'),
-            (["join", "-f", 1, "--keys-field", "a,x", "--keys", "keys.csv", one, two], mark + b'"a,x",b\n3,4'),
+            (["join", "-f", 1, "--keys-field", '"a,x"', "--keys", "keys.csv", one, two], mark + b'"a,x",b\n3,4'),
         ]:
             ran = self.run(words[0], "--csv", "--no-note", *words[1:])
             self.check(f"marks: {words}", ran == (0, wanted, b""), ran)
@@ -382,6 +383,67 @@ class Tests(checks.Checks):
             ran = self.run("weigh", "--csv", *with_keys, *names[1:])
             self.check(f"random weigh {number}", ran == (0, weighed(data[0], data[1:], keys_field, field, header=header), b""), ran)
 
+    def columns(self):
+        """Checks fields from the end, several fields and names in quotes, and lists that do not fit."""
+        table = b'last,first,"Last, First",-1,n\na,"b,c",x,y,3\n"a,b",c,x,z,4\na,"b,c",u,v,5\n'
+        short = b'"q""r",s\n\n"t\nu"\n'
+        for fields, numbers, data in [("1,2", [1, 2], table + short), ("last,first", [1, 2], table + short), ("-1", [-1], table + short), ("-2", [-2], table + short),
+                                      ('"Last, First",1', [3, 1], table + short), ('"-1"', [4], table), ('n,"-1",-1,-2', [5, 4, -1, -2], table), ("2,-2", [2, -2], table + short)]:
+            items = [item for row in records_of(data)[1:] for item in made_of_row(row, numbers)]
+            self.is_exact(f"columns {fields}", self.run("top", "--csv", "-f", fields, data=data), collections.Counter(items), 10)
+        for data, word in [(b"a;b\n1;2,3\n", "2,3"), (b'a;b\n1;"2;3"\n', '"2;3"'), (b'a;b\n1;"2""3"\n', '"2""3"')]:
+            ran = self.run("top", "--csv", "-d", ";", "-f", "b,a", data=data)
+            self.check(f"columns of {data}", ran == (0, b"# error 0 of 1\n1\t1\t%s;1\n" % word.encode(), b""), ran)
+        weights = collections.Counter({b'a,"b,c"': 8, b'"a,b",c': 4})
+        for weight in ["n", "5", "-1"]:
+            self.is_exact(f"columns with weight {weight}", self.run("top", "--csv", "-f", "last,2", "-w", weight, data=table), weights, 10)
+        one, two = self.file("one.csv", b"a,b\n1,x\n"), self.file("two.csv", b"a,c,b\n2,z,x\n")
+        ran = self.run("top", "--csv", "-f", "a,-1", one, two)
+        self.is_exact("columns of two files", ran, collections.Counter({b"1,x": 1, b"2,x": 1}), 10)
+        ran = self.run("top", "--csv", "-f", "a,b", one, two)
+        self.is_exact("columns elsewhere", ran, collections.Counter({b"1,x": 1}), 10, 1, b"sketches: two.csv: column 'b' is field 3, and was field 2 before\n")
+        self.file("keys.csv", b'x,y\n"x,",1\nx,"""1"\n')
+        three = self.file("three.csv", b'a,b\n1,"x,"\n2,x\n"""1",y\n')
+        for words, wanted in [(["-f", "-1", "--keys-field", "1"], b'1,"x,"\n2,x\n'), (["-f", "b,1", "--keys-field", "x,y"], b'1,"x,"\n'),
+                              (["-f", "1", "--keys-field", "-1"], b'1,"x,"\n"""1",y\n'), (["-f", "-2,-1", "--keys-field", "y,x"], b'1,"x,"\n')]:
+            ran = self.run("join", "--csv", "--no-note", *words, "--keys", "keys.csv", three)
+            self.check(f"columns: {words}", ran == (0, b"a,b\n" + wanted, b""), ran)
+        for words, said in [(["-f", "a,c"], b"one.csv: no column 'c'"), (["-f", '1,"a,b"'], b"one.csv: no column '\"a,b\"'"), (["-f", "1,-0"], None),
+                            (["-f", "1,,2"], None), (["-f", "-a"], None), (["-f", "1" + 8 * ",a"], None), (["-f", "1", "-w", "a,b"], None),
+                            (["-f", "1,a", "--no-csv-header"], None), (["-f", "1", "-w", '"1"', "--no-csv-header"], None)]:
+            ran = self.run("top", "--csv", *words, one)
+            self.check(f"columns: {words}", ran[:2] == (2, b"") and ran[2] and said in [None, ran[2][10:-1]], ran)
+
+    def random_columns(self):
+        """Compares lists of fields on random bytes with exact counts, sets and sums."""
+        rng = random.Random(8)
+        lists = [[-1], [-2], [1, 2], [2, -1], [-1, -3, 1]]
+        for number in range(60):
+            data, others = [b"".join(rng.choices(PIECES, k=rng.choice([3, 10, 40, 400]))) for _ in range(2)]
+            for numbers, keys_numbers in zip(lists, rng.sample(lists, len(lists))):
+                fields, keys_fields = [",".join(map(str, each)) for each in (numbers, keys_numbers)]
+                name, keys = self.file("columns.csv", data), self.file("keys.csv", others)
+                rows = [(raw, made_of_row(row, numbers)) for raw, row in raws_of(data)]
+                counts = collections.Counter(item for _, items in rows for item in items)
+                keys_found = [item for _, row in raws_of(others) for item in made_of_row(row, keys_numbers)]
+                told = f"random columns {number} {fields}"
+                words = ["--csv", "--no-csv-header", "-f", fields]
+                with_keys = [*words, "--keys-field", keys_fields, "--keys", keys]
+                ran = self.run("top", *words, "--no-note", "-n", 1000, name)
+                shown_counts = collections.Counter()
+                for item, count in counts.items():
+                    shown_counts[text_of(item)] += count
+                self.is_exact(told, ran, shown_counts, 1000)
+                firsts = [raw for at, (raw, items) in enumerate(rows) if not items or items not in [row[1] for row in rows[:at]]]
+                ran = self.run("uniq", *words, "--no-note", "--items", 4096, name)
+                self.check(f"{told}: uniq", ran == (0, text_of_records(firsts), b""), ran)
+                ran = self.run("join", *with_keys, "--no-note", "--items", 4096, name)
+                found = [raw for raw, items in rows if items and items[0] in keys_found]
+                self.check(f"{told}: join {keys_fields}", ran == (0, text_of_records(found), b""), ran)
+                ran = self.run("weigh", *with_keys, name)
+                lines = b"".join(b"%d\t%s\n" % (counts[key], shown(key)) for key in keys_found)
+                self.check(f"{told}: weigh {keys_fields}", ran == (0, b"# total %d\n" % counts.total() + lines, b""), ran)
+
     def cut_records(self):
         """Checks files whose records are cut at every place of a block, as inputs and as keys."""
         pattern = b'"a\n,""b",2\r\n"c"\r\n"dd\r\n\n",3\n,"e"\n"f""",\n\n'
@@ -494,6 +556,8 @@ def main():
         tests.not_utf8()
         tests.records()
         tests.random_records()
+        tests.columns()
+        tests.random_columns()
         tests.cut_records()
         tests.record_headers()
         tests.wrong_records()

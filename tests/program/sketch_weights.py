@@ -259,7 +259,7 @@ class Tests(checks.Checks):
         for value in ["", "5", "0%", "0.195312%", "0.1%", "101%", "-1%", "x%"]:
             ran = self.run("top", f"--error={value}", data=b"a\n")
             self.check(f"--error={value}", ran == (2, b"", error), ran)
-        for words in [["-w", "0"], ["-w", "x"], ["-w", "-1"], ["--words", "-w", "1"], ["--error", "1%", "--size", "64"], ["-d", ","],
+        for words in [["-w", "0"], ["-w", "x"], ["-w", "-0"], ["--words", "-w", "1"], ["--error", "1%", "--size", "64"], ["-d", ","],
                       ["-d", ",,", "-f", "1", "-w", "2"]]:
             ran = self.run("top", *words, data=b"a 1\n")
             self.check(f"{words}", ran[:2] == (2, b"") and ran[2], ran)

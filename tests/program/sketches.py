@@ -17,6 +17,7 @@ TOP = os.path.dirname(os.path.dirname(os.path.dirname(os.path.abspath(__file__))
 sys.path.append(f"{TOP}/tests")
 
 import checks  # noqa: E402
+from columns import Columns, made_of  # noqa: E402
 from joins import Joins  # noqa: E402
 from layouts import Layouts  # noqa: E402
 from messages import Messages  # noqa: E402
@@ -46,6 +47,10 @@ SELECTIONS = [
     (["-d", "\t", "--field", "2"], lambda line: line.split(b"\t")[1:2]),
     (["--delimiter", " ", "-f", "3"], lambda line: line.split(b" ")[2:3]),
     (["-d", "\r", "-f", "1"], lambda line: line.split(b"\r")[:1]),
+    (["-f", "-1"], lambda line: words_of(line)[-1:]),
+    (["-f", "-2,1"], lambda line: made_of(words_of(line), [-2, 1], b" ")),
+    (["-d", ",", "-f", "-2"], lambda line: line.split(b",")[-2:-1]),
+    (["-d", ",", "-f", "1,3"], lambda line: made_of(line.split(b","), [1, 3], b",")),
 ]
 
 
@@ -620,6 +625,7 @@ def main():
         Joins(tests, SELECTIONS, PIECES, raw_lines_of).run()
         Weights(tests, SELECTIONS, PIECES, raw_lines_of).run()
         States(tests, PIECES, raw_lines_of).run()
+        Columns(tests).run()
         Layouts(tests).run()
         Objects(tests).run()
         Messages(tests).run()

@@ -39,6 +39,7 @@ IsCsvDelimiter delimiter = (delimiter ≢ 34) × (delimiter ≢ 10) × (delimite
 
 -- The part of an index in records of a format: a word of a line (0), a field between delimiters of ASCII (1), or a field of CSV (2). In
 -- lines, no field is the whole line. A delimiter that the format does not allow chooses nothing, also if no field is between delimiters.
+-- No argument chooses several columns.
 abbrev pub IsPart : (format : ℤ) → (delimiter index : ℕ) → RecordPart → Type 0
 IsPart format delimiter index (record_part.Line part.Line) =
     ((format ≡ pos 0) ⊎ ((format ≡ pos 1) × IsLineDelimiter delimiter)) × (index ≡ no_field)
@@ -47,6 +48,7 @@ IsPart format delimiter index (record_part.Line (part.Field field)) =
     (format ≡ pos 1) × IsLineDelimiter delimiter × (index ≢ no_field) × (field.delimiter ≡ delimiter) × (field.index ≡ index)
 IsPart format delimiter index (record_part.Csv field) =
     (format ≡ pos 2) × IsCsvDelimiter delimiter × (index ≢ no_field) × (field.delimiter ≡ delimiter) × (field.index ≡ index)
+IsPart format delimiter index (record_part.Columns chosen) = ⊥
 
 -- the part with the weight, if there is one
 abbrev pub IsWeight : FieldsArgument → Option RecordPart → Type 0

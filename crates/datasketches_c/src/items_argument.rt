@@ -215,7 +215,7 @@ macro_rules! on_valid {
                 $work
             }
             Some(validity) => {
-                let $sequence = sketch_base::ValidItems {
+                let $sequence = $crate::rows_with_bits::RowsWithBits {
                     items: $rows,
                     validity,
                 };

@@ -40,6 +40,7 @@ mod many_handles;
 mod many_joins;
 mod memory;
 mod raw_box;
+mod rows_with_bits;
 mod sharing;
 mod sizes;
 pub mod sketch_kind;

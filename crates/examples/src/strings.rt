@@ -1,8 +1,8 @@
 //! Examples of items and of strings in sequences: words, lines, slices and buffers.
 use sketch_base::{
-    ByteStrings, Error, Item, Items, Lines, OffsetStrings, Rehashable, RehashableStr, Separator,
-    Strings, Strs, ValidItems, Validity, Words, are_offsets, finished_lines, finished_words,
-    first_separator, first_words, from_utf8, nth_word,
+    ByteStrings, Error, Item, Items, Lines, OffsetStrings, Rehashable, RehashableStr, Rows,
+    Separator, Strings, Strs, ValidItems, Validity, Words, are_offsets, finished_lines,
+    finished_words, first_separator, first_words, from_utf8, nth_word,
 };
 
 /// Returns the shard of a user, of 100 shards.
@@ -124,11 +124,13 @@ pub fn number_of_nulls(bitmap: &[u8]) -> u64 {
     nulls
 }
 
-/// Returns the first number whose bit is set.
+/// Returns whether a bitmap has a bit for each row.
+pub fn has_bit_for_each<R: Rows>(rows: &R, bitmap: &[u8]) -> bool {
+    Validity::new(bitmap, 0).has_bits(rows.num_rows())
+}
+
+/// Returns the first number whose bit is set. Returns `None` if there is none, or if there are fewer bits than numbers.
 pub fn first_valid(numbers: &[u64], bitmap: &[u8]) -> Option<u64> {
-    let mut valid = ValidItems {
-        items: numbers,
-        validity: Validity::new(bitmap, 0),
-    };
+    let mut valid = ValidItems::new(numbers, Validity::new(bitmap, 0))?;
     valid.next().copied()
 }

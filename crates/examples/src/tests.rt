@@ -94,6 +94,7 @@ use crate::strings::first_field;
 use crate::strings::first_line;
 use crate::strings::first_of_three;
 use crate::strings::first_valid;
+use crate::strings::has_bit_for_each;
 use crate::strings::hashes_of_name;
 use crate::strings::is_pair;
 use crate::strings::is_text;
@@ -177,6 +178,11 @@ fn words_and_lines_are_as_the_docs_say(rt: HostRuntime) {
 fn columns_with_nulls_are_as_the_docs_say(rt: HostRuntime) {
     assert!(rt; number_of_nulls(&[0b101, 0]) == 14);
     assert!(rt; first_valid(&[7, 8, 9], &[0b110]) == Some(8) && first_valid(&[7], &[0]).is_none());
+    assert!(rt; first_valid(&[7, 8, 9], &[]).is_none());
+    assert!(rt;
+        has_bit_for_each(&[7_u64; 8].as_slice(), &[0])
+            && !has_bit_for_each(&[7_u64; 9].as_slice(), &[0])
+    );
 }
 
 #[test]

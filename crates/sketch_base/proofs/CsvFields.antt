@@ -33,7 +33,7 @@ bare_start d x xs unquoted none =
     ap (λ (q : Bool). after_bytes (is_delimiter d) (cond q Quoted (cond (is_delimiter d x) Start Bare)) xs) unquoted
     ∙ ap (λ (b : Bool). after_bytes (is_delimiter d) (cond b Start Bare) xs) none
 
-bare_front : (d : ℕ) (xs : List ℕ) → begins_with_quote xs ≡ false → All (λ x. is_delimiter d x ≡ false) xs → IsOnePart (is_delimiter d) (is_delimiter d) Start xs × (in_quotes (after_bytes (is_delimiter d) Start xs) ≡ false)
+pub bare_front : (d : ℕ) (xs : List ℕ) → begins_with_quote xs ≡ false → All (λ x. is_delimiter d x ≡ false) xs → IsOnePart (is_delimiter d) (is_delimiter d) Start xs × (in_quotes (after_bytes (is_delimiter d) Start xs) ≡ false)
 bare_front d [] unquoted none = (tt, refl)
 bare_front d (x ∷ xs) unquoted none =
     let here : is_delimiter d x ≡ false = All-head (λ y. is_delimiter d y ≡ false) x xs none in

@@ -5,6 +5,8 @@ pub mod Digits
 pub mod Delimited
 pub mod CsvBoth
 pub mod CsvFields
+pub mod CsvReadBack
+pub mod CsvJoined
 pub mod CsvRecords
 pub mod CsvRuns
 pub mod CsvWalk
@@ -12,14 +14,17 @@ pub mod DirectRemainder
 mod FirstWords
 pub mod ItemsOfRecords
 pub mod KeptBytes
+pub mod LastColumns
 pub mod LittleEndian
 mod MapHashing
 mod MarkedWords
 mod Marks
+pub mod MadeItems
 pub mod ManyStrings
 pub mod Murmur3Pieces
 mod PairMarks
 pub mod PartsUtf8
+pub mod ReadBack
 pub mod Rotation
 pub mod Searching
 pub mod Separators

@@ -1,7 +1,7 @@
 -- CSV: records between line feeds, fields between delimiters, and either byte may stand in quotes (RFC 4180, read leniently).
 use Rattle.std.specs.Prelude.{◌≡◌, ℕ, ◌<◌, ◌==◌, ◌||◌, ◌&&◌, Bool, true, false, not, if◌then◌else◌, List, [], ◌∷◌, ◌++◌, length, map, take, drop, slice_index, Option, MatchOption}
 use Rattle.std.specs.Borrow.{Bor}
-use Rattle.std.specs.List.{onto_first}
+use Rattle.std.specs.List.{flat_map, list_any, onto_first}
 use Rattle.std.specs.Str.Lines.{lines_of_parts}
 use Rattle.sketch_base.specs.declared.place.Place.{Place}
 use Rattle.sketch_base.specs.declared.place.Place.TheVariants.{Start, Bare, Quoted, Closed}
@@ -118,10 +118,14 @@ TakesRecord delimiter bytes found =
 
 -- ---- fields
 
+-- the parts between delimiters that are not in quotes
+abbrev pub parts_between : (delimiter : ℕ) → List ℕ → List (List ℕ)
+parts_between delimiter bytes = split_unquoted (λ byte. byte == delimiter) (λ byte. byte == delimiter) Start bytes
+
 -- the fields of a record, with their quotes. A record without bytes has none
 abbrev pub csv_fields : (delimiter : ℕ) → List ℕ → List (List ℕ)
 csv_fields delimiter [] = []
-csv_fields delimiter (x ∷ xs) = split_unquoted (λ byte. byte == delimiter) (λ byte. byte == delimiter) Start (x ∷ xs)
+csv_fields delimiter (x ∷ xs) = parts_between delimiter (x ∷ xs)
 
 -- the index is that of the first delimiter outside of quotes, or the number of bytes
 abbrev pub IsFieldEnd : (delimiter : ℕ) → List ℕ → ℕ → Type 0
@@ -154,3 +158,18 @@ field_at delimiter index row = take 1 (drop index (csv_fields delimiter row))
 -- its text
 abbrev pub field_text : (delimiter index : ℕ) → List ℕ → List (List ℕ)
 field_text delimiter index row = map text_of_field (field_at delimiter index row)
+
+-- ---- the spelling of a text
+
+-- a byte that only a field in quotes may have: the delimiter, a quote, a line feed or a carriage return
+abbrev pub needs_quotes : (delimiter : ℕ) → ℕ → Bool
+needs_quotes delimiter byte = byte == delimiter || byte == quote || byte == 10 || byte == 13
+
+-- a byte in quotes: a quote is doubled
+abbrev pub in_quotes_as : ℕ → List ℕ
+in_quotes_as byte = if byte == quote then quote ∷ quote ∷ [] else byte ∷ []
+
+-- a field that has a text: in quotes exactly if one of its bytes needs them
+abbrev pub spelled : (delimiter : ℕ) → List ℕ → List ℕ
+spelled delimiter text =
+    if list_any (needs_quotes delimiter) text then quote ∷ flat_map in_quotes_as text ++ quote ∷ [] else text

@@ -1,6 +1,7 @@
 pub mod Batches
 pub mod Buffer
 pub mod Checks
+pub mod Columns
 pub mod Csv
 pub mod Decimals
 pub mod Errors

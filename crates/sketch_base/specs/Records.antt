@@ -1,8 +1,9 @@
 -- The records of bytes, which are lines or records of CSV, and their parts.
-use Rattle.std.specs.Prelude.{◌≡◌, ℕ, ◌-◌, ◌<◌, ◌==◌, Bool, false, List, [], ◌∷◌, length, take, drop, Option, MatchOption}
+use Rattle.std.specs.Prelude.{◌≡◌, ℕ, ◌-◌, ◌<◌, ◌==◌, Bool, false, true, List, [], ◌∷◌, length, take, drop, Option, MatchOption}
 use Rattle.std.specs.Borrow.{Bor}
 use Rattle.std.specs.List.{list_any, slice_split}
 use Rattle.std.specs.Str.Lines.{lines}
+use Rattle.sketch_base.specs.Columns.{item_of, records_with}
 use Rattle.sketch_base.specs.Csv.{begins_with_quote, csv_records, field_at, field_text}
 use Rattle.sketch_base.specs.Split.{words_of}
 use Rattle.sketch_base.specs.declared.part.Part.{Part}
@@ -22,16 +23,19 @@ part_of (part.Field field) line = take 1 (drop field.index (slice_split (λ byte
 abbrev pub splits_by : RecordPart → Records
 splits_by (record_part.Line chosen) = records.Lines
 splits_by (record_part.Csv field) = records.Csv field.delimiter
+splits_by (record_part.Columns chosen) = records_with chosen.split
 
--- a part of a record: a part of a line, or the text of a field of CSV. Nothing if the record does not have it
+-- a part of a record: a part of a line, the text of a field of CSV, or an item of columns. Nothing if the record does not have it
 abbrev pub part_in : RecordPart → List ℕ → List (List ℕ)
 part_in (record_part.Line chosen) line = part_of chosen line
 part_in (record_part.Csv field) row = field_text field.delimiter field.index row
+part_in (record_part.Columns chosen) row = item_of chosen row
 
--- whether a part of a record is a field of CSV in quotes
-abbrev pub is_quoted : RecordPart → List ℕ → Bool
-is_quoted (record_part.Line chosen) line = false
-is_quoted (record_part.Csv field) row = list_any begins_with_quote (field_at field.delimiter field.index row)
+-- whether a part of a record may not stand in one piece: a field of CSV in quotes, or columns
+abbrev pub may_be_made : RecordPart → List ℕ → Bool
+may_be_made (record_part.Line chosen) line = false
+may_be_made (record_part.Csv field) row = list_any begins_with_quote (field_at field.delimiter field.index row)
+may_be_made (record_part.Columns chosen) row = true
 
 -- the records of bytes, without their ends
 abbrev pub records_in : Records → List ℕ → List (List ℕ)

@@ -159,7 +159,7 @@ fn first_of_long(bytes: &[u8], separator: Separator) -> (&[u8], ByteWords<'_>)
 
 /// Returns the first word of bytes and the bytes after it. Both are empty if there is no word.
 #[inline(always)]
-fn next_word(bytes: &[u8], separator: Separator) -> (&[u8], &[u8])
+pub(crate) fn next_word(bytes: &[u8], separator: Separator) -> (&[u8], &[u8])
     ensures words { words_by separator bytes.now ≡ with_word result.0.now (words_by separator result.1.now) }
     ensures none { result.0.now ≡ [] → result.1.now ≡ [] }
 {

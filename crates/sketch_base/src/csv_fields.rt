@@ -1,6 +1,7 @@
 //! The fields of a record of CSV.
 ghost use Rattle.std.specs.Prelude.{◌≡◌, ◌==◌, ◌≤◌, ◌++◌, [], ◌∷◌, MatchOption, OnOk, length, take, true};
-ghost use Rattle.sketch_base.specs.Csv.{IsFieldEnd, begins_with_quote, field_at, text_of_field};
+ghost use Rattle.std.specs.List.{flat_map, list_any};
+ghost use Rattle.sketch_base.specs.Csv.{IsFieldEnd, begins_with_quote, field_at, in_quotes_as, needs_quotes, spelled, text_of_field};
 
 use crate::byte_set::{OneByte, first_member};
 use crate::csv_records::first_cut;
@@ -32,7 +33,7 @@ pub fn nth_csv_field(row: &[u8], delimiter: u8, index: u32) -> Option<&[u8]>
 
 /// Returns the index of the first delimiter outside of quotes, or the number of bytes if there is none.
 #[inline(always)]
-fn field_end(bytes: &[u8], delimiter: u8) -> usize
+pub(crate) fn field_end(bytes: &[u8], delimiter: u8) -> usize
     ensures bound { result ≤ length bytes.now }
     ensures end { IsFieldEnd delimiter bytes.now result }
 {
@@ -83,5 +84,68 @@ pub fn append_csv_text(field: &[u8], text: &mut Vec<u8>) -> Result<(), AllocErro
         }
         place = place.after(*byte, false);
     }
+    Ok(())
+}
+
+/// Appends the spelling of the text of a field: in quotes exactly if the text has a delimiter, a quote or a line end.
+pub(crate) fn append_csv_spelling(
+    field: &[u8],
+    delimiter: u8,
+    text: &mut Vec<u8>,
+) -> Result<(), AllocError>
+    ensures { OnOk result (text.new.items ≡ text.old.items ++ spelled delimiter (text_of_field field.now)) }
+{
+    if !has_special_byte(field, delimiter) {
+        return append_csv_text(field, text);
+    }
+    text.push(QUOTE)?;
+    append_in_quotes(field, text)?;
+    text.push(QUOTE)?;
+    Ok(())
+}
+
+/// Returns whether the text of a field has a byte that needs quotes.
+fn has_special_byte(field: &[u8], delimiter: u8) -> bool
+    ensures { result ≡ list_any (needs_quotes delimiter) (text_of_field field.now) }
+{
+    let mut place = Place::Start;
+    'bytes: for byte in field {
+        if place.keeps(*byte) && needs_quotes(*byte, delimiter) {
+            return true;
+        }
+        place = place.after(*byte, false);
+    }
+    false
+}
+
+/// Returns whether only a field in quotes may have this byte.
+fn needs_quotes(byte: u8, delimiter: u8) -> bool
+    ensures { result ≡ needs_quotes delimiter byte }
+{
+    byte == delimiter || byte == QUOTE || byte == b'\n' || byte == b'\r'
+}
+
+/// Appends the text of a field as it stands in quotes: each quote is doubled.
+fn append_in_quotes(field: &[u8], text: &mut Vec<u8>) -> Result<(), AllocError>
+    ensures { OnOk result (text.new.items ≡ text.old.items ++ flat_map in_quotes_as (text_of_field field.now)) }
+{
+    let mut place = Place::Start;
+    'bytes: for byte in field {
+        if place.keeps(*byte) {
+            push_in_quotes(*byte, text)?;
+        }
+        place = place.after(*byte, false);
+    }
+    Ok(())
+}
+
+/// Appends a byte as it stands in quotes.
+fn push_in_quotes(byte: u8, text: &mut Vec<u8>) -> Result<(), AllocError>
+    ensures { OnOk result (text.new.items ≡ text.old.items ++ in_quotes_as byte) }
+{
+    if byte == QUOTE {
+        text.push(QUOTE)?;
+    }
+    text.push(byte)?;
     Ok(())
 }

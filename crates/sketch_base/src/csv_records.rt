@@ -1,5 +1,5 @@
 //! The records of CSV.
-ghost use Rattle.std.specs.Prelude.{◌≡◌, ◌==◌, ◌≤◌, ℕ, true, IfSome, length, take};
+ghost use Rattle.std.specs.Prelude.{◌≡◌, ◌==◌, ◌≤◌, ◌++◌, ℕ, true, IfSome, length, take};
 ghost use Rattle.std.specs.Str.Lines.{strip_carriage_return};
 ghost use Rattle.sketch_base.specs.Csv.{IsBehindLastEnd, IsFirstEnd, IsFirstCut, IsStill, TakesRecord, after_bytes, csv_records, cuts, place_after, raw_csv_records};
 ghost use Rattle.sketch_base.specs.Records.{IsEndOf};
@@ -111,6 +111,7 @@ pub fn finished_csv_records(delimiter: u8, place: Place, bytes: &[u8]) -> (usize
 #[inline(always)]
 pub fn next_csv_record(bytes: &[u8], delimiter: u8) -> Option<(&[u8], &[u8], &[u8])>
     ensures taken { TakesRecord delimiter bytes.now result }
+    ensures whole { IfSome result (λ taken. bytes.now ≡ taken.0.now ++ taken.2.now) }
     ensures end { IfSome result (λ taken. IsEndOf bytes.now taken.2.now) }
 {
     if bytes.is_empty() {

@@ -12,13 +12,14 @@
 //! - [`from_utf8`] returns the string of bytes, fast for short ones.
 //! - An [`Item`] is what a sketch takes: `&T` for each `T` that can be hashed, `&str`, or [`FedBytes`]. [`Items`] are many in order:
 //!   slices, and [`Strings`], which are [`Words`] and [`Lines`] of a string, [`Strs`], [`OffsetStrings`] of one buffer, and
-//!   [`ByteStrings`], and [`FedItems`]. [`ValidItems`] are those of a sequence that are set in a bitmap.
+//!   [`ByteStrings`], and [`FedItems`]. [`ValidItems`] are those of a sequence that are set in a bitmap. [`Rows`] are
+//!   sequences with a known number of rows.
 //! - [`compute_seed_hash`] hashes a seed, and [`check_seed_hash`] compares two such hashes.
 //! - [`SketchSlice`] reads numbers from bytes, and [`SketchBytes`] writes them. Contracts see the bytes that are
 //!   unread, and those that are written.
 //! - [`image`] reads the fields of images at fixed offsets, and has the checks that all images share.
 //! - [`Family`] names a kind of sketch in an image. An [`Error`] has a kind and a [`Fault`], its cause.
-//! - [`laws`] states the values of the constants.
+//! - [`laws`] states the values of the constants, the bytes of items, and that records of CSV concatenate to the text.
 //! - [`copy_short`] copies few bytes without a function call.
 //! - [`Divisor`] computes remainders by a precomputed number without a division.
 //! - [`first_words`] splits a string into an array, and [`nth_word`] returns one of its words. [`nth_word_of_bytes`]
@@ -31,6 +32,7 @@
 mod byte_set;
 mod byte_strings;
 mod byte_words;
+mod columns;
 mod csv_fields;
 mod csv_records;
 mod decimals;
@@ -59,6 +61,7 @@ pub mod records;
 mod rehashable_bytes;
 mod rehashable_item;
 mod rehashable_str;
+mod rows;
 mod seed_hash;
 mod separator;
 mod short_bytes;
@@ -98,6 +101,7 @@ pub use place::Place;
 pub use rehashable_bytes::RehashableBytes;
 pub use rehashable_item::{Rehashable, RehashableItem};
 pub use rehashable_str::RehashableStr;
+pub use rows::Rows;
 pub use seed_hash::{check_seed_hash, compute_seed_hash};
 pub use separator::{Separator, first_separator};
 pub use short_bytes::ShortBytes;

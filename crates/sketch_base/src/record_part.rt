@@ -1,7 +1,8 @@
 //! The parts of records.
 ghost use Rattle.std.specs.Prelude.{◌≡◌, ◌⊎◌, ◌∷◌, [], IfOk, IfSome, MatchOption, true};
-ghost use Rattle.sketch_base.specs.Records.{IsEndOf, TakesRecord, is_quoted, part_in, splits_by};
+ghost use Rattle.sketch_base.specs.Records.{IsEndOf, TakesRecord, may_be_made, part_in, splits_by};
 
+use crate::columns::{Columns, append_item};
 use crate::csv_fields::{append_csv_text, nth_csv_field, plain_csv_text};
 use crate::csv_records::next_csv_record;
 use crate::part::{Part, raw_part_of};
@@ -16,6 +17,8 @@ pub enum RecordPart {
     Line(Part),
     /// The text of a field of a record of CSV.
     Csv(CsvField),
+    /// The item that several columns of a record make, or a column that is counted back from the last.
+    Columns(Columns),
 }
 
 /// A field of a record of CSV. Its index is counted from 0.
@@ -33,6 +36,7 @@ impl RecordPart {
         match self {
             RecordPart::Line(_) => Records::Lines,
             RecordPart::Csv(field) => Records::Csv(field.delimiter),
+            RecordPart::Columns(chosen) => chosen.split().records(),
         }
     }
 }
@@ -43,20 +47,20 @@ pub fn next_record(part: RecordPart, bytes: &[u8]) -> Option<(&[u8], &[u8])>
     ensures taken { TakesRecord part bytes.now result }
     ensures end { IfSome result (λ taken. IsEndOf bytes.now taken.1.now) }
 {
-    match part {
-        RecordPart::Line(_) => next_raw_line(bytes),
-        RecordPart::Csv(field) => match next_csv_record(bytes, field.delimiter) {
+    match part.records() {
+        Records::Lines => next_raw_line(bytes),
+        Records::Csv(delimiter) => match next_csv_record(bytes, delimiter) {
             Some((_, row, after)) => Some((row, after)),
             None => None,
         },
     }
 }
 
-/// Returns a part of a record, or `None` if the record does not have it, or it is a field in quotes whose text does not stand in one piece.
-/// Does not allocate.
+/// Returns a part of a record, or `None` if the record does not have it, or its bytes may not stand in one piece: it is a field in quotes, or
+/// made of columns. Does not allocate.
 #[inline(always)]
 pub fn whole_part_of(part: RecordPart, row: &[u8]) -> Option<&[u8]>
-    ensures { MatchOption result ((part_in part row.now ≡ []) ⊎ (is_quoted part row.now ≡ true)) (λ item. part_in part row.now ≡ item.now ∷ []) }
+    ensures { MatchOption result ((part_in part row.now ≡ []) ⊎ (may_be_made part row.now ≡ true)) (λ item. part_in part row.now ≡ item.now ∷ []) }
 {
     match part {
         RecordPart::Line(part) => raw_part_of(part, row),
@@ -64,6 +68,7 @@ pub fn whole_part_of(part: RecordPart, row: &[u8]) -> Option<&[u8]>
             Some(found) => plain_csv_text(found),
             None => None,
         },
+        RecordPart::Columns(_) => None,
     }
 }
 
@@ -81,6 +86,12 @@ pub fn record_part_of<'a>(
     let field = match part {
         RecordPart::Line(part) => return Ok(raw_part_of(part, row)),
         RecordPart::Csv(field) => field,
+        RecordPart::Columns(chosen) => {
+            if append_item(chosen, row, text)? {
+                return Ok(Some(text.as_slice()));
+            }
+            return Ok(None);
+        }
     };
     let Some(found) = nth_csv_field(row, field.delimiter, field.index) else {
         return Ok(None);

@@ -1,8 +1,9 @@
 //! The valid rows of a column, by a bitmap.
-ghost use Rattle.std.specs.Prelude.{◌≡◌, ◌≤◌, ◌↔◌, ◌⊎◌, true, false, [], ◌∷◌, drop, length, IsTrue, MatchOption};
+ghost use Rattle.std.specs.Prelude.{◌≡◌, ◌≤◌, ◌↔◌, ◌⊎◌, true, false, [], ◌∷◌, drop, length, IfSome, IsSome, IsTrue, MatchOption};
 ghost use Rattle.sketch_base.specs.Validity.{bits_of, valid};
 
 use crate::items::Items;
+use crate::rows::Rows;
 use crate::strings::Strings;
 use std::marker::Model;
 
@@ -127,7 +128,9 @@ impl<'a> Validity<'a> {
     }
 }
 
-/// The valid items of a sequence: those whose bits are set. An item without a bit is left out.
+/// The valid items of a sequence: those whose bits are set.
+///
+/// Each row has a bit: [`new`](Self::new) checks the number of bits, and nothing else outside of this crate creates one.
 ///
 /// # Examples
 ///
@@ -135,17 +138,32 @@ impl<'a> Validity<'a> {
 /// use sketch_base::{Items, ValidItems, Validity};
 ///
 /// fn first_valid(numbers: &[u64], bitmap: &[u8]) -> Option<u64> {
-///     let mut valid = ValidItems {
-///         items: numbers,
-///         validity: Validity::new(bitmap, 0),
-///     };
+///     let mut valid = ValidItems::new(numbers, Validity::new(bitmap, 0))?;
 ///     valid.next().copied()
 /// }
 /// ```
 #[derive(Drop)]
+#[non_exhaustive]
 pub struct ValidItems<'a, I: Drop> {
+    /// The rows that are left.
     pub items: I,
+    /// The bits of these rows. An `impl` of another trait takes a bit with each row.
     pub validity: Validity<'a>,
+}
+
+impl<'a, I: Rows> ValidItems<'a, I> {
+    /// Creates the valid items of a sequence. Returns `None` if there are fewer bits than rows. Does not allocate.
+    ///
+    /// Bits after those of the rows have no effect.
+    pub fn new(items: I, validity: Validity<'a>) -> Option<Self>
+        ensures valid { IfSome result (λ valid. (valid.items ≡ items) × (valid.validity ≡ validity.entry)) }
+        ensures exact { IsSome result ↔ (I.rows items ≤ length validity.entry) }
+    {
+        if !validity.has_bits(items.num_rows()) {
+            return None;
+        }
+        Some(ValidItems { items, validity })
+    }
 }
 
 impl<'a, I: Items> Items for ValidItems<'a, I> {

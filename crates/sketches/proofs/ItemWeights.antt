@@ -22,7 +22,7 @@ use Rattle.sketch_base.specs.Records.{part_in}
 use Rattle.sketches.specs.Unseen.{hashed}
 use Rattle.sketches.specs.WeighFailures.{FailsCounting, FailsLines, FailsTable}
 use Rattle.sketches.specs.declared.failure.Failure.{Failure}
-use Rattle.sketches.specs.declared.item_weigher.WeighedRecord.{WeighedRecord}
+use Rattle.sketches.specs.declared.weighing.WeighedRecord.{WeighedRecord}
 use Rattle.sketches.specs.declared.layout.Style.{Style}
 use Rattle.sketch_base.specs.declared.record_part.RecordPart.{RecordPart}
 

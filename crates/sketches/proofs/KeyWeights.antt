@@ -34,7 +34,7 @@ use Rattle.sketches.specs.declared.failure.BadWeight.{BadWeight as BadWeightValu
 use Rattle.sketches.specs.declared.failure.Failure.{Failure}
 use Rattle.sketches.specs.declared.failure.Failure.TheVariants.{Memory, LineTooLong, TooManyItems, BadSize, BadWeight, Write}
 use Rattle.sketches.specs.declared.item_weigher.ItemWeigher.{ItemWeigher}
-use Rattle.sketches.specs.declared.item_weigher.WeighedRecord.{WeighedRecord}
+use Rattle.sketches.specs.declared.weighing.WeighedRecord.{WeighedRecord}
 use Rattle.sketches.specs.declared.key_weights.KeyWeights.{KeyWeights}
 use Rattle.sketches.specs.declared.layout.Style.{Style}
 use Rattle.sketch_base.specs.declared.record_part.RecordPart.{RecordPart}

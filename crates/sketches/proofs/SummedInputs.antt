@@ -32,7 +32,7 @@ use Rattle.sketches.specs.declared.failure.BadWeight.{BadWeight as BadWeightValu
 use Rattle.sketches.specs.declared.failure.Failure.{Failure}
 use Rattle.sketches.specs.declared.failure.Failure.TheVariants.{Memory, LineTooLong, TooManyItems, BadSize, BadWeight, Write}
 use Rattle.sketches.specs.declared.file_keys.FileKeys.{FileKeys}
-use Rattle.sketches.specs.declared.item_weigher.WeighedRecord.{WeighedRecord}
+use Rattle.sketches.specs.declared.weighing.WeighedRecord.{WeighedRecord}
 use Rattle.sketches.specs.declared.key_sums.KeySums.{KeySums}
 use Rattle.sketches.specs.declared.layout.Style.{Style}
 

@@ -6,7 +6,7 @@ use Rattle.std.proofs.lemmas.List.Concat.{flat_map-append}
 use Rattle.std.proofs.lemmas.List.Sums.{sum_by-cons}
 use Rattle.std.specs.Cmp.Lexicographic.{bytes_decides}
 use Rattle.std.specs.Global.{Global}
-use Rattle.std.specs.List.{flat_map, slice_get}
+use Rattle.std.specs.List.{flat_map}
 use Rattle.std.specs.String.{string_bytes, string_eq}
 use Rattle.std.specs.Prelude.{IsTrue, nat_lt}
 use Rattle.std.specs.Str.Lines.{lines}
@@ -26,12 +26,10 @@ use Rattle.sketches.specs.Added.{Sketch, AddsLine, AddsLines, AddsStrings, AddsW
 use Rattle.sketches.specs.Failures.{FailsAdding, FailsLine, FailsLines, FailsWeighing, IsBadWeight}
 use Rattle.sketches.specs.Faults.{failure_of}
 use Rattle.sketches.specs.Items.{items_of, items_of_raw_line}
-use Rattle.sketch_base.specs.Decimals.{number_in}
-use Rattle.sketch_base.specs.Records.{part_of}
-use Rattle.sketches.specs.Weighed.{Weighed, csv_items, csv_weight, field_weight, line_weight, once, records_of, total_of, unweighed_of, unweighed_of_line, weighed_of, weighed_of_line, with_weight, without_weight}
-use Rattle.sketches.specs.declared.weighing.CsvPart.{CsvPart}
-use Rattle.sketch_base.specs.Csv.{field_at, text_of_field}
-use Rattle.std.specs.Option.{option_and_then}
+use Rattle.sketch_base.specs.Records.{part_in, part_of}
+use Rattle.sketches.specs.Weighed.{Weighed, items_of_record, line_weight, once, records_of, total_of, unweighed_of, unweighed_of_line, weighed_of, weighed_of_line, with_weight, without_weight}
+use Rattle.sketches.specs.Weights.{counted_weight}
+use Rattle.sketches.specs.declared.weighing.WeighedRecord.{WeighedRecord}
 use Rattle.sketches.proofs.AddedItems.{step_equal}
 use Rattle.sketches.specs.WeighingLaws.{weighed_none, weighed_both, weighing_fails_more, weighing_fails_after}
 use Rattle.sketches.specs.declared.failure.Failure.{Failure}
@@ -242,50 +240,42 @@ line_without_weight part old line item (failures.BadWeight found) is none fails 
     omega (arith, ap (λ (l : List (List ℕ)). length l) one)
 line_without_weight part old line item (Write error) is none fails = absurd fails
 
--- ---- one record of CSV
+-- ---- one record
 
-module _ (part : CsvPart) (row field : List ℕ) (is : field_at part.delimiter part.item row ≡ field ∷ []) where
-  csv_item : csv_items part row ≡ utf8_lossy (text_of_field field) ∷ []
-  csv_item = ap (λ (l : List (List ℕ)). map utf8_lossy (map text_of_field l)) is
+module _ (chosen : WeighedRecord) (row item : List ℕ) (is : part_in chosen.item row ≡ item ∷ []) where
+  one_item : items_of_record chosen row ≡ utf8_lossy item ∷ []
+  one_item = ap (map utf8_lossy) is
 
-  module _ (weight : ℕ) (weighs : Some weight ≡ csv_weight part row) where
-    of_row : weighed_of_line (weighing.Csv part) row ≡ with_weight (utf8_lossy (text_of_field field) ∷ []) (Some weight)
-    of_row = ap (λ (l : List (List ℕ)). with_weight l (csv_weight part row)) csv_item ∙ ap (with_weight (utf8_lossy (text_of_field field) ∷ [])) (sym weighs)
+  module _ (weight : ℕ) (weighs : Some weight ≡ counted_weight chosen row) where
+    of_row : weighed_of_line (weighing.Record chosen) row ≡ with_weight (utf8_lossy item ∷ []) (Some weight)
+    of_row = ap (λ (l : List (List ℕ)). with_weight l (counted_weight chosen row)) one_item ∙ ap (with_weight (utf8_lossy item ∷ [])) (sym weighs)
 
-    row_weighed : unweighed_of_line (weighing.Csv part) row ≡ []
-    row_weighed = ap (without_weight (csv_items part row)) (sym weighs)
+    row_weighed : unweighed_of_line (weighing.Record chosen) row ≡ []
+    row_weighed = ap (without_weight (items_of_record chosen row)) (sym weighs)
 
-    pub row_added : (old new : Sketch) → AddsWeighed old (with_weight (utf8_lossy (text_of_field field) ∷ []) (Some weight)) new → AddsLine (weighing.Csv part) old row new
+    pub row_added : (old new : Sketch) → AddsWeighed old (with_weight (utf8_lossy item ∷ []) (Some weight)) new → AddsLine (weighing.Record chosen) old row new
     row_added old new added = (subst (λ (l : Weighed). AddsWeighed old l new) (sym of_row) added, row_weighed)
 
-    pub row_failed : (old : Sketch) (e : Failure) → FailsWeighing old (with_weight (utf8_lossy (text_of_field field) ∷ []) (Some weight)) [] e → FailsLine (weighing.Csv part) old row e
+    pub row_failed : (old : Sketch) (e : Failure) → FailsWeighing old (with_weight (utf8_lossy item ∷ []) (Some weight)) [] e → FailsLine (weighing.Record chosen) old row e
     row_failed old e f =
-        subst (λ (l : List (List ℕ)). FailsWeighing old (weighed_of_line (weighing.Csv part) row) l e) (sym row_weighed)
+        subst (λ (l : List (List ℕ)). FailsWeighing old (weighed_of_line (weighing.Record chosen) row) l e) (sym row_weighed)
         (subst (λ (l : Weighed). FailsWeighing old l [] e) (sym of_row) f)
 
   -- a record has an item and no weight
-  pub row_without_weight : (old : Sketch) (e : Failure) → None ≡ csv_weight part row → IsBadWeight e → FailsLine (weighing.Csv part) old row e
+  pub row_without_weight : (old : Sketch) (e : Failure) → None ≡ counted_weight chosen row → IsBadWeight e → FailsLine (weighing.Record chosen) old row e
   row_without_weight old Memory none fails = tt
   row_without_weight old LineTooLong none fails = absurd fails
   row_without_weight old TooManyItems none fails = absurd fails
   row_without_weight old BadSize none fails = absurd fails
   row_without_weight old (failures.BadWeight found) none fails =
-      let one : unweighed_of_line (weighing.Csv part) row ≡ utf8_lossy (text_of_field field) ∷ [] = ap (without_weight (csv_items part row)) (sym none) ∙ csv_item in
+      let one : unweighed_of_line (weighing.Record chosen) row ≡ utf8_lossy item ∷ [] = ap (without_weight (items_of_record chosen row)) (sym none) ∙ one_item in
       omega (arith, ap (λ (l : List (List ℕ)). length l) one)
   row_without_weight old (Write error) none fails = absurd fails
 
 -- a record has no item
-pub row_without_item : (part : CsvPart) (old : Sketch) (row : List ℕ) → field_at part.delimiter part.item row ≡ [] → AddsLine (weighing.Csv part) old row old
-row_without_item part old row none =
-    let items : csv_items part row ≡ [] = ap (λ (l : List (List ℕ)). map utf8_lossy (map text_of_field l)) none in (
-      subst (λ (l : Weighed). AddsWeighed old l old) (sym (ap (λ (l : List (List ℕ)). with_weight l (csv_weight part row)) items ∙ none_with (csv_weight part row))) (weighed_none old),
-      ap (λ (l : List (List ℕ)). without_weight l (csv_weight part row)) items ∙ none_without (csv_weight part row),
+pub row_without_item : (chosen : WeighedRecord) (old : Sketch) (row : List ℕ) → part_in chosen.item row ≡ [] → AddsLine (weighing.Record chosen) old row old
+row_without_item chosen old row none =
+    let items : items_of_record chosen row ≡ [] = ap (map utf8_lossy) none in (
+      subst (λ (l : Weighed). AddsWeighed old l old) (sym (ap (λ (l : List (List ℕ)). with_weight l (counted_weight chosen row)) items ∙ none_with (counted_weight chosen row))) (weighed_none old),
+      ap (λ (l : List (List ℕ)). without_weight l (counted_weight chosen row)) items ∙ none_without (counted_weight chosen row),
     )
-
--- the weight in a field
-pub field_weighs : (delimiter index : ℕ) (row field text : List ℕ) (weight : Option ℕ) → field_at delimiter index row ≡ field ∷ [] → text ≡ text_of_field field → weight ≡ number_in text → weight ≡ field_weight delimiter (Some index) row
-field_weighs delimiter index row field text weight is same number =
-    number ∙ (ap number_in same ∙ ap (λ (l : List (List ℕ)). option_and_then number_in (slice_get (map text_of_field l) 0)) (sym is))
-
-pub no_field_weighs : (delimiter index : ℕ) (row : List ℕ) → field_at delimiter index row ≡ [] → None ≡ field_weight delimiter (Some index) row
-no_field_weighs delimiter index row none = ap (λ (l : List (List ℕ)). option_and_then number_in (slice_get (map text_of_field l) 0)) (sym none)

@@ -78,6 +78,10 @@ lines_both read more whole =
 
 -- ---- records
 
+pub no_records : (records : Records) → records_in records [] ≡ []
+no_records Lines = refl
+no_records (Csv delimiter) = refl
+
 -- the records of whole records and of the bytes after them
 pub records_both : (records : Records) (read more : List ℕ) → AreWholeRecords records read → records_in records (read ++ more) ≡ records_in records read ++ records_in records more
 records_both Lines read more whole = lines_both read more whole

@@ -17,7 +17,7 @@ use Rattle.sketches.specs.declared.exact_weights.ExactFailure.TheVariants.{Unrea
 use Rattle.sketches.specs.declared.exact_weights.ExactOptions.{ExactOptions}
 use Rattle.sketches.specs.declared.failure.Failure.{Failure}
 use Rattle.sketches.specs.declared.failure.Failure.TheVariants.{Memory, LineTooLong, TooManyItems, BadSize, BadWeight, Write}
-use Rattle.sketches.specs.declared.item_weigher.WeighedRecord.{WeighedRecord}
+use Rattle.sketches.specs.declared.weighing.WeighedRecord.{WeighedRecord}
 use Rattle.sketches.specs.declared.layout.Style.{Style}
 
 -- ---- what is printed

@@ -10,7 +10,7 @@ use Rattle.sketch_countmin.specs.History.{CountHistory, each_updated}
 use Rattle.sketch_countmin.specs.History.CountHistory.{Update}
 use Rattle.sketch_countmin.specs.Stands.{StandsFor}
 use Rattle.sketch_countmin.specs.State.{CountState, IsMinCell}
-use Rattle.sketches.specs.AddingLaws.{records_both}
+use Rattle.sketches.specs.AddingLaws.{no_records, records_both}
 use Rattle.sketches.specs.KeyWeights.{CountsLines, CountsWeighed, Row, WritesEstimates, WritesSomeEstimates, counted, parts_in, row_line, unweighed_line, unweighed_lines, weighed_line, weighed_lines}
 use Rattle.sketches.specs.Outputs.{WritesFront}
 use Rattle.sketches.specs.Reading.{AreWholeRecords}
@@ -22,10 +22,9 @@ use Rattle.sketches.specs.Weighed.{Weighed, total_of}
 use Rattle.sketches.specs.WeighingLaws.{total_both}
 use Rattle.sketches.specs.declared.failure.Failure.{Failure}
 use Rattle.sketches.specs.declared.failure.Failure.TheVariants.{Memory, LineTooLong, TooManyItems, BadSize, BadWeight, Write}
-use Rattle.sketches.specs.declared.item_weigher.WeighedRecord.{WeighedRecord}
+use Rattle.sketches.specs.declared.weighing.WeighedRecord.{WeighedRecord}
 use Rattle.sketches.specs.declared.layout.Style.{Style}
 use Rattle.sketch_base.specs.declared.record_part.RecordPart.{RecordPart}
-use Rattle.sketch_base.specs.declared.record_part.RecordPart.TheVariants as part
 
 updated_both : (h : CountHistory) (xs ys : List (List ℕ × ℤ)) → each_updated h (xs ++ ys) ≡ each_updated (each_updated h xs) ys
 updated_both h [] ys = refl
@@ -63,8 +62,7 @@ fails_after a b xs ys us vs (Write error) s f = f
 -- ---- the items of records
 
 pub records_none : (chosen : RecordPart) → records_by chosen [] ≡ []
-records_none (part.Line chosen) = refl
-records_none (part.Csv field) = refl
+records_none chosen = no_records (splits_by chosen)
 
 module _ (p : WeighedRecord) where
   pub weighed_append : (xs ys : List (List ℕ)) → weighed_lines p (xs ++ ys) ≡ weighed_lines p xs ++ weighed_lines p ys

@@ -2,8 +2,7 @@
 use Rattle.std.specs.Prelude.{◌≡◌, ℕ, ℤ, ◌+◌, ◌<◌, ◌≤◌, ◌==◌, Bool, List, [], ◌++◌, map, All, Option, None, Some, codes, sum_by, pos, if◌then◌else◌}
 use Rattle.std.specs.Fmt.{decimal}
 use Rattle.std.specs.Io.KnownBytes.{Appends}
-use Rattle.std.specs.List.{flat_map, slice_get}
-use Rattle.std.specs.Option.{option_and_then}
+use Rattle.std.specs.List.{flat_map}
 use Rattle.sketch_base.specs.Hashes.{seed_hash}
 use Rattle.sketch_countmin.specs.Buckets.{bucket_of}
 use Rattle.sketch_countmin.specs.History.{each_updated}
@@ -15,26 +14,16 @@ use Rattle.sketches.specs.Inputs.{AreRead}
 use Rattle.sketches.specs.Json.{json_lossy}
 use Rattle.sketches.specs.Outputs.{WritesFront}
 use Rattle.sketches.specs.Reading.{AreFirstRecords, IsReadOf}
-use Rattle.sketch_base.specs.Decimals.{number_in}
 use Rattle.sketch_base.specs.Records.{part_in, records_by, splits_by}
 use Rattle.sketches.specs.TextEscapes.{text_escaped}
 use Rattle.sketches.specs.Unseen.{hashed}
 use Rattle.sketches.specs.Weighed.{Weighed, total_of, weight_of, without_weight}
-use Rattle.sketches.specs.Weights.{taken_weight}
-use Rattle.sketches.specs.declared.item_weigher.WeighedRecord.{WeighedRecord}
+use Rattle.sketches.specs.Weights.{counted_weight}
+use Rattle.sketches.specs.declared.weighing.WeighedRecord.{WeighedRecord}
 use Rattle.sketches.specs.declared.layout.Style.{Style}
 use Rattle.sketches.specs.declared.layout.Style.TheVariants.{Plain, Escaped, Json}
 use Rattle.sketch_base.specs.declared.record_part.RecordPart.{RecordPart}
 use Rattle.sketches.specs.declared.weigh.WeighOptions.{WeighOptions}
-
--- the weight of a record: 1, or the number below 2^64 that a part spells, if the record has this part and it spells one
-abbrev pub weight_on : Option RecordPart → List ℕ → Option ℕ
-weight_on None row = Some 1
-weight_on (Some part) row = option_and_then number_in (slice_get (part_in part row) 0)
-
--- the weight that counts of a record
-abbrev pub counted_weight : WeighedRecord → List ℕ → Option ℕ
-counted_weight chosen row = taken_weight chosen.unweighed (weight_on chosen.weight row)
 
 -- the items with a weight, if there is one
 abbrev pub weigh : List (List ℕ) → Option ℕ → Weighed

@@ -17,7 +17,6 @@ use Rattle.sketch_base.specs.Records.{splits_by}
 use Rattle.sketches.specs.Unseen.{hashed, is_seen, is_written, item_of, unseen_lines, with_items, with_lines}
 use Rattle.sketches.specs.declared.ended_text.RecordForm.{RecordForm}
 use Rattle.sketch_base.specs.declared.record_part.RecordPart.{RecordPart}
-use Rattle.sketch_base.specs.declared.record_part.RecordPart.TheVariants as part
 use Rattle.sketch_base.specs.declared.records.Records.{Records}
 use Rattle.sketch_base.specs.declared.records.Records.TheVariants as records
 
@@ -76,9 +75,12 @@ raw_records_both records.Lines xs ys whole = raw_both xs ys whole
 raw_records_both (records.Csv delimiter) [] ys whole = refl
 raw_records_both (records.Csv delimiter) (x ∷ xs) ys whole = raw_csv_both delimiter (x ∷ xs) ys (whole (omega arith))
 
+no_raws : (split : Records) → raw_records_in split [] ≡ []
+no_raws records.Lines = refl
+no_raws (records.Csv delimiter) = refl
+
 pub raws_none : (chosen : RecordPart) → raws_by chosen [] ≡ []
-raws_none (part.Line chosen) = refl
-raws_none (part.Csv field) = refl
+raws_none chosen = no_raws (splits_by chosen)
 
 -- ---- the filter, and what is written
 

@@ -2,8 +2,7 @@
 use Rattle.std.specs.Prelude.{◌≡◌, ℕ, ◌+◌, ◌-◌, ◌^◌, List, [], ◌∷◌, min, not, if◌then◌else◌}
 use Rattle.std.specs.List.{count_by, list_all}
 use Rattle.std.specs.Str.{is_utf8}
-use Rattle.sketch_base.specs.Csv.{field_text}
-use Rattle.sketch_base.specs.Records.{part_of}
+use Rattle.sketch_base.specs.Records.{part_in, part_of}
 use Rattle.sketches.specs.declared.selection.Selection.{Selection}
 use Rattle.sketches.specs.declared.selection.Selection.TheVariants as selection
 use Rattle.sketches.specs.declared.weighing.Weighing.{Weighing}
@@ -18,7 +17,7 @@ bytes_of_line (selection.Part part) line = part_of part line
 abbrev pub bytes_of : Weighing → List ℕ → List (List ℕ)
 bytes_of (weighing.Once chosen) line = bytes_of_line chosen line
 bytes_of (weighing.Field part) line = part_of part.item line
-bytes_of (weighing.Csv part) row = field_text part.delimiter part.item row
+bytes_of (weighing.Record chosen) row = part_in chosen.item row
 
 -- the number of records with items that are made of bytes that are not UTF-8
 abbrev pub not_utf8_in : Weighing → List (List ℕ) → ℕ

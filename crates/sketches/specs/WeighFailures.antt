@@ -9,7 +9,7 @@ use Rattle.sketches.specs.KeyWeights.{IsTableFor, unweighed_in, unweighed_lines,
 use Rattle.sketches.specs.Weighed.{Weighed, total_of}
 use Rattle.sketches.specs.declared.failure.Failure.{Failure}
 use Rattle.sketches.specs.declared.failure.Failure.TheVariants.{Memory, LineTooLong, TooManyItems, BadSize, BadWeight, Write}
-use Rattle.sketches.specs.declared.item_weigher.WeighedRecord.{WeighedRecord}
+use Rattle.sketches.specs.declared.weighing.WeighedRecord.{WeighedRecord}
 use Rattle.sketches.specs.declared.weigh.WeighOptions.{WeighOptions}
 
 -- while items are added with their weights to a total, the memory is exhausted, the total would exceed `u64::MAX`, or an item has no weight

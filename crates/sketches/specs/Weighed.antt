@@ -1,18 +1,15 @@
 -- The items of records with their weights.
 use Rattle.std.specs.Prelude.{ℕ, nat_lt, List, [], map, sum_by, Option, Some, None, if◌then◌else◌}
-use Rattle.std.specs.List.{flat_map, slice_get}
-use Rattle.std.specs.Option.{option_and_then}
+use Rattle.std.specs.List.{flat_map}
 use Rattle.std.specs.Str.{bytes_eq}
 use Rattle.std.specs.Str.Lossy.{utf8_lossy}
-use Rattle.sketch_base.specs.Csv.{field_text}
 use Rattle.sketches.specs.Items.{items_of_raw_line}
-use Rattle.sketch_base.specs.Decimals.{number_in}
-use Rattle.sketch_base.specs.Records.{part_of, records_in}
-use Rattle.sketches.specs.Weights.{taken_weight, weight_in}
+use Rattle.sketch_base.specs.Records.{part_in, part_of, records_in, splits_by}
+use Rattle.sketches.specs.Weights.{counted_weight, taken_weight, weight_in}
 use Rattle.sketch_base.specs.declared.records.Records.{Records}
 use Rattle.sketch_base.specs.declared.records.Records.TheVariants as records
-use Rattle.sketches.specs.declared.weighing.CsvPart.{CsvPart}
 use Rattle.sketches.specs.declared.weighing.WeighedPart.{WeighedPart}
+use Rattle.sketches.specs.declared.weighing.WeighedRecord.{WeighedRecord}
 use Rattle.sketches.specs.declared.weighing.Weighing.{Weighing}
 use Rattle.sketches.specs.declared.weighing.Weighing.TheVariants as weighing
 
@@ -46,40 +43,31 @@ without_weight items (Some weight) = []
 abbrev pub splits_of : Weighing → Records
 splits_of (weighing.Once chosen) = records.Lines
 splits_of (weighing.Field part) = records.Lines
-splits_of (weighing.Csv part) = records.Csv part.delimiter
+splits_of (weighing.Record chosen) = splits_by chosen.item
 
 -- the records of an input
 abbrev pub records_of : Weighing → List ℕ → List (List ℕ)
 records_of chosen bytes = records_in (splits_of chosen) bytes
 
--- the weight of a record of CSV: 1, or the number below 2^64 that the text of a field spells, if the record has this field and it
--- spells one
-abbrev pub field_weight : (delimiter : ℕ) → Option ℕ → List ℕ → Option ℕ
-field_weight delimiter None row = Some 1
-field_weight delimiter (Some index) row = option_and_then number_in (slice_get (field_text delimiter index row) 0)
-
--- the weight that counts of a record of CSV, and of a line
-abbrev pub csv_weight : CsvPart → List ℕ → Option ℕ
-csv_weight part row = taken_weight part.unweighed (field_weight part.delimiter part.weight row)
-
+-- the weight that counts of a line
 abbrev pub line_weight : WeighedPart → List ℕ → Option ℕ
 line_weight part line = taken_weight part.unweighed (weight_in part.weight line)
 
--- the item of a record of CSV: the text of a field, with U+FFFD for bytes that are not UTF-8, if the record has this field
-abbrev pub csv_items : CsvPart → List ℕ → List (List ℕ)
-csv_items part row = map utf8_lossy (field_text part.delimiter part.item row)
+-- the item of a record, with U+FFFD for bytes that are not UTF-8, if the record has it
+abbrev pub items_of_record : WeighedRecord → List ℕ → List (List ℕ)
+items_of_record chosen row = map utf8_lossy (part_in chosen.item row)
 
 -- the items of a record with their weights. An item of weight 0 is left out
 abbrev pub weighed_of_line : Weighing → List ℕ → Weighed
 weighed_of_line (weighing.Once chosen) line = once (items_of_raw_line chosen line)
 weighed_of_line (weighing.Field part) line = with_weight (part_of part.item (utf8_lossy line)) (line_weight part line)
-weighed_of_line (weighing.Csv part) row = with_weight (csv_items part row) (csv_weight part row)
+weighed_of_line (weighing.Record chosen) row = with_weight (items_of_record chosen row) (counted_weight chosen row)
 
 -- the items of a record that has no weight
 abbrev pub unweighed_of_line : Weighing → List ℕ → List (List ℕ)
 unweighed_of_line (weighing.Once chosen) line = []
 unweighed_of_line (weighing.Field part) line = without_weight (part_of part.item (utf8_lossy line)) (line_weight part line)
-unweighed_of_line (weighing.Csv part) row = without_weight (csv_items part row) (csv_weight part row)
+unweighed_of_line (weighing.Record chosen) row = without_weight (items_of_record chosen row) (counted_weight chosen row)
 
 -- the items of an input with their weights: those of each of its records
 abbrev pub weighed_of : Weighing → List ℕ → Weighed

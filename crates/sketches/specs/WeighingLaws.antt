@@ -12,7 +12,8 @@ use Rattle.sketch_frequencies.specs.History.FrequentHistory.{Update}
 use Rattle.sketch_frequencies.specs.Stands.{StandsFor, KeepsTailBudget}
 use Rattle.sketch_frequencies.specs.WeightedBatches.{StepsEqualWeighed, all_weighed}
 use Rattle.sketches.specs.Added.{Sketch, AddsLines, AddsWeighed}
-use Rattle.sketches.specs.AddingLaws.{records_both}
+use Rattle.sketch_base.specs.Records.{splits_by}
+use Rattle.sketches.specs.AddingLaws.{no_records, records_both}
 use Rattle.sketches.specs.Failures.{FailsLines, FailsWeighing}
 use Rattle.sketches.specs.Reading.{AreWholeRecords}
 use Rattle.sketches.specs.Weighed.{Weighed, records_of, splits_of, total_of, unweighed_of, unweighed_of_line, weighed_of, weighed_of_line}
@@ -76,7 +77,7 @@ weighing_fails_after a b xs ys us vs (Write error) s f = f
 pub lines_added_none : (chosen : Weighing) (a : Sketch) → AddsLines chosen a [] a
 lines_added_none (weighing.Once selection) a = (weighed_none a, refl)
 lines_added_none (weighing.Field part) a = (weighed_none a, refl)
-lines_added_none (weighing.Csv part) a = (weighed_none a, refl)
+lines_added_none (weighing.Record chosen) a = rw (no_records (splits_by chosen.item)) (weighed_none a, refl)
 
 -- the items of whole records and of the bytes after them
 pub weighed_append : (chosen : Weighing) (read more : List ℕ) → AreWholeRecords (splits_of chosen) read → weighed_of chosen (read ++ more) ≡ weighed_of chosen read ++ weighed_of chosen more

@@ -8,9 +8,9 @@ ghost use Rattle.sketches.specs.Failures.{FailsAdding, FailsLines};
 ghost use Rattle.sketches.specs.Items.{items_of, items_of_line, items_of_raw_line};
 ghost use Rattle.sketches.specs.Utf8Lines.{GrowsBy, not_utf8_in};
 
-use crate::csv_items::add_csv_records;
 use crate::failure::Failure;
 use crate::line_sink::LineSink;
+use crate::record_items::add_records;
 use crate::selection::Selection;
 use crate::utf8_lines::str_of;
 use crate::weighed_lines::add_weighed_lines;
@@ -96,10 +96,10 @@ impl LineSink<()> for ItemCounter {
                 &mut self.not_utf8,
                 &mut self.unweighed,
             ),
-            Weighing::Csv(part) => add_csv_records(
+            Weighing::Record(chosen) => add_records(
                 alloc,
                 &mut self.sketch,
-                part,
+                chosen,
                 bytes,
                 &mut self.count,
                 &mut self.not_utf8,

@@ -1,5 +1,4 @@
 //! The header of a file of CSV.
-use crate::csv_options::Column;
 use crate::files::Input;
 use sketch_base::{
     Place, append_csv_text, finished_csv_records, next_csv_record, nth_csv_field, plain_csv_text,
@@ -84,25 +83,19 @@ impl Headed {
         })
     }
 
-    /// Returns the index of a column, or `None` if the header does not have its name.
-    pub fn index_of(&self, alloc: Global, column: Column<'_>) -> Result<Option<u32>, AllocError> {
-        match column {
-            Column::Index(index) => Ok(Some(index)),
-            Column::Name(name) => self.index_of_name(alloc, name),
-        }
-    }
-
-    /// Returns the index of the first field that has this name.
-    fn index_of_name(&self, alloc: Global, name: &str) -> Result<Option<u32>, AllocError> {
+    /// Returns the index of the first field that has this name, or `None` if no field has it. The name is spelled as a field of CSV.
+    pub fn index_of(&self, alloc: Global, name: &str) -> Result<Option<u32>, AllocError> {
         let Some((_, row, _)) = next_csv_record(after(&self.front, self.mark), self.delimiter)
         else {
             return Ok(None);
         };
+        let mut text = Vec::new(alloc);
+        append_csv_text(name.as_bytes(), &mut text)?;
         for index in 0..u32::MAX {
             let Some(field) = nth_csv_field(row, self.delimiter, index) else {
                 return Ok(None);
             };
-            if is_text(alloc, field, name)? {
+            if is_text(alloc, field, &text)? {
                 return Ok(Some(index));
             }
         }
@@ -150,13 +143,13 @@ pub fn line_feeds(bytes: &[u8]) -> u64 {
 }
 
 /// Returns whether a field has a text.
-fn is_text(alloc: Global, field: &[u8], text: &str) -> Result<bool, AllocError> {
+fn is_text(alloc: Global, field: &[u8], text: &[u8]) -> Result<bool, AllocError> {
     match plain_csv_text(field) {
-        Some(plain) => Ok(plain == text.as_bytes()),
+        Some(plain) => Ok(plain == text),
         None => {
             let mut whole = Vec::new(alloc);
             append_csv_text(field, &mut whole)?;
-            Ok(whole.as_slice() == text.as_bytes())
+            Ok(whole.as_slice() == text)
         }
     }
 }

@@ -1,10 +1,10 @@
 //! Options of records and their fields.
-use crate::item_weigher::WeighedRecord;
-use crate::options::{delimiter_of, field_between};
+use crate::columns_option::{BAD_FIELD, ColumnList, part_of};
+use crate::options::delimiter_of;
 use crate::selection::Selection;
-use crate::weighing::{Unweighed, WeighedPart, Weighing};
+use crate::weighing::{Unweighed, WeighedPart, WeighedRecord, Weighing};
 use clap::{Arg, ArgAction, ArgMatches, Command};
-use sketch_base::records::{Part, RecordPart, number_of};
+use sketch_base::records::{Part, RecordPart, Split};
 use std::alloc::{AllocError, Global};
 
 /// The message of a delimiter that is not allowed.
@@ -14,9 +14,9 @@ const BAD_DELIMITER: &str = "the delimiter must be one character of ASCII";
 const BAD_CSV_DELIMITER: &str =
     "the delimiter of CSV must be one character of ASCII, and neither a quote nor a line end";
 
-/// The message of a field that is not allowed.
-const BAD_FIELD: &str =
-    "--field, --weight and --keys-field must be numbers from 1 to 4294967295, or with --csv names";
+/// The message of a weight of several fields.
+const LIST_AS_WEIGHT: &str =
+    "--weight must be one field; with --csv a name with a comma stands in quotes";
 
 /// The message of an option for bad weights that is not allowed.
 const BAD_UNWEIGHED: &str = "--bad-weight must be skip or 0";
@@ -30,21 +30,15 @@ const NO_FIELD: &str = "--csv needs --field, and with --keys also --keys-field";
 /// The message of a name without a header.
 const NO_NAMES: &str = "--no-csv-header needs numbers of fields";
 
-/// A field of CSV: an index, counted from 0, or a name in the header.
-#[derive(Clone, Copy)]
-pub enum Column<'a> {
-    Index(u32),
-    Name(&'a str),
-}
-
 /// How the files of a run are read as CSV.
 #[derive(Clone, Copy)]
 pub struct CsvOptions<'a> {
     pub delimiter: u8,
     /// Whether the first record of each file is a header.
     pub header: bool,
-    pub item: Column<'a>,
-    pub weight: Option<Column<'a>>,
+    pub item: ColumnList<'a>,
+    /// One column, if any.
+    pub weight: Option<ColumnList<'a>>,
     /// What is done with a record that has an item and no weight.
     pub unweighed: Unweighed,
 }
@@ -58,8 +52,9 @@ pub fn with_fields<'a>(alloc: Global, command: Command<'a>) -> Result<Command<'a
                     .short('f')
                     .long("field")
                     .value_name("N")
+                    .allow_hyphen_values(true)
                     .help(
-                        "Takes field N of each line, between runs of white space; with --csv N may be a name",
+                        "Takes field N of each line, between runs of white space; -1 is the last, and 1,7 are two; with --csv N may be a name",
                     ),
             )?
             .arg(
@@ -92,8 +87,9 @@ pub fn with_weight<'a>(alloc: Global, command: Command<'a>) -> Result<Command<'a
             .short('w')
             .long("weight")
             .value_name("N")
+            .allow_hyphen_values(true)
             .help(
-                "Weighs the item of each line by the whole number in field N; with --csv N may be a name",
+                "Weighs the item of each line by the whole number in field N; -1 is the last; with --csv N may be a name",
             ),
     )?)
 }
@@ -141,15 +137,15 @@ pub fn csv_options<'a>(
     let Some(delimiter) = csv_delimiter_of(matches.get_str("delimiter")) else {
         return Err(BAD_CSV_DELIMITER);
     };
-    let Some(item) = column_at(matches, item)? else {
+    let Some(item) = list_at(matches, item)? else {
         return Err(NO_FIELD);
     };
     let weight = match weight {
-        Some(weight) => column_at(matches, weight)?,
+        Some(weight) => single_at(matches, weight)?,
         None => None,
     };
     let header = !matches.get_flag("no-csv-header");
-    if !header && (is_name(Some(item)) || is_name(weight)) {
+    if !header && (item.has_name() || has_name(weight)) {
         return Err(NO_NAMES);
     }
     Ok(Some(CsvOptions {
@@ -161,22 +157,36 @@ pub fn csv_options<'a>(
     }))
 }
 
-/// Returns the column that an option chooses, if any.
-fn column_at<'a>(matches: &ArgMatches<'a>, name: &str) -> Result<Option<Column<'a>>, &'static str> {
-    let Some(text) = matches.get_str(name) else {
-        return Ok(None);
-    };
-    match column_of(text) {
-        Some(column) => Ok(Some(column)),
-        None => Err(BAD_FIELD),
+/// Returns the columns that an option chooses, if any.
+fn list_at<'a>(
+    matches: &ArgMatches<'a>,
+    name: &str,
+) -> Result<Option<ColumnList<'a>>, &'static str> {
+    match matches.get_str(name) {
+        Some(text) => match ColumnList::read(text) {
+            Ok(list) => Ok(Some(list)),
+            Err(message) => Err(message),
+        },
+        None => Ok(None),
+    }
+}
+
+/// Returns the only column that an option chooses, if any.
+fn single_at<'a>(
+    matches: &ArgMatches<'a>,
+    name: &str,
+) -> Result<Option<ColumnList<'a>>, &'static str> {
+    match list_at(matches, name) {
+        Ok(Some(list)) if list.has_nth(1) => Err(LIST_AS_WEIGHT),
+        other => other,
     }
 }
 
 /// Returns whether a column is named.
-fn is_name(column: Option<Column<'_>>) -> bool {
-    match column {
-        Some(Column::Name(_)) => true,
-        _ => false,
+fn has_name(list: Option<ColumnList<'_>>) -> bool {
+    match list {
+        Some(list) => list.has_name(),
+        None => false,
     }
 }
 
@@ -191,56 +201,25 @@ fn csv_delimiter_of(text: Option<&str>) -> Option<u8> {
     }
 }
 
-/// Returns the column that a text names: digits are a number, counted from 1. Returns `None` if the number is not allowed.
-fn column_of(text: &str) -> Option<Column<'_>> {
-    if text.is_empty() || !is_number(text) {
-        return Some(Column::Name(text));
-    }
-    index_of(text).map(|index| Column::Index(index))
-}
-
-/// Returns whether each byte is a digit.
-fn is_number(text: &str) -> bool {
-    for byte in text.as_bytes() {
-        if !byte.is_ascii_digit() {
-            return false;
-        }
-    }
-    true
-}
-
-/// Returns the index of a field, counted from 0, whose number a text spells. Returns `None` if it spells no number from 1 to `u32::MAX`.
-fn index_of(text: &str) -> Option<u32> {
-    let number = number_of(text.as_bytes())?;
-    if number == 0 || number > u64::from(u32::MAX) {
-        return None;
-    }
-    Some(number as u32 - 1)
-}
-
 /// Returns the items of a line and their weights, as the options choose.
 ///
 /// # Errors
 ///
 /// Returns a message if the options are wrong.
 pub fn weighing_of(matches: &ArgMatches<'_>) -> Result<Weighing, &'static str> {
-    if has_lone_delimiter(matches) {
-        return Err(LONE_DELIMITER);
+    let chosen = weighed_line(matches)?;
+    if matches.get_flag("words") {
+        return Ok(Weighing::Once(Selection::Words));
     }
-    let item = line_part(matches, "field")?;
-    if matches.get_str("weight").is_none() {
-        return Ok(Weighing::Once(if matches.get_flag("words") {
-            Selection::Words
-        } else {
-            Selection::Part(item)
-        }));
-    }
-    let weight = line_part(matches, "weight")?;
-    Ok(Weighing::Field(WeighedPart {
-        item,
-        weight,
-        unweighed: unweighed_of(matches)?,
-    }))
+    Ok(match (chosen.item, chosen.weight) {
+        (RecordPart::Line(item), None) => Weighing::Once(Selection::Part(item)),
+        (RecordPart::Line(item), Some(RecordPart::Line(weight))) => Weighing::Field(WeighedPart {
+            item,
+            weight,
+            unweighed: chosen.unweighed,
+        }),
+        _ => Weighing::Record(chosen),
+    })
 }
 
 /// Returns the part of a line that is its item and the part with its weight, as the options choose.
@@ -253,12 +232,12 @@ pub fn weighed_line(matches: &ArgMatches<'_>) -> Result<WeighedRecord, &'static 
         return Err(LONE_DELIMITER);
     }
     let item = line_part(matches, "field")?;
-    let weight = match matches.get_str("weight") {
-        Some(_) => Some(RecordPart::Line(line_part(matches, "weight")?)),
+    let weight = match single_at(matches, "weight")? {
+        Some(list) => Some(part_of_line(matches, list)?),
         None => None,
     };
     Ok(WeighedRecord {
-        item: RecordPart::Line(item),
+        item,
         weight,
         unweighed: unweighed_of(matches)?,
     })
@@ -277,18 +256,31 @@ fn has_lone_delimiter(matches: &ArgMatches<'_>) -> bool {
 /// # Errors
 ///
 /// Returns a message if the option is wrong.
-pub fn line_part(matches: &ArgMatches<'_>, name: &str) -> Result<Part, &'static str> {
-    let Some(text) = matches.get_str(name) else {
-        return Ok(Part::Line);
+pub fn line_part(matches: &ArgMatches<'_>, name: &str) -> Result<RecordPart, &'static str> {
+    match list_at(matches, name)? {
+        Some(list) => part_of_line(matches, list),
+        None => Ok(RecordPart::Line(Part::Line)),
+    }
+}
+
+/// Returns the part of a line that has these columns.
+///
+/// # Errors
+///
+/// Returns a message if the delimiter is wrong or a column is named.
+fn part_of_line(
+    matches: &ArgMatches<'_>,
+    list: ColumnList<'_>,
+) -> Result<RecordPart, &'static str> {
+    let split = match matches.get_str("delimiter") {
+        None => Split::Words,
+        Some(text) => match delimiter_of(text) {
+            Some(delimiter) => Split::Fields(delimiter),
+            None => return Err(BAD_DELIMITER),
+        },
     };
-    let Some(index) = index_of(text) else {
-        return Err(BAD_FIELD);
-    };
-    let Some(delimiter) = matches.get_str("delimiter") else {
-        return Ok(Part::Word(index));
-    };
-    match field_between(delimiter, index) {
-        Some(field) => Ok(Part::Field(field)),
-        None => Err(BAD_DELIMITER),
+    match list.columns(split) {
+        Some(columns) => Ok(part_of(columns)),
+        None => Err(BAD_FIELD),
     }
 }

@@ -1,14 +1,16 @@
 //! The files of a run.
 ghost use Rattle.sketches.specs.Inputs.{OpensNext};
 
+use crate::columns_option::{Chosen, ColumnList, part_of, with_column};
 use crate::csv_header::{AfterHeader, Headed};
-use crate::csv_options::{Column, CsvOptions};
+use crate::csv_options::CsvOptions;
 use crate::file_sizes::size_of_file;
 use crate::inputs::Inputs;
 use crate::line_source::LineSource;
 use crate::progress::Progress;
-use crate::weighing::CsvPart;
+use crate::weighing::WeighedRecord;
 use crate::words::{is_marked, shown};
+use sketch_base::records::{Column, Columns, CsvField, RecordPart, Split};
 use std::alloc::AllocError;
 use std::fs::File;
 use std::io;
@@ -71,9 +73,11 @@ impl<'r> LineSource for Opened<'r> {
 
 /// The columns of CSV that are read of each file.
 #[derive(Clone, Copy)]
-struct Columns<'a> {
+struct HeaderColumns<'a> {
     options: CsvOptions<'a>,
-    part: CsvPart,
+    item: Columns,
+    weight: Option<Columns>,
+    /// The maximum number of bytes of a header.
     limit: usize,
 }
 
@@ -93,7 +97,7 @@ pub struct Files<'r, 's, 'n> {
     failed: bool,
     done: bool,
     /// The columns, if CSV is read.
-    columns: Option<Columns<'n>>,
+    columns: Option<HeaderColumns<'n>>,
     /// The first file, if it was opened for its header.
     first: Option<AfterHeader>,
     /// How many lines the header of the file has that was opened last.
@@ -137,27 +141,16 @@ impl<'r, 's, 'n> Files<'r, 's, 'n> {
     /// them. Names are those of the first file that can be read. Returns `None` after a message if it does not have them.
     ///
     /// `limit` is the maximum number of bytes of a header.
-    pub fn columns(&mut self, options: CsvOptions<'n>, limit: usize) -> Option<CsvPart> {
-        let part = match self.first_header(options, limit)? {
-            FirstHeader::Read(headed, input) => {
-                let part = self.part_of(&headed, options);
-                self.header_lines = headed.lines();
-                self.first = Some(headed.into_rest(input));
-                part?
-            }
-            FirstHeader::NoFile => CsvPart {
-                delimiter: options.delimiter,
-                item: 0,
-                weight: None,
-                unweighed: options.unweighed,
-            },
+    pub fn columns(&mut self, options: CsvOptions<'n>, limit: usize) -> Option<WeighedRecord> {
+        let (headed, input) = match self.first_header(options, limit)? {
+            FirstHeader::Read(headed, input) => (headed, input),
+            FirstHeader::NoFile => return Some(record_of_no_file(options)),
         };
-        self.columns = Some(Columns {
-            options,
-            part,
-            limit,
-        });
-        Some(part)
+        let columns = self.header_columns(&headed, options, limit);
+        self.header_lines = headed.lines();
+        self.first = Some(headed.into_rest(input));
+        self.columns = columns;
+        columns.map(weighed_by)
     }
 
     /// Returns the byte order mark and the header of the first file that can be read, if CSV is read and no record was. Returns no bytes
@@ -192,27 +185,54 @@ impl<'r, 's, 'n> Files<'r, 's, 'n> {
         Some(FirstHeader::NoFile)
     }
 
-    /// Returns the fields of a header that the options choose. Returns `None` after a message if it does not have a name.
-    fn part_of(&mut self, headed: &Headed, options: CsvOptions<'n>) -> Option<CsvPart> {
-        let item = self.column(headed, options.item)?;
+    /// Returns the columns of a header that the options choose. Returns `None` after a message if it does not have a name.
+    fn header_columns(
+        &mut self,
+        headed: &Headed,
+        options: CsvOptions<'n>,
+        limit: usize,
+    ) -> Option<HeaderColumns<'n>> {
+        let split = Split::Csv(options.delimiter);
+        let item = self.columns_of(headed, split, options.item)?;
         let weight = match options.weight {
-            Some(column) => Some(self.column(headed, column)?),
+            Some(list) => Some(self.columns_of(headed, split, list)?),
             None => None,
         };
-        Some(CsvPart {
-            delimiter: options.delimiter,
+        Some(HeaderColumns {
+            options,
             item,
             weight,
-            unweighed: options.unweighed,
+            limit,
         })
     }
 
-    /// Returns the index of a column. Returns `None` after a message if the header does not have its name.
-    fn column(&mut self, headed: &Headed, column: Column<'n>) -> Option<u32> {
-        match headed.index_of(self.rt.alloc(), column) {
+    /// Returns the columns of a header that a list chooses. Returns `None` after a message if it does not have a name.
+    fn columns_of(
+        &mut self,
+        headed: &Headed,
+        split: Split,
+        list: ColumnList<'n>,
+    ) -> Option<Columns> {
+        let mut columns = None;
+        for index in 0..u32::MAX {
+            let Some(chosen) = list.nth(index) else {
+                break;
+            };
+            let column = match chosen {
+                Chosen::Column(column) => column,
+                Chosen::Name(name) => Column::FromFirst(self.index_of(headed, name)?),
+            };
+            columns = Some(with_column(columns, split, column));
+        }
+        columns
+    }
+
+    /// Returns the index of the field that has a name. Returns `None` after a message if the header does not have it.
+    fn index_of(&mut self, headed: &Headed, name: &'n str) -> Option<u32> {
+        match headed.index_of(self.rt.alloc(), name) {
             Ok(Some(index)) => Some(index),
             Ok(None) => {
-                self.reject(column);
+                self.reject(name);
                 None
             }
             Err(_) => {
@@ -222,30 +242,46 @@ impl<'r, 's, 'n> Files<'r, 's, 'n> {
         }
     }
 
-    /// Reports that the file that was opened last does not have a column.
-    fn reject(&mut self, column: Column<'n>) {
+    /// Reports that the file that was opened last does not have a column of this name.
+    fn reject(&mut self, name: &'n str) {
         self.failed = true;
         let _ = eprintln!(self.rt;
             "sketches: {}: no column '{}'",
             shown(self.current()),
-            shown(name_of(column))
+            shown(name)
         );
     }
 
-    /// Returns whether a header has the columns in the same fields as that of the first file. Reports if it does not.
-    fn has_columns(&mut self, headed: &Headed, columns: Columns<'n>) -> bool {
-        if !self.has_column(headed, columns.options.item, columns.part.item) {
+    /// Returns whether a header has the named columns in the same fields as that of the first file. Reports if it does not.
+    fn has_columns(&mut self, headed: &Headed, columns: HeaderColumns<'n>) -> bool {
+        if !self.has_list(headed, columns.options.item, &columns.item) {
             return false;
         }
-        match (columns.options.weight, columns.part.weight) {
-            (Some(weight), Some(index)) => self.has_column(headed, weight, index),
+        match (columns.options.weight, columns.weight) {
+            (Some(list), Some(weight)) => self.has_list(headed, list, &weight),
             _ => true,
         }
     }
 
-    /// Returns whether a header has a column in a field. Reports if it does not.
-    fn has_column(&mut self, headed: &Headed, column: Column<'n>, index: u32) -> bool {
-        let Some(found) = self.column(headed, column) else {
+    /// Returns whether a header has the named columns of a list in the same fields. Reports if it does not.
+    fn has_list(&mut self, headed: &Headed, list: ColumnList<'n>, columns: &Columns) -> bool {
+        for index in 0..u32::MAX {
+            match (list.nth(index), columns.get(index as usize)) {
+                (Some(Chosen::Name(name)), Some(Column::FromFirst(field))) => {
+                    if !self.has_name(headed, name, field) {
+                        return false;
+                    }
+                }
+                (Some(_), _) => {}
+                (None, _) => break,
+            }
+        }
+        true
+    }
+
+    /// Returns whether a header has a name in the field of this index. Reports if it does not.
+    fn has_name(&mut self, headed: &Headed, name: &'n str, index: u32) -> bool {
+        let Some(found) = self.index_of(headed, name) else {
             return false;
         };
         if found != index {
@@ -253,7 +289,7 @@ impl<'r, 's, 'n> Files<'r, 's, 'n> {
             let _ = eprintln!(self.rt;
                 "sketches: {}: column '{}' is field {}, and was field {} before",
                 shown(self.current()),
-                shown(name_of(column)),
+                shown(name),
                 u64::from(found) + 1,
                 u64::from(index) + 1
             );
@@ -333,11 +369,24 @@ fn open_headed(
     Ok((headed, input))
 }
 
-/// Returns the name of a column, or no bytes if it is not named.
-fn name_of<'a>(column: Column<'a>) -> &'a str {
-    match column {
-        Column::Index(_) => "",
-        Column::Name(name) => name,
+/// Returns the parts of records that columns are.
+fn weighed_by(columns: HeaderColumns<'_>) -> WeighedRecord {
+    WeighedRecord {
+        item: part_of(columns.item),
+        weight: columns.weight.map(part_of),
+        unweighed: columns.options.unweighed,
+    }
+}
+
+/// Returns parts of records that no file has.
+fn record_of_no_file(options: CsvOptions<'_>) -> WeighedRecord {
+    WeighedRecord {
+        item: RecordPart::Csv(CsvField {
+            delimiter: options.delimiter,
+            index: 0,
+        }),
+        weight: None,
+        unweighed: options.unweighed,
     }
 }
 

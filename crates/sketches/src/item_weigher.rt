@@ -1,30 +1,22 @@
 //! Adds the items of records with their weights to a Count-Min sketch.
 ghost use Rattle.std.specs.Prelude.{◌≡◌, [], ◌∷◌, IfErr, IfOk, OnOk};
-ghost use Rattle.sketches.specs.KeyWeights.{CountsLines, CountsWeighed, counted_weight, unweighed_line, weight_on, weighed_line};
+ghost use Rattle.sketches.specs.KeyWeights.{CountsLines, CountsWeighed, unweighed_line, weighed_line};
 ghost use Rattle.sketch_base.specs.Records.{records_by};
 ghost use Rattle.sketches.specs.Failures.{IsBadWeight};
 ghost use Rattle.sketches.specs.WeighFailures.{FailsCounting, FailsLines};
+ghost use Rattle.sketches.specs.Weights.{counted_weight, weight_on};
 
 use crate::csv_header::line_feeds;
 use crate::failure::Failure;
 use crate::line_sink::LineSink;
 use crate::raw_item::RawItem;
 use crate::weighed_lines::bad_field;
-use crate::weighing::Unweighed;
+use crate::weighing::WeighedRecord;
 use crate::weights::taken_weight;
 use sketch_base::from_utf8;
 use sketch_base::records::{RecordPart, Records, next_record, number_of, record_part_of};
 use sketch_countmin::CountMinSketch;
 use std::alloc::{AllocError, Global};
-
-/// The part of a record that is its item, and the part with its weight. The weight is 1 if no part has it.
-#[derive(Clone, Copy)]
-pub struct WeighedRecord {
-    pub item: RecordPart,
-    pub weight: Option<RecordPart>,
-    /// What is done with a record that has an item and no weight.
-    pub unweighed: Unweighed,
-}
 
 /// Adds the items of the records that it takes, with their weights.
 #[derive(Drop)]
@@ -40,7 +32,7 @@ pub struct ItemWeigher {
 impl LineSink<()> for ItemWeigher {
     ghost use Rattle.std.proofs.Common.{ap};
     ghost use Rattle.sketch_base.specs.Records.{splits_by};
-    ghost use Rattle.sketches.specs.declared.item_weigher.WeighedRecord.{WeighedRecord};
+    ghost use Rattle.sketches.specs.declared.weighing.WeighedRecord.{WeighedRecord};
     ghost use Rattle.sketches.specs.KeyWeightLaws.{counts_none, counts_both, counts_sooner, counts_later};
 
     ghost splits = { λ s. splits_by s.chosen.item };
@@ -112,9 +104,9 @@ fn add_lines(
 
 /// Returns the number of lines of the first record of bytes, of which others are left after it.
 pub fn lines_between(part: RecordPart, bytes: &[u8], after: &[u8]) -> u64 {
-    match part {
-        RecordPart::Line(_) => 1,
-        RecordPart::Csv(_) => {
+    match part.records() {
+        Records::Lines => 1,
+        Records::Csv(_) => {
             let len = bytes.len().saturating_sub(after.len());
             line_feeds(bytes.get(..len).unwrap_or(bytes))
         }

@@ -7,8 +7,9 @@ ghost use Rattle.sketches.specs.WeighFailures.{FailsCounting, FailsLines};
 
 use crate::failure::Failure;
 use crate::file_keys::KeyMap;
-use crate::item_weigher::{WeighedRecord, bad_weight, counted_weight, lines_between};
+use crate::item_weigher::{bad_weight, counted_weight, lines_between};
 use crate::line_sink::LineSink;
+use crate::weighing::WeighedRecord;
 use sketch_base::records::{Records, next_record, record_part_of};
 use std::alloc::Global;
 
@@ -27,7 +28,7 @@ pub struct KeySums {
 impl LineSink<()> for KeySums {
     ghost use Rattle.std.proofs.Common.{ap};
     ghost use Rattle.sketch_base.specs.Records.{splits_by};
-    ghost use Rattle.sketches.specs.declared.item_weigher.WeighedRecord.{WeighedRecord};
+    ghost use Rattle.sketches.specs.declared.weighing.WeighedRecord.{WeighedRecord};
     ghost use Rattle.sketches.specs.KeyWeightLaws.{counts_sooner, counts_later};
     ghost use Rattle.sketches.specs.KeySumLaws.{sums_none, sums_both};
 

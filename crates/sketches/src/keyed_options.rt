@@ -2,7 +2,6 @@
 use crate::csv_options::{csv_options, line_part};
 use crate::files::{Files, Opened};
 use crate::inputs::Inputs;
-use crate::record_options::record_at;
 use crate::{ERROR, fail, max_line_of};
 use clap::{Arg, ArgMatches, Command};
 use sketch_base::records::RecordPart;
@@ -24,6 +23,7 @@ pub fn with_keys<'a>(alloc: Global, command: Command<'a>) -> Result<Command<'a>,
                 Arg::new(alloc, "keys-field")
                     .long("keys-field")
                     .value_name("N")
+                    .allow_hyphen_values(true)
                     .help(
                         "Takes field N of each line of keys, as -f does; with --csv N may be a name in their header",
                     ),
@@ -42,11 +42,11 @@ pub fn open_keys<'r, 'n>(
     let mut files = Files::new(rt, names.as_slice());
     let part = match csv_options(matches, "keys-field", None) {
         Ok(Some(csv)) => match files.columns(csv, max_line_of(matches) as usize) {
-            Some(part) => record_at(part.delimiter, part.item),
+            Some(chosen) => chosen.item,
             None => return Err(ERROR),
         },
         Ok(None) => match line_part(matches, "keys-field") {
-            Ok(part) => RecordPart::Line(part),
+            Ok(part) => part,
             Err(message) => return Err(fail(rt, message)),
         },
         Err(message) => return Err(fail(rt, message)),

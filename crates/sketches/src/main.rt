@@ -17,9 +17,9 @@
 
 mod batch_sink;
 mod batches;
+mod columns_option;
 mod counting;
 mod csv_header;
-mod csv_items;
 mod csv_options;
 mod ended_text;
 mod exact_weights;
@@ -63,6 +63,7 @@ mod progress;
 mod raw_item;
 mod raw_lines;
 mod reading;
+mod record_items;
 mod record_options;
 mod records;
 mod report;
@@ -198,7 +199,7 @@ fn run_top(rt: &HostRuntime, matches: &ArgMatches<'_>) -> u8 {
     files.show_progress(matches.get_flag("progress"));
     let weighing = match csv {
         Some(csv) => match files.columns(csv, max_line_of(matches) as usize) {
-            Some(part) => Weighing::Csv(part),
+            Some(chosen) => Weighing::Record(chosen),
             None => return ERROR,
         },
         None => match weighing_of(matches) {

@@ -10,7 +10,6 @@ use crate::shared_options::{above, escape, exact, json, key, no_header, rows, sa
 use crate::table_size::size_for;
 use crate::weigh_options::weigh_command;
 use clap::{Arg, ArgAction, ArgMatches, Command, value_parser};
-use sketch_base::records::Field;
 use std::alloc::{AllocError, Global};
 
 /// The message of an error that is not allowed.
@@ -145,15 +144,6 @@ pub fn size_of(matches: &ArgMatches<'_>) -> Option<usize> {
         return Some(matches.get_one::<u32>("size").unwrap_or(0) as usize);
     };
     size_for(percent_of(text)?).ok()
-}
-
-/// Returns the field of an index between delimiters, or `None` if the delimiter is not one character of ASCII.
-pub fn field_between(delimiter: &str, index: u32) -> Option<Field> {
-    let byte = delimiter_of(delimiter)?;
-    Some(Field {
-        delimiter: byte,
-        index,
-    })
 }
 
 /// Returns the byte of a delimiter, for which `\t` stands for a tab, or `None` if it is not one character of ASCII.

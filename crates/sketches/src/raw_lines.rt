@@ -1,5 +1,5 @@
 //! Lines of bytes that may not be UTF-8.
-ghost use Rattle.std.specs.Prelude.{◌≡◌};
+ghost use Rattle.std.specs.Prelude.{◌≡◌, ◌++◌, IfSome};
 ghost use Rattle.std.specs.Str.Lines.{strip_carriage_return};
 ghost use Rattle.sketches.specs.RawLines.{TakesRawLine};
 
@@ -8,10 +8,12 @@ use sketch_base::{Separator, first_separator};
 /// Returns the first line of bytes with its end, the same line without it, and the bytes after it. Returns `None` if there are no
 /// bytes.
 ///
-/// The end is the line feed and a carriage return before it. The last line may have no end.
+/// The end is the line feed and a carriage return before it. The last line may have no end. So the lines with their ends, one after
+/// another, are the bytes.
 #[inline(always)]
 pub fn next_line_with_end(bytes: &[u8]) -> Option<(&[u8], &[u8], &[u8])>
-    ensures { TakesRawLine bytes.now result }
+    ensures taken { TakesRawLine bytes.now result }
+    ensures whole { IfSome result (λ taken. bytes.now ≡ taken.0.now ++ taken.2.now) }
 {
     if bytes.is_empty() {
         return None;

@@ -1,10 +1,9 @@
 //! The parts of records that options choose.
 use crate::csv_options::{csv_options, weighed_line};
 use crate::files::Files;
-use crate::item_weigher::WeighedRecord;
+use crate::weighing::WeighedRecord;
 use crate::{ERROR, fail, max_line_of};
 use clap::ArgMatches;
-use sketch_base::records::{CsvField, RecordPart};
 
 /// Returns the part of a record of files that is its item and the part with its weight, as the options choose. With names of CSV,
 /// reads the header of the first file. Returns the status after a message if the options are wrong or do not fit the file.
@@ -15,11 +14,7 @@ pub fn weighed_record<'n>(
 ) -> Result<WeighedRecord, u8> {
     match csv_options(matches, "field", Some("weight")) {
         Ok(Some(csv)) => match files.columns(csv, max_line_of(matches) as usize) {
-            Some(part) => Ok(WeighedRecord {
-                item: record_at(part.delimiter, part.item),
-                weight: part.weight.map(|index| record_at(part.delimiter, index)),
-                unweighed: part.unweighed,
-            }),
+            Some(chosen) => Ok(chosen),
             None => Err(ERROR),
         },
         Ok(None) => match weighed_line(matches) {
@@ -28,9 +23,4 @@ pub fn weighed_record<'n>(
         },
         Err(message) => Err(fail(rt, message)),
     }
-}
-
-/// Returns the field of an index of records of CSV.
-pub fn record_at(delimiter: u8, index: u32) -> RecordPart {
-    RecordPart::Csv(CsvField { delimiter, index })
 }

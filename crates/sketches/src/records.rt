@@ -1,5 +1,5 @@
 //! Where inputs can be split into records.
-ghost use Rattle.std.specs.Prelude.{◌≡◌, ◌≤◌, length};
+ghost use Rattle.std.specs.Prelude.{◌≡◌, ◌≤◌, ◌++◌, IfSome, length};
 ghost use Rattle.sketches.specs.RecordParts.{TakesRawRecord};
 ghost use Rattle.sketches.specs.Reading.{IsBehindEnd, place_of};
 
@@ -25,14 +25,16 @@ pub fn finished_records(records: Records, place: Place, bytes: &[u8]) -> (usize,
 /// Returns the first record of bytes with its end, the same record without it, and the bytes after it. Returns `None` if there are no
 /// bytes.
 ///
-/// The end is the line feed and a carriage return before it. The last record may have no end.
+/// The end is the line feed and a carriage return before it. The last record may have no end. So the records with their ends, one
+/// after another, are the bytes.
 #[inline(always)]
 pub fn next_record_with_end(part: RecordPart, bytes: &[u8]) -> Option<(&[u8], &[u8], &[u8])>
-    ensures { TakesRawRecord part bytes.now result }
+    ensures taken { TakesRawRecord part bytes.now result }
+    ensures whole { IfSome result (λ taken. bytes.now ≡ taken.0.now ++ taken.2.now) }
 {
-    match part {
-        RecordPart::Line(_) => next_line_with_end(bytes),
-        RecordPart::Csv(field) => match next_csv_record(bytes, field.delimiter) {
+    match part.records() {
+        Records::Lines => next_line_with_end(bytes),
+        Records::Csv(delimiter) => match next_csv_record(bytes, delimiter) {
             Some((raw, row, after)) => Some((raw, row, after)),
             None => None,
         },

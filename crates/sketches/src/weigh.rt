@@ -15,12 +15,13 @@ ghost use Rattle.sketches.specs.KeyWeights.{IsEmptyTable, WritesSomeWeights, Wri
 
 use crate::failure::Failure;
 use crate::inputs::{Inputs, read_inputs};
-use crate::item_weigher::{ItemWeigher, WeighedRecord};
+use crate::item_weigher::ItemWeigher;
 use crate::key_weights::KeyWeights;
 use crate::layout::Style;
 use crate::line_source::LineSource;
 use crate::output::Output;
 use crate::reading::{BLOCK, read_lines};
+use crate::weighing::WeighedRecord;
 use crate::weight_lines::write_total_line;
 use sketch_base::records::RecordPart;
 use sketch_base::{DEFAULT_UPDATE_SEED, ErrorKind, compute_seed_hash};

@@ -3,7 +3,7 @@ ghost use Rattle.std.specs.Prelude.{◌≡◌};
 ghost use Rattle.sketches.specs.Weighed.{splits_of};
 
 use crate::selection::Selection;
-use sketch_base::records::{Part, Records};
+use sketch_base::records::{Part, RecordPart, Records};
 
 /// The items of a record and their weights. A record is a line, or one of CSV.
 #[derive(Clone, Copy)]
@@ -12,8 +12,8 @@ pub enum Weighing {
     Once(Selection),
     /// A part of the line is its item, and another part has its weight.
     Field(WeighedPart),
-    /// A field of a record of CSV is its item, and another field may have its weight.
-    Csv(CsvPart),
+    /// A part of the record is its item, and another part may have its weight.
+    Record(WeighedRecord),
 }
 
 impl Weighing {
@@ -24,7 +24,7 @@ impl Weighing {
         match self {
             Weighing::Once(_) => Records::Lines,
             Weighing::Field(_) => Records::Lines,
-            Weighing::Csv(part) => Records::Csv(part.delimiter),
+            Weighing::Record(chosen) => chosen.item.records(),
         }
     }
 }
@@ -47,13 +47,11 @@ pub struct WeighedPart {
     pub unweighed: Unweighed,
 }
 
-/// The index of the field of a record of CSV that is its item, and of the field with its weight, both counted from 0. The weight is 1
-/// if no field has it.
+/// A part of a record that is its item, and the part with its weight. The weight is 1 if no part has it.
 #[derive(Clone, Copy)]
-pub struct CsvPart {
-    pub delimiter: u8,
-    pub item: u32,
-    pub weight: Option<u32>,
+pub struct WeighedRecord {
+    pub item: RecordPart,
+    pub weight: Option<RecordPart>,
     /// What is done with a record that has an item and no weight.
     pub unweighed: Unweighed,
 }

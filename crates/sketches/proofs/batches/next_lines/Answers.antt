@@ -6,7 +6,7 @@ use Rattle.sketches.proofs.batches.next_lines.Goals as goal
 pub each-preserved : goal.each-preserved
 each-preserved c =
     let so = c.each.invariant in
-    let e = c.in-Some.ensures in
+    let e = c.in-Some.ensures.taken in
     let less : c.each.count < length c.each.items = omega (arith, so.1, so.2, c.each-test.true) in (
       omega (arith, length-set c.each.raws c.each.count c.in-Some.raw, c.each-test.true),
       length-set c.each.raws c.each.count c.in-Some.raw ∙ so.1,

@@ -14,4 +14,4 @@ pub each-preserved : goal.each-preserved
 each-preserved g c =
     let p = c.args.part in
     front_more (g.S.BatchSink.takes p) (g.met.S.BatchSink.takes_both p) (raws_by p c.args.bytes.now) (raws_by p c.each.rest.now) (c.in-Some.raw.now ∷ []) (raws_by p c.in-Some.after.now)
-    c.args.sink.now c.each.sink c.take_record.new.self c.each.invariant c.in-Some.ensures.0 c.in_ok-take_record.ensures.taken
+    c.args.sink.now c.each.sink c.take_record.new.self c.each.invariant c.in-Some.ensures.taken.0 c.in_ok-take_record.ensures.taken

@@ -1,5 +1,5 @@
 use Rattle.sketches.proofs.WeighedLines.{item_added}
-use Rattle.sketches.proofs.csv_items.add_string.Goals as goal
+use Rattle.sketches.proofs.record_items.add_string.Goals as goal
 
 pub returns-clause-added : goal.returns-clause-added
 returns-clause-added c =

@@ -1,0 +1,14 @@
+use Rattle.std.proofs.Common.{length}
+use Rattle.sketch_base.specs.Records.{records_by}
+use Rattle.sketches.specs.declared.weighing.Weighing.TheVariants.{Record}
+use Rattle.sketches.proofs.WeighedLines.{HasWeighedLines}
+use Rattle.sketches.proofs.Utf8Strings.{HasGrown}
+use Rattle.sketches.proofs.record_items.add_records.Given as goal
+
+abbrev pub invariant-each : goal.invariant-each
+invariant-each l =
+    HasWeighedLines (Record l.chosen) l.fn.sketch (records_by l.chosen.item l.bytes) (records_by l.chosen.item l.rest) l.sketch
+    × HasGrown (Record l.chosen) l.fn.not_utf8 (records_by l.chosen.item l.bytes) (records_by l.chosen.item l.rest) l.not_utf8
+
+abbrev pub decreases-each : goal.decreases-each
+decreases-each l = length l.rest
