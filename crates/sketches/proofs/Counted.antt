@@ -7,6 +7,8 @@ use Rattle.sketches.specs.Added.{Sketch, AddsLines, AddsWeighed}
 use Rattle.sketches.specs.Failures.{FailsLines, FailsTop}
 use Rattle.sketches.specs.Inputs.{AreRead, FailsAmong, FailsInputs, HaveLongRecord, FailsTakingInputs, TakesEach, TakesInputs}
 use Rattle.sketches.specs.Reading.{AreFirstRecords}
+use Rattle.sketches.specs.Skipped.{skipped_in}
+use Rattle.sketches.specs.SkippedLaws.{skipped_append, skips_none}
 use Rattle.sketches.specs.Utf8LineLaws.{grows_none, not_utf8_append}
 use Rattle.sketches.specs.Utf8Lines.{GrowsBy, not_utf8_in}
 use Rattle.sketches.specs.Weighed.{records_of, splits_of, total_of, unweighed_of, weighed_of}
@@ -27,6 +29,7 @@ abbrev pub Counts : Counter → List ℕ → Counter → Type 0
 Counts old bytes new =
     (AddsLines old.0.weighing old.0.sketch bytes new.0.sketch × (new.0.weighing ≡ old.0.weighing))
     × GrowsBy old.0.not_utf8 (not_utf8_in old.0.weighing (records_of old.0.weighing bytes)) new.0.not_utf8
+    × GrowsBy old.0.unweighed (skipped_in old.0.weighing (records_of old.0.weighing bytes)) new.0.unweighed
 
 abbrev pub FailsCounting : Counter → List ℕ → Counter → Failure → Type 0
 FailsCounting old bytes new failure = FailsLines old.0.weighing old.0.sketch bytes failure
@@ -38,7 +41,7 @@ AddsEach p old read new = AddsWeighed old (flat_map (weighed_of p) read) new × 
 each_counted : (old new : Counter) (read : List (List ℕ)) → TakesEach Counts old read new → AddsEach old.0.weighing old.0.sketch read new.0.sketch × (new.0.weighing ≡ old.0.weighing)
 each_counted old new [] same =
     subst (λ (s : Counter). AddsEach old.0.weighing old.0.sketch [] s.0.sketch × (s.0.weighing ≡ old.0.weighing)) (sym same) ((weighed_none old.0.sketch, refl), refl)
-each_counted old new (bytes ∷ read) (mid, ((first, kept), _), rest) =
+each_counted old new (bytes ∷ read) (mid, ((first, kept), _, _), rest) =
     let (later, kept') = each_counted mid new read rest in
     let p : Weighing = old.0.weighing in
     let (added, weighed) = subst (λ (q : Weighing). AddsEach q mid.0.sketch read new.0.sketch) kept later in (
@@ -52,19 +55,38 @@ each_counted old new (bytes ∷ read) (mid, ((first, kept), _), rest) =
 -- the number of records whose items are not UTF-8 grew by those of each list
 each_grown : (old new : Counter) (read : List (List ℕ)) → TakesEach Counts old read new → GrowsBy old.0.not_utf8 (not_utf8_in old.0.weighing (flat_map (records_of old.0.weighing) read)) new.0.not_utf8
 each_grown old new [] same = subst (λ (s : Counter). GrowsBy old.0.not_utf8 (not_utf8_in old.0.weighing []) s.0.not_utf8) (sym same) (grows_none old.0.weighing old.0.not_utf8)
-each_grown old new (bytes ∷ read) (mid, ((_, kept), first), rest) =
+each_grown old new (bytes ∷ read) (mid, ((_, kept), first, _), rest) =
     let p : Weighing = old.0.weighing in
     let later = subst (λ (q : Weighing). GrowsBy mid.0.not_utf8 (not_utf8_in q (flat_map (records_of q) read)) new.0.not_utf8) kept (each_grown mid new read rest) in
     omega (arith, first, later, not_utf8_append p (records_of p bytes) (flat_map (records_of p) read))
 
--- the items of what was read of each input were added, and its records whose items are not UTF-8 were counted
-abbrev pub CountsInputs : Weighing → Option (List (List ℕ)) → (fails : List Bool) → (old new : Sketch) → (before after : ℕ) → Type 0
-CountsInputs p was fails old new before after = IfSome was (λ inputs.
-    (read : List (List ℕ)) × AreRead (splits_of p) fails inputs read × AddsEach p old read new × GrowsBy before (not_utf8_in p (flat_map (records_of p) read)) after)
+-- the number of records without a weight, and whose weight is 0, grew by those of each list
+each_skipped : (old new : Counter) (read : List (List ℕ)) → TakesEach Counts old read new → GrowsBy old.0.unweighed (skipped_in old.0.weighing (flat_map (records_of old.0.weighing) read)) new.0.unweighed
+each_skipped old new [] same = subst (λ (s : Counter). GrowsBy old.0.unweighed (skipped_in old.0.weighing []) s.0.unweighed) (sym same) (skips_none old.0.weighing old.0.unweighed)
+each_skipped old new (bytes ∷ read) (mid, ((_, kept), _, first), rest) =
+    let p : Weighing = old.0.weighing in
+    let later = subst (λ (q : Weighing). GrowsBy mid.0.unweighed (skipped_in q (flat_map (records_of q) read)) new.0.unweighed) kept (each_skipped mid new read rest) in
+    omega (arith, first, later, skipped_append p (records_of p bytes) (flat_map (records_of p) read))
 
-pub counted : (was : Option (List (List ℕ))) (fails : List Bool) (complete : Bool) (old new : Counter) → TakesInputs (splits_of old.0.weighing) Counts was fails complete old new → CountsInputs old.0.weighing was fails old.0.sketch new.0.sketch old.0.not_utf8 new.0.not_utf8
+-- two numbers of a counter: of records whose items are not UTF-8, and of records without a weight, whose weight is 0
+abbrev pub Numbers : Type 0
+Numbers = ℕ × ℕ
+
+abbrev pub numbers_of : ItemCounter → Numbers
+numbers_of counter = (counter.not_utf8, counter.unweighed)
+
+-- the numbers grew by those of these records
+abbrev pub GrowBy : Weighing → (before : Numbers) → List (List ℕ) → (after : Numbers) → Type 0
+GrowBy p before rows after = GrowsBy before.0 (not_utf8_in p rows) after.0 × GrowsBy before.1 (skipped_in p rows) after.1
+
+-- the items of what was read of each input were added, and the numbers grew by those of its records
+abbrev pub CountsInputs : Weighing → Option (List (List ℕ)) → (fails : List Bool) → (old new : Sketch) → (before after : Numbers) → Type 0
+CountsInputs p was fails old new before after = IfSome was (λ inputs.
+    (read : List (List ℕ)) × AreRead (splits_of p) fails inputs read × AddsEach p old read new × GrowBy p before (flat_map (records_of p) read) after)
+
+pub counted : (was : Option (List (List ℕ))) (fails : List Bool) (complete : Bool) (old new : Counter) → TakesInputs (splits_of old.0.weighing) Counts was fails complete old new → CountsInputs old.0.weighing was fails old.0.sketch new.0.sketch (numbers_of old.0) (numbers_of new.0)
 counted None fails complete old new taken = tt
-counted (Some inputs) fails complete old new (is, (read, are, each)) = (read, are, (each_counted old new read each).0, each_grown old new read each)
+counted (Some inputs) fails complete old new (is, (read, are, each)) = (read, are, (each_counted old new read each).0, (each_grown old new read each, each_skipped old new read each))
 
 -- ---- too many items
 

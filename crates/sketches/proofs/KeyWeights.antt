@@ -1,5 +1,5 @@
 -- The weights of keys that are printed, and why a run ended without.
-use Rattle.std.proofs.Common.{◌≡◌, ⊎_elim, inl, inr, ℕ, ◌+◌, ◌^◌, ◌<◌, ◌≤◌, Bool, true, false, cond, List, [], ◌∷◌, ◌++◌, get_or, length, map, Option, None, Some, IfSome, pos, ◌+ℤ◌, append-nil, refl, sym, ◌∙◌, ap, subst, arith, length-append}
+use Rattle.std.proofs.Common.{◌≡◌, ⊎_elim, inl, inr, ℕ, ◌+◌, ◌-◌, ◌^◌, ◌<◌, ◌≤◌, Bool, true, false, cond, List, [], ◌∷◌, ◌++◌, get_or, length, map, Option, None, Some, IfSome, pos, ◌+ℤ◌, append-nil, refl, sym, ◌∙◌, ap, subst, arith, length-append}
 use Rattle.std.proofs.lemmas.Bool.{eq-eqb, false≢true}
 use Rattle.std.proofs.lemmas.Int.{ints}
 use Rattle.std.proofs.lemmas.List.Concat.{flat_map-append}
@@ -24,7 +24,10 @@ use Rattle.sketches.specs.KeyWeightLaws.{all_lines, no_lines, some_whole}
 use Rattle.sketches.specs.KeyWeights.{CountsLines, CountsWeighed, IsEmptyTable, IsWeightOf, Row, WritesEstimates, WritesSomeEstimates, WritesSomeWeights, WritesWeights, bucket_weight, counted, parts_in, total_line, unweighed_in, unweighed_line, unweighed_lines, usable_seed, weighed_in, weighed_line, weighed_lines}
 use Rattle.sketches.specs.Reading.{AreFirstRecords, FailsInput, TakesInput}
 use Rattle.sketch_base.specs.Records.{records_by, splits_by}
+use Rattle.sketches.specs.Skipped.{skipped_rows}
+use Rattle.sketches.specs.SkippedLaws.{rows_append, skips_none}
 use Rattle.sketches.specs.Unseen.{hashed}
+use Rattle.sketches.specs.Utf8Lines.{GrowsBy}
 use Rattle.sketches.specs.Appending.{appends_both, front_after, front_more}
 use Rattle.sketches.specs.Outputs.{WritesFront}
 use Rattle.sketches.specs.WeighFailures.{ComesLate, FailsLines, FailsWeigh}
@@ -35,6 +38,7 @@ use Rattle.sketches.specs.declared.failure.Failure.{Failure}
 use Rattle.sketches.specs.declared.failure.Failure.TheVariants.{Memory, LineTooLong, TooManyItems, BadSize, BadWeight, Write}
 use Rattle.sketches.specs.declared.item_weigher.ItemWeigher.{ItemWeigher}
 use Rattle.sketches.specs.declared.weighing.WeighedRecord.{WeighedRecord}
+use Rattle.sketches.specs.declared.weighing.Weighing.TheVariants.{Record}
 use Rattle.sketches.specs.declared.key_weights.KeyWeights.{KeyWeights}
 use Rattle.sketches.specs.declared.layout.Style.{Style}
 use Rattle.sketch_base.specs.declared.record_part.RecordPart.{RecordPart}
@@ -140,7 +144,9 @@ Weigher = ItemWeigher × Unit {0}
 
 -- what the sink does with bytes of records
 abbrev pub Weighs : Weigher → List ℕ → Weigher → Type 0
-Weighs old bytes new = CountsLines old.0.chosen old.0.sketch (records_by old.0.chosen.item bytes) new.0.sketch × (new.0.chosen ≡ old.0.chosen)
+Weighs old bytes new =
+    (CountsLines old.0.chosen old.0.sketch (records_by old.0.chosen.item bytes) new.0.sketch × (new.0.chosen ≡ old.0.chosen))
+    × GrowsBy old.0.unweighed (skipped_rows old.0.chosen (records_by old.0.chosen.item bytes)) new.0.unweighed
 
 abbrev pub FailsWeighs : Weigher → List ℕ → Weigher → Failure → Type 0
 FailsWeighs old bytes new failure = FailsLines old.0.chosen old.0.sketch.total (records_by old.0.chosen.item bytes) failure
@@ -151,12 +157,21 @@ WeighsAll p old read new = CountsLines p old (flat_map (records_by p.item) read)
 -- the items of each list were added
 each_weighed : (old new : Weigher) (read : List (List ℕ)) → TakesEach Weighs old read new → WeighsAll old.0.chosen old.0.sketch read new
 each_weighed old new [] same = subst (λ (s : Weigher). WeighsAll old.0.chosen old.0.sketch [] s) (sym same) (no_lines old.0.chosen old.0.sketch, refl)
-each_weighed old new (bytes ∷ read) (mid, (first, kept), rest) =
+each_weighed old new (bytes ∷ read) (mid, ((first, kept), _), rest) =
     let (later, kept') = each_weighed mid new read rest in (
       all_lines old.0.chosen old.0.sketch mid.0.sketch new.0.sketch (records_by old.0.chosen.item bytes) (flat_map (records_by old.0.chosen.item) read) first
           (subst (λ (p : WeighedRecord). CountsLines p mid.0.sketch (flat_map (records_by p.item) read) new.0.sketch) kept later),
       kept' ∙ kept,
     )
+
+-- the number of records without a weight, and whose weight is 0, grew by those of each list
+each_skipped : (old new : Weigher) (read : List (List ℕ)) → TakesEach Weighs old read new → GrowsBy old.0.unweighed (skipped_rows old.0.chosen (flat_map (records_by old.0.chosen.item) read)) new.0.unweighed
+each_skipped old new [] same =
+    subst (λ (s : Weigher). GrowsBy old.0.unweighed (skipped_rows old.0.chosen []) s.0.unweighed) (sym same) (skips_none (Record old.0.chosen) old.0.unweighed)
+each_skipped old new (bytes ∷ read) (mid, ((_, kept), first), rest) =
+    let p : WeighedRecord = old.0.chosen in
+    let later = subst (λ (q : WeighedRecord). GrowsBy mid.0.unweighed (skipped_rows q (flat_map (records_by q.item) read)) new.0.unweighed) kept (each_skipped mid new read rest) in
+    omega (arith, first, later, rows_append p (records_by p.item bytes) (flat_map (records_by p.item) read))
 
 -- ---- what was written
 
@@ -261,13 +276,13 @@ module _ {W : Type 0} (contents : W → Option (List ℕ)) where
       some_of_keys options inputs keys keys fails complete made weigher weighed total held (contents old.1) (contents new.1) empty begin part weighs sum wrote ([], sym (append-nil keys), λ some. absurd (omega arith)) (of_options keys taking.known.1))
       failed
 
-  pub weights_written : {E : Type 0} (options : WeighOptions) (was : Option (List (List ℕ))) (bytes : Option (List ℕ)) (keys_fail : Bool) (fails : List Bool) (complete : Bool) (failure : Option E) (made : CountState) (weigher weighed : Weigher) (total : ℕ) (held : Option (List ℕ)) (old new : KeyWeights × W)
-      → IsEmptyTable options.parts options.questions options.seed made → weigher.0.sketch ≡ made → weigher.0.chosen ≡ options.chosen → TakesInputs (splits_by options.chosen.item) Weighs was fails complete weigher weighed
+  pub weights_written : {E : Type 0} (options : WeighOptions) (was : Option (List (List ℕ))) (bytes : Option (List ℕ)) (keys_fail : Bool) (fails : List Bool) (complete : Bool) (failure : Option E) (made : CountState) (weigher weighed : Weigher) (total unweighed : ℕ) (held : Option (List ℕ)) (old new : KeyWeights × W)
+      → IsEmptyTable options.parts options.questions options.seed made → weigher.0.sketch ≡ made → weigher.0.chosen ≡ options.chosen → weigher.0.unweighed ≡ 0 → unweighed ≡ weighed.0.unweighed → unweighed ≤ 2 ^ 64 - 1 → TakesInputs (splits_by options.chosen.item) Weighs was fails complete weigher weighed
       → pos total ≡ pos weighed.0.sketch.total → Appends held (contents old.1) (total_line options.style options.header total) → old.0.sketch ≡ weighed.0.sketch → old.0.part ≡ options.keys_part → old.0.style ≡ options.style → TakesInput (splits_by options.keys_part) WritesKeys bytes keys_fail failure old new
-      → IfSome was (λ inputs. IfSome bytes (λ keys. WritesWeights options inputs fails keys keys_fail held (contents new.1)))
-  weights_written options None bytes keys_fail fails complete failure made weigher weighed total held old new empty begin part weighs sum wrote sketch keys_part style taken = tt
-  weights_written options (Some inputs) None keys_fail fails complete failure made weigher weighed total held old new empty begin part weighs sum wrote sketch keys_part style taken = tt
-  weights_written options (Some inputs) (Some keys) keys_fail fails complete failure made weigher weighed total held old new empty begin part (is, (read, are, each)) sum wrote sketch keys_part style (is_failed, (got, of, taken)) =
+      → IfSome was (λ inputs. IfSome bytes (λ keys. WritesWeights options inputs fails keys keys_fail unweighed held (contents new.1)))
+  weights_written options None bytes keys_fail fails complete failure made weigher weighed total unweighed held old new empty begin part starts same fits weighs sum wrote sketch keys_part style taken = tt
+  weights_written options (Some inputs) None keys_fail fails complete failure made weigher weighed total unweighed held old new empty begin part starts same fits weighs sum wrote sketch keys_part style taken = tt
+  weights_written options (Some inputs) (Some keys) keys_fail fails complete failure made weigher weighed total unweighed held old new empty begin part starts same fits (is, (read, are, each)) sum wrote sketch keys_part style (is_failed, (got, of, taken)) =
       let items : Weighed = weighed_in options.chosen read in
       let counts : CountsLines options.chosen made (flat_map (records_by options.chosen.item) read) weighed.0.sketch =
       subst (λ (p : WeighedRecord). CountsLines p made (flat_map (records_by p.item) read) weighed.0.sketch) part (subst (λ (s : CountState). CountsLines weigher.0.chosen s (flat_map (records_by weigher.0.chosen.item) read) weighed.0.sketch) begin (each_weighed weigher weighed read each).0) in
@@ -278,6 +293,7 @@ module _ {W : Type 0} (contents : W → Option (List ℕ)) where
       (subst (λ (b : Style). WritesEstimates b old.0.sketch (parts_in old.0.part got) (contents old.1) (contents new.1)) style taken.0)) in
       let none : made.total ≡ 0 = ap (λ (s : CountState). s.total) empty.is in
       let all : total ≡ total_of items = omega (arith, ints, sum, adds.total, none) in
+      let grown = subst (λ (p : WeighedRecord). GrowsBy weigher.0.unweighed (skipped_rows p (flat_map (records_by p.item) read)) weighed.0.unweighed) part (each_skipped weigher weighed read each) in
       record {
         read = read;
         are = are;
@@ -289,6 +305,7 @@ module _ {W : Type 0} (contents : W → Option (List ℕ)) where
         rows = written.rows;
         keys_are = written.keys_are;
         each = counts.1;
+        skipped = omega (arith, grown, starts, same, fits);
         weights = are_weights made weighed.0.sketch (usable_seed options.seed) items written.rows empty.some_buckets empty.stands adds written.estimates;
         wrote = appends_both held (contents old.1) (contents new.1) _ _ (subst (λ (n : ℕ). Appends held (contents old.1) (total_line options.style options.header n)) all wrote) written.wrote;
       }

@@ -18,6 +18,7 @@ pub mod Reported
 pub mod Results
 pub mod RowOrder
 pub mod Saved
+pub mod SkippedLines
 pub mod SummedInputs
 pub mod TakenBatches
 pub mod TakenKeys

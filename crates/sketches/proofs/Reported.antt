@@ -35,7 +35,7 @@ use Rattle.sketches.specs.declared.merge.MergeOptions.{MergeOptions}
 use Rattle.sketches.specs.declared.threshold.Threshold.{Threshold}
 use Rattle.sketches.specs.declared.top.Options.{Options}
 use Rattle.sketches.specs.declared.top.Summary.{Summary}
-use Rattle.sketches.proofs.Counted.{CountsInputs}
+use Rattle.sketches.proofs.Counted.{CountsInputs, Numbers}
 
 -- ---- the weights of a history
 
@@ -252,29 +252,36 @@ added_items m start s items new keeps added =
       sample = omega (arith, sample_of zero added.items);
     }
 
+-- the numbers of a summary, which fit a `u64`
+abbrev pub noted : Summary → Numbers
+noted summary = (summary.not_utf8, summary.unweighed)
+
+abbrev pub AreNoted : Summary → Type 0
+AreNoted summary = (summary.not_utf8 ≤ 2 ^ 64 - 1) × (summary.unweighed ≤ 2 ^ 64 - 1)
+
 -- the report of what was counted
 made_report : (options : Options) (all : List (List ℕ)) (fails : List Bool) (summary : Summary) (start s : Sketch) (text : List ℕ)
     → StandsFor string_eq start (New options.size (max_sample_size options.size)) → KeepsTailBudget string_eq start (New options.size (max_sample_size options.size)) → start ≡ empty_state options.size (max_sample_size options.size) options.key
-    → CountsInputs options.weighing (Some all) fails start s 0 summary.not_utf8 → summary.not_utf8 ≤ 2 ^ 64 - 1 → ShowsTop s options.layout options.threshold options.rows text → IsReport options all fails summary text
-made_report options all fails summary start s text new keeps empty (read, are, added, grown) fits shows =
+    → CountsInputs options.weighing (Some all) fails start s (0, 0) (noted summary) → AreNoted summary → ShowsTop s options.layout options.threshold options.rows text → IsReport options all fails summary text
+made_report options all fails summary start s text new keeps empty (read, are, added, (grown, skipped)) fits shows =
     let items : Weighed = flat_map (weighed_of options.weighing) read in
     let r = reported_rows options.size items options.layout options.threshold options.rows s text (added_items options.size start s items new keeps added.0) shows in
-    (read, s, r.0, are, omega (arith, grown, fits), added.1, subst (λ (t : Sketch). AddsWeighed t items s) empty added.0, r.1, r.2, shows.exactly)
+    (read, s, r.0, are, omega (arith, grown, fits.0), omega (arith, skipped, fits.1), added.1, subst (λ (t : Sketch). AddsWeighed t items s) empty added.0, r.1, r.2, shows.exactly)
 
 pub reported : (options : Options) (inputs : Option (List (List ℕ))) (fails : List Bool) (summary : Summary) (held holds : Option (List ℕ)) (start s : Sketch) (text : List ℕ)
     → StandsFor string_eq start (New options.size (max_sample_size options.size)) → KeepsTailBudget string_eq start (New options.size (max_sample_size options.size)) → start ≡ empty_state options.size (max_sample_size options.size) options.key
-    → CountsInputs options.weighing inputs fails start s 0 summary.not_utf8 → summary.not_utf8 ≤ 2 ^ 64 - 1 → ShowsTop s options.layout options.threshold options.rows text → Appends held holds text → WritesReport options inputs fails summary held holds
+    → CountsInputs options.weighing inputs fails start s (0, 0) (noted summary) → AreNoted summary → ShowsTop s options.layout options.threshold options.rows text → Appends held holds text → WritesReport options inputs fails summary held holds
 reported options None fails summary held holds start s text new keeps empty counted fits shows wrote = tt
 reported options (Some all) fails summary held holds start s text new keeps empty counted fits shows wrote = (text, made_report options all fails summary start s text new keeps empty counted fits shows, wrote)
 
 pub reported_front : (options : Options) (inputs : Option (List (List ℕ))) (fails : List Bool) (summary : Summary) (held holds : Option (List ℕ)) (start s : Sketch) (text : List ℕ)
     → StandsFor string_eq start (New options.size (max_sample_size options.size)) → KeepsTailBudget string_eq start (New options.size (max_sample_size options.size)) → start ≡ empty_state options.size (max_sample_size options.size) options.key
-    → CountsInputs options.weighing inputs fails start s 0 summary.not_utf8 → summary.not_utf8 ≤ 2 ^ 64 - 1 → ShowsTop s options.layout options.threshold options.rows text → WritesFront held holds text → WritesReportFront options inputs fails held holds
+    → CountsInputs options.weighing inputs fails start s (0, 0) (noted summary) → AreNoted summary → ShowsTop s options.layout options.threshold options.rows text → WritesFront held holds text → WritesReportFront options inputs fails held holds
 reported_front options None fails summary held holds start s text new keeps empty counted fits shows wrote = tt
 reported_front options (Some all) fails summary held holds start s text new keeps empty counted fits shows wrote = (summary, text, made_report options all fails summary start s text new keeps empty counted fits shows, wrote)
 
 -- the error of what was counted
-pub error_of : (options : Options) (inputs : Option (List (List ℕ))) (fails : List Bool) (start s : Sketch) (error before after : ℕ) → start ≡ empty_state options.size (max_sample_size options.size) options.key
+pub error_of : (options : Options) (inputs : Option (List (List ℕ))) (fails : List Bool) (start s : Sketch) (error : ℕ) (before after : Numbers) → start ≡ empty_state options.size (max_sample_size options.size) options.key
     → CountsInputs options.weighing inputs fails start s before after → error ≡ s.error → IsErrorOf options inputs fails error
 error_of options None fails start s error before after empty counted is = tt
 error_of options (Some all) fails start s error before after empty (read, are, added, grown) is =
@@ -318,7 +325,7 @@ merge_stopped options (Some all) s kept write_error held holds error text merges
 
 pub items_kept : (options : Options) (inputs : Option (List (List ℕ))) (fails : List Bool) (kept : Option Sketch) (start s : Sketch)
     → StandsFor string_eq start (New options.size (max_sample_size options.size)) → KeepsTailBudget string_eq start (New options.size (max_sample_size options.size)) → start ≡ empty_state options.size (max_sample_size options.size) options.key
-    → (before after : ℕ) → CountsInputs options.weighing inputs fails start s before after → IfSome kept (λ t. t ≡ s) → KeepsItems options inputs fails kept
+    → (before after : Numbers) → CountsInputs options.weighing inputs fails start s before after → IfSome kept (λ t. t ≡ s) → KeepsItems options inputs fails kept
 items_kept options None fails kept start s new keeps empty before after counted is = tt
 items_kept options (Some all) fails kept start s new keeps empty before after (read, are, added, grown) is =
     same_kept (λ t. (read : List (List ℕ)) × AreRead (splits_of options.weighing) fails all read × HasItems options.size (flat_map (weighed_of options.weighing) read) t × Counts options read t × (t.key ≡ options.key)) kept s is

@@ -1,5 +1,5 @@
 -- The sums of keys that are read of inputs and written, and why a run ended without.
-use Rattle.std.proofs.Common.{◌≡◌, ⊎_elim, ℕ, zero, suc, ◌+◌, ◌^◌, ◌<◌, ◌≤◌, Bool, false, List, [], ◌∷◌, ◌++◌, length, slice_get, Option, None, Some, IfSome, Contains, is_some, append_assoc, append-nil, length-append, refl, sym, ◌∙◌, ap, subst, arith}
+use Rattle.std.proofs.Common.{◌≡◌, ⊎_elim, ℕ, zero, suc, ◌+◌, ◌-◌, ◌^◌, ◌<◌, ◌≤◌, Bool, false, List, [], ◌∷◌, ◌++◌, length, slice_get, Option, None, Some, IfSome, Contains, is_some, append_assoc, append-nil, length-append, refl, sym, ◌∙◌, ap, subst, arith}
 use Rattle.std.proofs.lemmas.Bool.{false≢true}
 use Rattle.std.proofs.lemmas.List.Concat.{flat_map-append}
 use Rattle.std.proofs.lemmas.List.Elements.{Contains-append_cases, Contains-push_cases}
@@ -23,6 +23,9 @@ use Rattle.sketches.specs.KeySums.{AddsItems, AddsLines, ComesWhileWriting, Fail
 use Rattle.sketches.specs.KeyWeights.{Row, parts_in, row_line, total_line, unweighed_in, unweighed_lines, weighed_in, weighed_lines}
 use Rattle.sketches.specs.Outputs.{WritesFront}
 use Rattle.sketches.specs.Reading.{FailsInput, HasLongRecord, IsReadOf, TakesInput}
+use Rattle.sketches.specs.Skipped.{skipped_rows}
+use Rattle.sketches.specs.SkippedLaws.{rows_append, skips_none}
+use Rattle.sketches.specs.Utf8Lines.{GrowsBy}
 use Rattle.sketches.specs.WeighFailures.{FailsLines}
 use Rattle.sketches.specs.Weighed.{Weighed, total_of, weight_of}
 use Rattle.sketches.specs.WeighingLaws.{total_both}
@@ -33,6 +36,7 @@ use Rattle.sketches.specs.declared.failure.Failure.{Failure}
 use Rattle.sketches.specs.declared.failure.Failure.TheVariants.{Memory, LineTooLong, TooManyItems, BadSize, BadWeight, Write}
 use Rattle.sketches.specs.declared.file_keys.FileKeys.{FileKeys}
 use Rattle.sketches.specs.declared.weighing.WeighedRecord.{WeighedRecord}
+use Rattle.sketches.specs.declared.weighing.Weighing.TheVariants.{Record}
 use Rattle.sketches.specs.declared.key_sums.KeySums.{KeySums}
 use Rattle.sketches.specs.declared.layout.Style.{Style}
 
@@ -137,24 +141,25 @@ sums_printed options sums sums' order keys items total held adds =
     ap (λ n. total_line options.style options.header n ++ flat_map (row_line options.style) (rows_at sums' order)) is
     ∙ ap (λ l. total_line options.style options.header (total_of items) ++ l) (rows_named options.style sums' items order keys (adds.adds [] refl held.empty) all)
 
-pub exact_written : (options : ExactOptions) (keys : Option (List ℕ)) (was : Option (List (List ℕ))) (fails : List Bool) (sums sums' : Sums) (order : List ℕ) (total : ℕ) (held holds : Option (List ℕ))
-    → IfSome keys (λ bytes. HoldsKeys sums order (parts_in options.keys_part bytes)) → IfSome was (λ inputs. SumsInputs options.chosen sums inputs fails sums' total) → Appends held holds (rows_text options total sums' order)
-    → IfSome keys (λ bytes. IfSome was (λ inputs. WritesSums options inputs fails bytes held holds))
-exact_written options None was fails sums sums' order total held holds named summed wrote = tt
-exact_written options (Some bytes) None fails sums sums' order total held holds named summed wrote = tt
-exact_written options (Some bytes) (Some inputs) fails sums sums' order total held holds named summed wrote = record {
+pub exact_written : (options : ExactOptions) (keys : Option (List ℕ)) (was : Option (List (List ℕ))) (fails : List Bool) (sums sums' : Sums) (order : List ℕ) (total counter unweighed : ℕ) (held holds : Option (List ℕ))
+    → IfSome keys (λ bytes. HoldsKeys sums order (parts_in options.keys_part bytes)) → IfSome was (λ inputs. SumsInputs options.chosen sums inputs fails sums' total counter) → unweighed ≡ counter → unweighed ≤ 2 ^ 64 - 1 → Appends held holds (rows_text options total sums' order)
+    → IfSome keys (λ bytes. IfSome was (λ inputs. WritesSums options inputs fails bytes unweighed held holds))
+exact_written options None was fails sums sums' order total counter unweighed held holds named summed same fits wrote = tt
+exact_written options (Some bytes) None fails sums sums' order total counter unweighed held holds named summed same fits wrote = tt
+exact_written options (Some bytes) (Some inputs) fails sums sums' order total counter unweighed held holds named summed same fits wrote = record {
   read = summed.read;
   are = summed.are;
   each = summed.each;
+  skipped = let grown = summed.skipped in omega (arith, grown, same, fits);
   wrote = subst (Appends held holds) (sums_printed options sums sums' order (parts_in options.keys_part bytes) (weighed_in options.chosen summed.read) total named summed.adds) wrote;
 }
 
-pub exact_cut : (options : ExactOptions) (keys : Option (List ℕ)) (was : Option (List (List ℕ))) (fails : List Bool) (sums sums' : Sums) (order : List ℕ) (total : ℕ) (held holds : Option (List ℕ))
-    → IfSome keys (λ bytes. HoldsKeys sums order (parts_in options.keys_part bytes)) → IfSome was (λ inputs. SumsInputs options.chosen sums inputs fails sums' total) → WritesFront held holds (rows_text options total sums' order)
+pub exact_cut : (options : ExactOptions) (keys : Option (List ℕ)) (was : Option (List (List ℕ))) (fails : List Bool) (sums sums' : Sums) (order : List ℕ) (total unweighed : ℕ) (held holds : Option (List ℕ))
+    → IfSome keys (λ bytes. HoldsKeys sums order (parts_in options.keys_part bytes)) → IfSome was (λ inputs. SumsInputs options.chosen sums inputs fails sums' total unweighed) → WritesFront held holds (rows_text options total sums' order)
     → IfSome keys (λ bytes. IfSome was (λ inputs. WritesSomeSums options inputs fails bytes held holds))
-exact_cut options None was fails sums sums' order total held holds named summed wrote = tt
-exact_cut options (Some bytes) None fails sums sums' order total held holds named summed wrote = tt
-exact_cut options (Some bytes) (Some inputs) fails sums sums' order total held holds named summed wrote = record {
+exact_cut options None was fails sums sums' order total unweighed held holds named summed wrote = tt
+exact_cut options (Some bytes) None fails sums sums' order total unweighed held holds named summed wrote = tt
+exact_cut options (Some bytes) (Some inputs) fails sums sums' order total unweighed held holds named summed wrote = record {
   read = summed.read;
   are = summed.are;
   each = summed.each;
@@ -256,7 +261,9 @@ abbrev Adder : Type 0
 Adder = KeySums × Unit {0}
 
 abbrev pub Adds : Adder → List ℕ → Adder → Type 0
-Adds old bytes new = AddsLines old.0.chosen old.0.sums.entries old.0.total (records_by old.0.chosen.item bytes) new.0.sums.entries new.0.total × (new.0.chosen ≡ old.0.chosen)
+Adds old bytes new =
+    (AddsLines old.0.chosen old.0.sums.entries old.0.total (records_by old.0.chosen.item bytes) new.0.sums.entries new.0.total × (new.0.chosen ≡ old.0.chosen))
+    × GrowsBy old.0.unweighed (skipped_rows old.0.chosen (records_by old.0.chosen.item bytes)) new.0.unweighed
 
 abbrev pub FailsAdds : Adder → List ℕ → Adder → Failure → Type 0
 FailsAdds old bytes new failure = FailsLines old.0.chosen old.0.total (records_by old.0.chosen.item bytes) failure
@@ -267,22 +274,33 @@ AddsAll p sums total read new = AddsLines p sums total (flat_map (records_by p.i
 -- the items of each list were added
 each_added : (old new : Adder) (read : List (List ℕ)) → TakesEach Adds old read new → AddsAll old.0.chosen old.0.sums.entries old.0.total read new
 each_added old new [] same = subst (λ (s : Adder). AddsAll old.0.chosen old.0.sums.entries old.0.total [] s) (sym same) (no_sums old.0.chosen old.0.sums.entries old.0.total, refl)
-each_added old new (bytes ∷ read) (mid, (first, kept), rest) =
+each_added old new (bytes ∷ read) (mid, ((first, kept), _), rest) =
     let (later, kept') = each_added mid new read rest in (
       all_sums old.0.chosen old.0.sums.entries mid.0.sums.entries new.0.sums.entries old.0.total mid.0.total new.0.total (records_by old.0.chosen.item bytes) (flat_map (records_by old.0.chosen.item) read) first
           (subst (λ (p : WeighedRecord). AddsLines p mid.0.sums.entries mid.0.total (flat_map (records_by p.item) read) new.0.sums.entries new.0.total) kept later),
       kept' ∙ kept,
     )
 
-pub inputs_summed : (was : Option (List (List ℕ))) (fails : List Bool) (complete : Bool) (old new : Adder) → old.0.total ≡ 0 → TakesInputs (splits_by old.0.chosen.item) Adds was fails complete old new
-    → IfSome was (λ inputs. SumsInputs old.0.chosen old.0.sums.entries inputs fails new.0.sums.entries new.0.total)
-inputs_summed None fails complete old new begin taken = tt
-inputs_summed (Some inputs) fails complete old new begin (is, (read, are, each)) =
+-- the number of records without a weight, and whose weight is 0, grew by those of each list
+each_skipped : (old new : Adder) (read : List (List ℕ)) → TakesEach Adds old read new → GrowsBy old.0.unweighed (skipped_rows old.0.chosen (flat_map (records_by old.0.chosen.item) read)) new.0.unweighed
+each_skipped old new [] same =
+    subst (λ (s : Adder). GrowsBy old.0.unweighed (skipped_rows old.0.chosen []) s.0.unweighed) (sym same) (skips_none (Record old.0.chosen) old.0.unweighed)
+each_skipped old new (bytes ∷ read) (mid, ((_, kept), first), rest) =
+    let p : WeighedRecord = old.0.chosen in
+    let later = subst (λ (q : WeighedRecord). GrowsBy mid.0.unweighed (skipped_rows q (flat_map (records_by q.item) read)) new.0.unweighed) kept (each_skipped mid new read rest) in
+    omega (arith, first, later, rows_append p (records_by p.item bytes) (flat_map (records_by p.item) read))
+
+pub inputs_summed : (was : Option (List (List ℕ))) (fails : List Bool) (complete : Bool) (old new : Adder) → old.0.total ≡ 0 → old.0.unweighed ≡ 0 → TakesInputs (splits_by old.0.chosen.item) Adds was fails complete old new
+    → IfSome was (λ inputs. SumsInputs old.0.chosen old.0.sums.entries inputs fails new.0.sums.entries new.0.total new.0.unweighed)
+inputs_summed None fails complete old new begin starts taken = tt
+inputs_summed (Some inputs) fails complete old new begin starts (is, (read, are, each)) =
     let (adds, same) = each_added old new read each in
+    let grown = each_skipped old new read each in
     record {
       read = read;
       are = are;
       each = adds.1;
+      skipped = omega (arith, grown, starts);
       adds = subst (λ (n : ℕ). AddsItems old.0.sums.entries n (weighed_in old.0.chosen read) new.0.sums.entries new.0.total) begin adds.0;
     }
 

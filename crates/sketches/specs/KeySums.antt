@@ -1,16 +1,18 @@
 -- Keys whose weights are summed exactly: the keys that are read, the weights that are added to them, and what is printed.
-use Rattle.std.specs.Prelude.{◌≡◌, ◌⊎◌, ℕ, ◌+◌, ◌^◌, ◌<◌, ◌≤◌, Bool, true, List, [], ◌∷◌, ◌++◌, map, length, slice_get, Contains, Option, None, Some, IfSome}
+use Rattle.std.specs.Prelude.{◌≡◌, ◌⊎◌, ℕ, ◌+◌, ◌-◌, ◌^◌, ◌<◌, ◌≤◌, Bool, true, List, [], ◌∷◌, ◌++◌, map, min, length, slice_get, Contains, Option, None, Some, IfSome}
 use Rattle.std.specs.Global.{Global}
 use Rattle.std.specs.Io.KnownBytes.{Appends}
 use Rattle.std.specs.List.{AllZip, IsDistinct, flat_map}
 use Rattle.std.specs.Str.{bytes_eq}
 use Rattle.std.specs.declared.io.Error.{Error}
 use Rattle.std.specs.declared.vec.Vec.{Vec}
-use Rattle.sketch_base.specs.Records.{splits_by}
+use Rattle.sketch_base.specs.Records.{records_by, splits_by}
 use Rattle.sketches.specs.Inputs.{AreRead, HaveLongRecord}
 use Rattle.sketches.specs.KeyWeights.{Row, parts_in, row_line, total_line, unweighed_in, unweighed_lines, weighed_in, weighed_lines}
 use Rattle.sketches.specs.Outputs.{WritesFront}
 use Rattle.sketches.specs.Reading.{HasLongRecord}
+use Rattle.sketches.specs.Skipped.{skipped_rows}
+use Rattle.sketches.specs.Utf8Lines.{GrowsBy}
 use Rattle.sketches.specs.Weighed.{Weighed, total_of, weight_of}
 use Rattle.sketches.specs.declared.exact_weights.ExactFailure.{ExactFailure}
 use Rattle.sketches.specs.declared.exact_weights.ExactFailure.TheVariants.{Unread, Keys, Weights}
@@ -33,11 +35,13 @@ sums_text options read keys =
     ++ sum_lines options.style (weighed_in options.chosen read) (parts_in options.keys_part keys)
 
 -- The writer received the total weight of what was read of the inputs, and the line of each key of the file, in its order. Each record
--- of the inputs with an item has a weight that counts.
-pub record WritesSums (options : ExactOptions) (inputs : List (List ℕ)) (fails : List Bool) (keys : List ℕ) (held holds : Option (List ℕ)) : Type 0 where
+-- of the inputs with an item has a weight that counts. `unweighed` is the number of those that have an item and no weight, and whose weight
+-- is 0.
+pub record WritesSums (options : ExactOptions) (inputs : List (List ℕ)) (fails : List Bool) (keys : List ℕ) (unweighed : ℕ) (held holds : Option (List ℕ)) : Type 0 where
   pub read : List (List ℕ)
   pub are : AreRead (splits_by options.chosen.item) fails inputs read
   pub each : unweighed_in options.chosen read ≡ []
+  pub skipped : unweighed ≡ min (skipped_rows options.chosen (flat_map (records_by options.chosen.item) read)) (2 ^ 64 - 1)
   pub wrote : Appends held holds (sums_text options read keys)
 
 -- The writer received the front of that.
@@ -153,11 +157,13 @@ AddsWeight sums item weight sums' = (before : Weighed) → total_of before + wei
 abbrev pub AddsLines : WeighedRecord → (sums : Sums) (total : ℕ) → List (List ℕ) → (sums' : Sums) (total' : ℕ) → Type 0
 AddsLines chosen sums total all sums' total' = AddsItems sums total (weighed_lines chosen all) sums' total' × (unweighed_lines chosen all ≡ [])
 
--- What was read of inputs was added, from a total of 0.
-pub record SumsInputs (chosen : WeighedRecord) (sums : Sums) (inputs : List (List ℕ)) (fails : List Bool) (sums' : Sums) (total' : ℕ) : Type 0 where
+-- What was read of inputs was added, from a total of 0. `unweighed` is the number of its records that have an item and no weight, and whose
+-- weight is 0.
+pub record SumsInputs (chosen : WeighedRecord) (sums : Sums) (inputs : List (List ℕ)) (fails : List Bool) (sums' : Sums) (total' unweighed : ℕ) : Type 0 where
   pub read : List (List ℕ)
   pub are : AreRead (splits_by chosen.item) fails inputs read
   pub each : unweighed_in chosen read ≡ []
+  pub skipped : GrowsBy 0 (skipped_rows chosen (flat_map (records_by chosen.item) read)) unweighed
   pub adds : AddsItems sums 0 (weighed_in chosen read) sums' total'
 
 -- ---- rows

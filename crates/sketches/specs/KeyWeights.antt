@@ -1,5 +1,5 @@
 -- Items with weights that were added to a Count-Min sketch, and what is printed of them.
-use Rattle.std.specs.Prelude.{◌≡◌, ℕ, ℤ, ◌+◌, ◌<◌, ◌≤◌, ◌==◌, Bool, List, [], ◌++◌, map, All, Option, None, Some, codes, sum_by, pos, if◌then◌else◌}
+use Rattle.std.specs.Prelude.{◌≡◌, ℕ, ℤ, ◌+◌, ◌-◌, ◌^◌, ◌<◌, ◌≤◌, ◌==◌, Bool, List, [], ◌++◌, map, min, All, Option, None, Some, codes, sum_by, pos, if◌then◌else◌}
 use Rattle.std.specs.Fmt.{decimal}
 use Rattle.std.specs.Io.KnownBytes.{Appends}
 use Rattle.std.specs.List.{flat_map}
@@ -15,6 +15,7 @@ use Rattle.sketches.specs.Json.{json_lossy}
 use Rattle.sketches.specs.Outputs.{WritesFront}
 use Rattle.sketches.specs.Reading.{AreFirstRecords, IsReadOf}
 use Rattle.sketch_base.specs.Records.{part_in, records_by, splits_by}
+use Rattle.sketches.specs.Skipped.{skipped_rows}
 use Rattle.sketches.specs.TextEscapes.{text_escaped}
 use Rattle.sketches.specs.Unseen.{hashed}
 use Rattle.sketches.specs.Weighed.{Weighed, total_of, weight_of, without_weight}
@@ -145,8 +146,9 @@ pub record IsWeightOf (hashes buckets seed : ℕ) (items : Weighed) (row : Row) 
   pub reached : (r : ℕ) × (r < hashes) × (row.0 ≡ bucket_weight buckets seed items row.1 r)
 
 -- The writer received the total weight of what was read of the inputs, and a line for each key of what was read of the file of keys,
--- in its order. Each record of the inputs with an item has a weight.
-pub record WritesWeights (options : WeighOptions) (inputs : List (List ℕ)) (fails : List Bool) (keys : List ℕ) (keys_fail : Bool) (held holds : Option (List ℕ)) : Type 0 where
+-- in its order. Each record of the inputs with an item has a weight that counts. `unweighed` is the number of those that have an item and
+-- no weight, and whose weight is 0.
+pub record WritesWeights (options : WeighOptions) (inputs : List (List ℕ)) (fails : List Bool) (keys : List ℕ) (keys_fail : Bool) (unweighed : ℕ) (held holds : Option (List ℕ)) : Type 0 where
   pub read : List (List ℕ)
   pub are : AreRead (splits_by options.chosen.item) fails inputs read
   pub read_keys : List ℕ
@@ -157,6 +159,7 @@ pub record WritesWeights (options : WeighOptions) (inputs : List (List ℕ)) (fa
   pub rows : List Row
   pub keys_are : map (λ row. row.1) rows ≡ parts_in options.keys_part read_keys
   pub each : unweighed_in options.chosen read ≡ []
+  pub skipped : unweighed ≡ min (skipped_rows options.chosen (flat_map (records_by options.chosen.item) read)) (2 ^ 64 - 1)
   pub weights : All (IsWeightOf hashes buckets (usable_seed options.seed) (weighed_in options.chosen read)) rows
   pub wrote :
       Appends held holds

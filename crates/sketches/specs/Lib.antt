@@ -29,6 +29,8 @@ pub mod RecordParts
 pub mod Reports
 pub mod SaveFailures
 pub mod Shown
+pub mod Skipped
+pub mod SkippedLaws
 pub mod TextEscapeLaws
 pub mod TextEscapes
 pub mod Thresholds

@@ -21,6 +21,7 @@ use Rattle.sketches.specs.Json.{json_escaped}
 use Rattle.sketches.specs.Outputs.{WritesFront}
 use Rattle.sketches.specs.TextEscapes.{text_escaped}
 use Rattle.sketches.specs.Thresholds.{IsAbove}
+use Rattle.sketches.specs.Skipped.{skipped_in}
 use Rattle.sketches.specs.Utf8Lines.{not_utf8_in}
 use Rattle.sketches.specs.Weighed.{Weighed, records_of, splits_of, total_of, unweighed_of, weight_of, weighed_of}
 use Rattle.sketches.specs.declared.layout.Layout.{Layout}
@@ -128,11 +129,13 @@ Counts options read s =
     AddsWeighed (empty_state options.size (max_sample_size options.size) options.key) (flat_map (weighed_of options.weighing) read) s
 
 -- The text is a report on the items of what was read of the inputs, whose records all have weights. Its error is that of the sketch
--- that counts them. If exact numbers are wanted, it is 0. The summary has the number of these records whose items are not UTF-8.
+-- that counts them. If exact numbers are wanted, it is 0. The summary has the number of these records whose items are not UTF-8, and the
+-- number of those that have an item and no weight, and whose weight is 0.
 abbrev pub IsReport : Options → List (List ℕ) → (fails : List Bool) → Summary → List ℕ → Type 0
 IsReport options inputs fails summary text =
     (read : List (List ℕ)) × (s : Sketch) × (rows : List Row) × AreRead (splits_of options.weighing) fails inputs read
     × (summary.not_utf8 ≡ min (not_utf8_in options.weighing (flat_map (records_of options.weighing) read)) (2 ^ 64 - 1))
+    × (summary.unweighed ≡ min (skipped_in options.weighing (flat_map (records_of options.weighing) read)) (2 ^ 64 - 1))
     × (flat_map (unweighed_of options.weighing) read ≡ []) × Counts options read s
     × (text ≡ report_text options.layout s.error (total_of (flat_map (weighed_of options.weighing) read)) rows)
     × Reports (flat_map (weighed_of options.weighing) read) options.size options.threshold options.rows s.error rows

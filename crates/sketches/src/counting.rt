@@ -6,6 +6,7 @@ ghost use Rattle.sketch_base.specs.Split.{words_of};
 ghost use Rattle.sketches.specs.Added.{AddsLines, AddsStrings};
 ghost use Rattle.sketches.specs.Failures.{FailsAdding, FailsLines};
 ghost use Rattle.sketches.specs.Items.{items_of, items_of_line, items_of_raw_line};
+ghost use Rattle.sketches.specs.Skipped.{skipped_in};
 ghost use Rattle.sketches.specs.Utf8Lines.{GrowsBy, not_utf8_in};
 
 use crate::failure::Failure;
@@ -40,10 +41,18 @@ impl ItemCounter {
     {
         self.not_utf8
     }
+
+    /// Returns the number of records that have an item and no weight, and whose weight is 0, at most `u64::MAX`.
+    pub fn records_unweighed(&self) -> u64
+        ensures { result ≡ self.now.unweighed }
+    {
+        self.unweighed
+    }
 }
 
 impl LineSink<()> for ItemCounter {
     ghost use Rattle.sketches.specs.WeighingLaws.{lines_added_none, lines_added_both, lines_fail_sooner, lines_fail_later};
+    ghost use Rattle.sketches.specs.SkippedLaws.{skips_no_records, skips_both};
     ghost use Rattle.sketches.specs.Utf8LineLaws.{grows_no_records, grows_both};
     ghost use Rattle.sketches.specs.Weighed.{records_of, splits_of};
     ghost use Rattle.std.proofs.Common.{ap};
@@ -51,18 +60,20 @@ impl LineSink<()> for ItemCounter {
     ghost splits = { λ s. splits_of s.weighing };
 
     ghost takes = { λ old bytes new. (AddsLines old.0.weighing old.0.sketch bytes new.0.sketch
-        × (new.0.weighing ≡ old.0.weighing)) × GrowsBy old.0.not_utf8 (not_utf8_in old.0.weighing (records_of old.0.weighing bytes)) new.0.not_utf8 };
+        × (new.0.weighing ≡ old.0.weighing)) × GrowsBy old.0.not_utf8 (not_utf8_in old.0.weighing (records_of old.0.weighing bytes)) new.0.not_utf8
+        × GrowsBy old.0.unweighed (skipped_in old.0.weighing (records_of old.0.weighing bytes)) new.0.unweighed };
 
     ghost fails = { λ old bytes new failure. FailsLines old.0.weighing old.0.sketch bytes failure };
 
     ghost takes_same = { λ r s xs taken. ap splits_of taken.0.1 };
 
-    ghost takes_none = { λ s. ((lines_added_none s.0.weighing s.0.sketch, refl), grows_no_records s.0.weighing s.0.not_utf8) };
+    ghost takes_none = { λ s. ((lines_added_none s.0.weighing s.0.sketch, refl), grows_no_records s.0.weighing s.0.not_utf8, skips_no_records s.0.weighing s.0.unweighed) };
 
     ghost takes_both = { λ r s t xs ys whole first second. (
       lines_added_both r.0.weighing xs ys whole
           r.0.sketch s.0.sketch t.0.sketch s.0.weighing t.0.weighing first.0 second.0,
       grows_both r.0.weighing xs ys whole r.0.not_utf8 s.0.not_utf8 t.0.not_utf8 s.0.weighing first.0.1 first.1 second.1,
+      skips_both r.0.weighing xs ys whole r.0.unweighed s.0.unweighed t.0.unweighed s.0.weighing first.0.1 first.2 second.2,
     ) };
 
     ghost fails_sooner = { λ r t xs ys e whole. lines_fail_sooner r.0.weighing xs ys whole r.0.sketch e };

@@ -48,7 +48,7 @@ pub struct ExactOptions {
 pub struct ExactSummary {
     /// Whether no read of an input failed.
     pub complete: bool,
-    /// The number of records that have an item and no weight, and whose weight is 0, at most `u64::MAX`. No clause states it.
+    /// The number of records that have an item and no weight, and whose weight is 0, at most `u64::MAX`.
     pub unweighed: u64,
 }
 
@@ -84,8 +84,8 @@ pub fn weigh_exactly<I: Inputs, R: LineSource, W: Output>(
     inputs: &mut I,
     writer: &mut W,
 ) -> Result<ExactSummary, ExactFailure>
-    ensures written { OnOk result (IfSome (R.remaining keys.old) (λ bytes. IfSome (I.inputs inputs.old)
-        (λ all. WritesSums options all (I.fails inputs.old) bytes (W.contents writer.old) (W.contents writer.new)))) }
+    ensures written { IfOk result (λ done. IfSome (R.remaining keys.old) (λ bytes. IfSome (I.inputs inputs.old)
+        (λ all. WritesSums options all (I.fails inputs.old) bytes done.unweighed (W.contents writer.old) (W.contents writer.new)))) }
     ensures complete { IfOk result (λ done. IfSome (I.inputs inputs.old) (λ _. done.complete ≡ none_fails (I.fails inputs.old))) }
     ensures complete_keys { OnOk result (IfSome (R.remaining keys.old) (λ _. R.fails keys.old ≡ false)) }
     ensures few { OnOk result (IfSome (R.remaining keys.old) (λ bytes. HaveFewKeys options.max_keys (parts_in options.keys_part bytes))) }
@@ -118,7 +118,7 @@ pub fn weigh_exactly<I: Inputs, R: LineSource, W: Output>(
     match write_sums(alloc, options, &done.sums, done.total, &file.order, writer) {
         Ok(()) => Ok(ExactSummary {
             complete,
-            unweighed: done.unweighed,
+            unweighed: done.records_unweighed(),
         }),
         Err(failure) => Err(ExactFailure::Weights(failure)),
     }
@@ -171,7 +171,7 @@ fn sums_of<I: Inputs>(
     buffer: &mut Vec<u8>,
     limit: usize,
 ) -> Result<(KeySums, bool), Failure>
-    ensures summed { IfOk result (λ done. IfSome (I.inputs inputs.old) (λ all. SumsInputs chosen sums.entries all (I.fails inputs.old) done.0.sums.entries done.0.total)) }
+    ensures summed { IfOk result (λ done. IfSome (I.inputs inputs.old) (λ all. SumsInputs chosen sums.entries all (I.fails inputs.old) done.0.sums.entries done.0.total done.0.unweighed)) }
     ensures complete { IfOk result (λ done. IfSome (I.inputs inputs.old) (λ _. done.1 ≡ none_fails (I.fails inputs.old))) }
     ensures too_long { OnOk result (IfSome (I.inputs inputs.old) (λ all. HaveLongRecord (splits_by chosen.item) limit all → ⊥)) }
     ensures failed { (write_error : Option Error) → IfErr result (FailsSums chosen limit (I.inputs inputs.old) write_error) }

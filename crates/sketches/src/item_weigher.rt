@@ -3,6 +3,8 @@ ghost use Rattle.std.specs.Prelude.{◌≡◌, [], ◌∷◌, IfErr, IfOk, OnOk}
 ghost use Rattle.sketches.specs.KeyWeights.{CountsLines, CountsWeighed, unweighed_line, weighed_line};
 ghost use Rattle.sketch_base.specs.Records.{records_by};
 ghost use Rattle.sketches.specs.Failures.{IsBadWeight};
+ghost use Rattle.sketches.specs.Skipped.{skipped_rows, skips, skips_row};
+ghost use Rattle.sketches.specs.Utf8Lines.{GrowsBy};
 ghost use Rattle.sketches.specs.WeighFailures.{FailsCounting, FailsLines};
 ghost use Rattle.sketches.specs.Weights.{counted_weight, weight_on};
 
@@ -29,29 +31,41 @@ pub struct ItemWeigher {
     pub unweighed: u64,
 }
 
+impl ItemWeigher {
+    /// Returns the number of records that have an item and no weight, and whose weight is 0, at most `u64::MAX`.
+    pub fn records_unweighed(&self) -> u64
+        ensures { result ≡ self.now.unweighed }
+    {
+        self.unweighed
+    }
+}
+
 impl LineSink<()> for ItemWeigher {
     ghost use Rattle.std.proofs.Common.{ap};
     ghost use Rattle.sketch_base.specs.Records.{splits_by};
     ghost use Rattle.sketches.specs.declared.weighing.WeighedRecord.{WeighedRecord};
     ghost use Rattle.sketches.specs.KeyWeightLaws.{counts_none, counts_both, counts_sooner, counts_later};
+    ghost use Rattle.sketches.specs.SkippedLaws.{rows_both, rows_none};
 
     ghost splits = { λ s. splits_by s.chosen.item };
 
-    ghost takes = { λ old bytes new. CountsLines old.0.chosen old.0.sketch (records_by old.0.chosen.item bytes) new.0.sketch
-        × (new.0.chosen ≡ old.0.chosen) };
+    ghost takes = { λ old bytes new. (CountsLines old.0.chosen old.0.sketch (records_by old.0.chosen.item bytes) new.0.sketch
+        × (new.0.chosen ≡ old.0.chosen)) × GrowsBy old.0.unweighed (skipped_rows old.0.chosen (records_by old.0.chosen.item bytes)) new.0.unweighed };
 
     ghost fails = { λ old bytes new failure. FailsLines old.0.chosen old.0.sketch.total (records_by old.0.chosen.item bytes) failure };
 
-    ghost takes_same = { λ r s xs taken. ap (λ (p : WeighedRecord). splits_by p.item) taken.1 };
+    ghost takes_same = { λ r s xs taken. ap (λ (p : WeighedRecord). splits_by p.item) taken.0.1 };
 
-    ghost takes_none = { λ s. counts_none s.0.chosen s.0.sketch };
+    ghost takes_none = { λ s. (counts_none s.0.chosen s.0.sketch, rows_none s.0.chosen s.0.unweighed) };
 
-    ghost takes_both = { λ r s t xs ys whole. counts_both r.0.chosen xs ys whole
-        r.0.sketch s.0.sketch t.0.sketch s.0.chosen t.0.chosen };
+    ghost takes_both = { λ r s t xs ys whole first second. (
+      counts_both r.0.chosen xs ys whole r.0.sketch s.0.sketch t.0.sketch s.0.chosen t.0.chosen first.0 second.0,
+      rows_both r.0.chosen xs ys whole r.0.unweighed s.0.unweighed t.0.unweighed s.0.chosen first.0.1 first.1 second.1,
+    ) };
 
     ghost fails_sooner = { λ r t xs ys e whole. counts_sooner r.0.chosen xs ys whole r.0.sketch.total e };
 
-    ghost fails_later = { λ r s t xs ys e whole takes. counts_later r.0.chosen xs ys whole r.0.sketch.total s.0.sketch.total s.0.chosen e takes.0.0.total takes.1 };
+    ghost fails_later = { λ r s t xs ys e whole takes. counts_later r.0.chosen xs ys whole r.0.sketch.total s.0.sketch.total s.0.chosen e takes.0.0.0.total takes.0.1 };
 
     fn records(&self) -> Records {
         self.chosen.item.records()
@@ -90,6 +104,7 @@ fn add_lines(
 ) -> Result<(), Failure>
     ensures added { OnOk result (CountsLines chosen sketch.old (records_by chosen.item bytes.now) sketch.new) }
     ensures failed { IfErr result (FailsLines chosen sketch.old.total (records_by chosen.item bytes.now)) }
+    ensures skipped { OnOk result (GrowsBy bad.old (skipped_rows chosen (records_by chosen.item bytes.now)) bad.new) }
 {
     let mut rest = bytes;
     'each: loop {
@@ -125,6 +140,7 @@ fn add_line(
 ) -> Result<(), Failure>
     ensures added { OnOk result (CountsWeighed sketch.old (weighed_line chosen row.now) sketch.new × (unweighed_line chosen row.now ≡ [])) }
     ensures failed { IfErr result (FailsCounting sketch.old.total (weighed_line chosen row.now) (unweighed_line chosen row.now)) }
+    ensures skipped { OnOk result (GrowsBy bad.old (skips_row chosen row.now) bad.new) }
 {
     let mut text = Vec::new(alloc);
     let Some(item) = record_part_of(chosen.item, row, &mut text)? else {
@@ -145,7 +161,8 @@ pub fn counted_weight(
     row: &[u8],
     bad: &mut u64,
 ) -> Result<Option<u64>, AllocError>
-    ensures { IfOk result (λ weight. weight ≡ counted_weight chosen row.now) }
+    ensures weight { IfOk result (λ weight. weight ≡ counted_weight chosen row.now) }
+    ensures skipped { OnOk result (GrowsBy bad.old (skips chosen.unweighed (weight_on chosen.weight row.now)) bad.new) }
 {
     match weight_of(alloc, chosen.weight, row)? {
         Some(weight) => Ok(Some(weight)),

@@ -3,6 +3,8 @@ ghost use Rattle.std.specs.Prelude.{◌≡◌, [], ◌∷◌, IfErr, OnOk};
 ghost use Rattle.sketch_base.specs.Records.{records_by};
 ghost use Rattle.sketches.specs.KeySums.{AddsItems, AddsLines, AddsWeight, names};
 ghost use Rattle.sketches.specs.KeyWeights.{unweighed_line, weighed_line};
+ghost use Rattle.sketches.specs.Skipped.{skipped_rows, skips_row};
+ghost use Rattle.sketches.specs.Utf8Lines.{GrowsBy};
 ghost use Rattle.sketches.specs.WeighFailures.{FailsCounting, FailsLines};
 
 use crate::failure::Failure;
@@ -25,30 +27,43 @@ pub struct KeySums {
     pub unweighed: u64,
 }
 
+impl KeySums {
+    /// Returns the number of records that have an item and no weight, and whose weight is 0, at most `u64::MAX`.
+    pub fn records_unweighed(&self) -> u64
+        ensures { result ≡ self.now.unweighed }
+    {
+        self.unweighed
+    }
+}
+
 impl LineSink<()> for KeySums {
     ghost use Rattle.std.proofs.Common.{ap};
     ghost use Rattle.sketch_base.specs.Records.{splits_by};
     ghost use Rattle.sketches.specs.declared.weighing.WeighedRecord.{WeighedRecord};
     ghost use Rattle.sketches.specs.KeyWeightLaws.{counts_sooner, counts_later};
     ghost use Rattle.sketches.specs.KeySumLaws.{sums_none, sums_both};
+    ghost use Rattle.sketches.specs.SkippedLaws.{rows_both, rows_none};
 
     ghost splits = { λ s. splits_by s.chosen.item };
 
-    ghost takes = { λ old bytes new. AddsLines old.0.chosen old.0.sums.entries old.0.total (records_by old.0.chosen.item bytes) new.0.sums.entries new.0.total
-        × (new.0.chosen ≡ old.0.chosen) };
+    ghost takes = { λ old bytes new. (AddsLines old.0.chosen old.0.sums.entries old.0.total (records_by old.0.chosen.item bytes) new.0.sums.entries new.0.total
+        × (new.0.chosen ≡ old.0.chosen)) × GrowsBy old.0.unweighed (skipped_rows old.0.chosen (records_by old.0.chosen.item bytes)) new.0.unweighed };
 
     ghost fails = { λ old bytes new failure. FailsLines old.0.chosen old.0.total (records_by old.0.chosen.item bytes) failure };
 
-    ghost takes_same = { λ r s xs taken. ap (λ (p : WeighedRecord). splits_by p.item) taken.1 };
+    ghost takes_same = { λ r s xs taken. ap (λ (p : WeighedRecord). splits_by p.item) taken.0.1 };
 
-    ghost takes_none = { λ s. sums_none s.0.chosen s.0.sums.entries s.0.total };
+    ghost takes_none = { λ s. (sums_none s.0.chosen s.0.sums.entries s.0.total, rows_none s.0.chosen s.0.unweighed) };
 
-    ghost takes_both = { λ r s t xs ys whole. sums_both r.0.chosen xs ys whole r.0.sums.entries s.0.sums.entries t.0.sums.entries
-        r.0.total s.0.total t.0.total s.0.chosen t.0.chosen };
+    ghost takes_both = { λ r s t xs ys whole first second. (
+      sums_both r.0.chosen xs ys whole r.0.sums.entries s.0.sums.entries t.0.sums.entries
+          r.0.total s.0.total t.0.total s.0.chosen t.0.chosen first.0 second.0,
+      rows_both r.0.chosen xs ys whole r.0.unweighed s.0.unweighed t.0.unweighed s.0.chosen first.0.1 first.1 second.1,
+    ) };
 
     ghost fails_sooner = { λ r t xs ys e whole. counts_sooner r.0.chosen xs ys whole r.0.total e };
 
-    ghost fails_later = { λ r s t xs ys e whole takes. counts_later r.0.chosen xs ys whole r.0.total s.0.total s.0.chosen e takes.0.0.total_is takes.1 };
+    ghost fails_later = { λ r s t xs ys e whole takes. counts_later r.0.chosen xs ys whole r.0.total s.0.total s.0.chosen e takes.0.0.0.total_is takes.0.1 };
 
     fn records(&self) -> Records {
         self.chosen.item.records()
@@ -89,6 +104,7 @@ fn add_lines(
 ) -> Result<(), Failure>
     ensures added { OnOk result (AddsLines chosen sums.old.entries total.old (records_by chosen.item bytes.now) sums.new.entries total.new) }
     ensures failed { IfErr result (FailsLines chosen total.old (records_by chosen.item bytes.now)) }
+    ensures skipped { OnOk result (GrowsBy bad.old (skipped_rows chosen (records_by chosen.item bytes.now)) bad.new) }
 {
     let mut rest = bytes;
     'each: loop {
@@ -122,6 +138,7 @@ fn add_line(
 ) -> Result<(), Failure>
     ensures added { OnOk result (AddsItems sums.old.entries total.old (weighed_line chosen row.now) sums.new.entries total.new × (unweighed_line chosen row.now ≡ [])) }
     ensures failed { IfErr result (FailsCounting total.old (weighed_line chosen row.now) (unweighed_line chosen row.now)) }
+    ensures skipped { OnOk result (GrowsBy bad.old (skips_row chosen row.now) bad.new) }
 {
     let mut text = Vec::new(alloc);
     let Some(item) = record_part_of(chosen.item, row, &mut text)? else {

@@ -4,6 +4,7 @@ ghost use Rattle.std.specs.Str.Lossy.{utf8_lossy};
 ghost use Rattle.sketch_base.specs.Records.{records_by};
 ghost use Rattle.sketches.specs.Added.{AddsLine, AddsLines, AddsWeighed};
 ghost use Rattle.sketches.specs.Failures.{FailsLine, FailsLines, FailsWeighing};
+ghost use Rattle.sketches.specs.Skipped.{skipped_rows, skips_row};
 ghost use Rattle.sketches.specs.Utf8Lines.{GrowsBy, not_utf8_in, not_utf8_of};
 ghost use Rattle.sketches.specs.Weighed.{with_weight};
 
@@ -37,6 +38,7 @@ pub fn add_records(
     ensures added { OnOk result (AddsLines (Weighing.Record chosen) sketch.old bytes.now sketch.new) }
     ensures failed { IfErr result (FailsLines (Weighing.Record chosen) sketch.old bytes.now) }
     ensures counted { OnOk result (GrowsBy not_utf8.old (not_utf8_in (Weighing.Record chosen) (records_by chosen.item bytes.now)) not_utf8.new) }
+    ensures skipped { OnOk result (GrowsBy bad.old (skipped_rows chosen (records_by chosen.item bytes.now)) bad.new) }
 {
     let mut text = Vec::new(alloc);
     let mut rest = bytes;
@@ -68,6 +70,7 @@ fn add_record(
     ensures added { OnOk result (AddsLine (Weighing.Record chosen) sketch.old row.now sketch.new) }
     ensures failed { IfErr result (FailsLine (Weighing.Record chosen) sketch.old row.now) }
     ensures counted { OnOk result (GrowsBy not_utf8.old (not_utf8_in (Weighing.Record chosen) (row.now ∷ [])) not_utf8.new) }
+    ensures skipped { OnOk result (GrowsBy bad.old (skips_row chosen row.now) bad.new) }
 {
     let Some(item) = record_part_of(chosen.item, row, text)? else {
         return Ok(());

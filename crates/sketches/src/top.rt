@@ -46,7 +46,7 @@ pub struct Summary {
     pub complete: bool,
     /// The number of records whose items are not UTF-8, at most `u64::MAX`.
     pub not_utf8: u64,
-    /// The number of records that have an item and no weight, and whose weight is 0, at most `u64::MAX`. No clause states it.
+    /// The number of records that have an item and no weight, and whose weight is 0, at most `u64::MAX`.
     pub unweighed: u64,
     /// The error, if exact numbers are wanted and it is not 0. No report is written then.
     pub inexact: Option<u64>,
@@ -97,7 +97,7 @@ pub fn top<I: Inputs, K: Keeper, W: Output>(
     let mut buffer = vec![in alloc; 0; limit.min(BLOCK)]?;
     let complete = read_inputs(alloc, &mut counter, &mut (), inputs, &mut buffer, limit)?;
     let not_utf8 = counter.records_not_utf8();
-    let unweighed = counter.unweighed;
+    let unweighed = counter.records_unweighed();
     keeper.keep(&counter.sketch);
     let Some(text) = report(
         alloc,

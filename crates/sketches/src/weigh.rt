@@ -55,7 +55,7 @@ pub struct WeighOptions {
 pub struct Weighed {
     /// Whether no read of an input failed.
     pub complete: bool,
-    /// The number of records that have an item and no weight, and whose weight is 0, at most `u64::MAX`. No clause states it.
+    /// The number of records that have an item and no weight, and whose weight is 0, at most `u64::MAX`.
     pub unweighed: u64,
     /// The error of a read of the file of keys, if any.
     pub failure: Option<io::Error>,
@@ -79,8 +79,8 @@ pub fn weigh<I: Inputs, R: LineSource, W: Output>(
     keys: &mut R,
     writer: &mut W,
 ) -> Result<Weighed, Failure>
-    ensures written { OnOk result (IfSome (I.inputs inputs.old) (λ all. IfSome (R.remaining keys.old)
-        (λ bytes. WritesWeights options all (I.fails inputs.old) bytes (R.fails keys.old) (W.contents writer.old) (W.contents writer.new)))) }
+    ensures written { IfOk result (λ done. IfSome (I.inputs inputs.old) (λ all. IfSome (R.remaining keys.old)
+        (λ bytes. WritesWeights options all (I.fails inputs.old) bytes (R.fails keys.old) done.unweighed (W.contents writer.old) (W.contents writer.new)))) }
     ensures complete { IfOk result (λ done. IfSome (I.inputs inputs.old) (λ _. done.complete ≡ none_fails (I.fails inputs.old))) }
     ensures complete_keys { IfOk result (λ done. IfSome (R.remaining keys.old) (λ _. is_some done.failure ≡ R.fails keys.old)) }
 
@@ -103,7 +103,7 @@ pub fn weigh<I: Inputs, R: LineSource, W: Output>(
     let limit = options.max_line as usize + 1;
     let mut buffer = vec![in alloc; 0; limit.min(BLOCK)]?;
     let complete = read_inputs(alloc, &mut weigher, &mut (), inputs, &mut buffer, limit)?;
-    let unweighed = weigher.unweighed;
+    let unweighed = weigher.records_unweighed();
     let sketch = weigher.sketch;
     write_total(
         alloc,

@@ -4,8 +4,10 @@ ghost use Rattle.std.specs.Str.Lines.{lines};
 ghost use Rattle.std.specs.Str.Lossy.{utf8_lossy};
 ghost use Rattle.sketches.specs.Added.{AddsLine, AddsLines};
 ghost use Rattle.sketches.specs.Failures.{FailsLine, FailsLines, IsBadWeight};
+ghost use Rattle.sketches.specs.Skipped.{skipped_in, skips, skips_line};
 ghost use Rattle.sketches.specs.Utf8Lines.{GrowsBy, not_utf8_in};
 ghost use Rattle.sketches.specs.Weighed.{line_weight};
+ghost use Rattle.sketches.specs.Weights.{weight_in};
 
 use crate::failure::{BadWeight, Failure};
 use crate::selection::Selection;
@@ -39,6 +41,7 @@ pub fn add_weighed_lines(
     ensures added { OnOk result (AddsLines (Weighing.Field part) sketch.old bytes.now sketch.new) }
     ensures failed { IfErr result (FailsLines (Weighing.Field part) sketch.old bytes.now) }
     ensures counted { OnOk result (GrowsBy not_utf8.old (not_utf8_in (Weighing.Field part) (lines bytes.now)) not_utf8.new) }
+    ensures skipped { OnOk result (GrowsBy bad.old (skipped_in (Weighing.Field part) (lines bytes.now)) bad.new) }
 {
     let mut rest = bytes;
     'each: loop {
@@ -65,6 +68,7 @@ fn add_raw_line(
     ensures added { OnOk result (AddsLine (Weighing.Field part) sketch.old line.now sketch.new) }
     ensures failed { IfErr result (FailsLine (Weighing.Field part) sketch.old line.now) }
     ensures counted { GrowsBy not_utf8.old (not_utf8_in (Weighing.Field part) (line.now ∷ [])) not_utf8.new }
+    ensures skipped { OnOk result (GrowsBy bad.old (skips_line part line.now) bad.new) }
 {
     match str_of(Selection::Part(part.item), line, not_utf8) {
         Some(text) => add_line(alloc, sketch, part, line, text, number, bad),
@@ -89,6 +93,7 @@ fn add_line(
     requires { text.now ≡ utf8_lossy line.now }
     ensures added { OnOk result (AddsLine (Weighing.Field part) sketch.old line.now sketch.new) }
     ensures failed { IfErr result (FailsLine (Weighing.Field part) sketch.old line.now) }
+    ensures skipped { OnOk result (GrowsBy bad.old (skips_line part line.now) bad.new) }
 {
     let Some(item) = part_of(part.item, text) else {
         return Ok(());
@@ -103,7 +108,8 @@ fn add_line(
 /// Returns the weight that counts of a line that has an item, or `None` if it has none. Increments `bad` if it has none and this is no error.
 #[inline(always)]
 fn line_weight(part: WeighedPart, line: &[u8], bad: &mut u64) -> Option<u64>
-    ensures { result ≡ line_weight part line.now }
+    ensures weight { result ≡ line_weight part line.now }
+    ensures skipped { GrowsBy bad.old (skips part.unweighed (weight_in part.weight line.now)) bad.new }
 {
     match weight_of(part.weight, line) {
         Some(weight) => Some(weight),

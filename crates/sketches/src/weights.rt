@@ -1,5 +1,7 @@
 //! The weights of lines.
 ghost use Rattle.std.specs.Prelude.{◌≡◌, None};
+ghost use Rattle.sketches.specs.Skipped.{skips};
+ghost use Rattle.sketches.specs.Utf8Lines.{GrowsBy};
 ghost use Rattle.sketches.specs.Weights.{taken_weight, weight_in};
 ghost use Rattle.sketch_base.specs.Decimals.{number_in};
 
@@ -22,7 +24,8 @@ pub fn weight_of(part: Part, line: &[u8]) -> Option<u64>
 
 /// Returns the weight of a record that has an item and no weight: 0, or `None` if it fails. Increments `bad`, up to `u64::MAX`, if it is 0.
 pub fn taken_weight(unweighed: Unweighed, bad: &mut u64) -> Option<u64>
-    ensures { result ≡ taken_weight unweighed None }
+    ensures weight { result ≡ taken_weight unweighed None }
+    ensures skipped { GrowsBy bad.old (skips unweighed None) bad.new }
 {
     match unweighed {
         Unweighed::Fails => None,

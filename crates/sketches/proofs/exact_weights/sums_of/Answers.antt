@@ -10,4 +10,4 @@ returns-in_err-complete-clause-failed g c = λ write_error.
 
 pub returns-clause-summed : goal.returns-clause-summed
 returns-clause-summed g c =
-    inputs_summed (g.I.Inputs.inputs c.args.inputs.now) (g.I.Inputs.fails c.args.inputs.now) c.in_ok-complete.complete (record { sums = c.args.sums; total = 0; chosen = c.args.chosen; count = 0; unweighed = 0 }, tt) (c.read_inputs.new.sink, c.read_inputs.new.output) refl c.in_ok-complete.ensures.taken
+    inputs_summed (g.I.Inputs.inputs c.args.inputs.now) (g.I.Inputs.fails c.args.inputs.now) c.in_ok-complete.complete (record { sums = c.args.sums; total = 0; chosen = c.args.chosen; count = 0; unweighed = 0 }, tt) (c.read_inputs.new.sink, c.read_inputs.new.output) refl refl c.in_ok-complete.ensures.taken

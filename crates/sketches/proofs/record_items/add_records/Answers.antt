@@ -1,19 +1,22 @@
 use Rattle.std.proofs.Common.{refl}
 use Rattle.std.proofs.lemmas.Result.{err_from_is_err_and}
 use Rattle.sketch_base.specs.Records.{records_by}
+use Rattle.sketches.specs.Skipped.{skips_row}
 use Rattle.sketches.specs.declared.weighing.Weighing.TheVariants.{Record}
+use Rattle.sketches.proofs.SkippedLines.{skipped_more}
 use Rattle.sketches.proofs.WeighedLines.{weighed_lines_none, weighed_lines_more, weighed_lines_failed}
 use Rattle.sketches.proofs.Utf8Strings.{grown_more}
 use Rattle.sketches.proofs.record_items.add_records.Goals as goal
 
 pub each-init : goal.each-init
-each-init c = (weighed_lines_none (Record c.args.chosen) c.args.sketch.now (records_by c.args.chosen.item c.args.bytes.now), refl)
+each-init c = (weighed_lines_none (Record c.args.chosen) c.args.sketch.now (records_by c.args.chosen.item c.args.bytes.now), refl, refl)
 
 pub each-preserved : goal.each-preserved
 each-preserved c =
     let d = c.args.chosen.item in (
       weighed_lines_more (Record c.args.chosen) c.args.sketch.now c.each.sketch c.add_record.new.sketch (records_by d c.args.bytes.now) (records_by d c.each.rest.now) (records_by d c.in-Some.after.now) c.in-Some.row.now c.each.invariant.0 c.in-Some.ensures.taken.0 c.in_ok-add_record.ensures.added,
       grown_more (Record c.args.chosen) c.args.not_utf8.now c.each.not_utf8 c.add_record.new.not_utf8 (records_by d c.args.bytes.now) (records_by d c.each.rest.now) (records_by d c.in-Some.after.now) c.in-Some.row.now c.each.invariant.1 c.in-Some.ensures.taken.0 c.in_ok-add_record.ensures.counted,
+      skipped_more (skips_row c.args.chosen) c.args.bad.now c.each.bad c.add_record.new.bad (records_by d c.args.bytes.now) (records_by d c.each.rest.now) (records_by d c.in-Some.after.now) c.in-Some.row.now c.each.invariant.2 c.in-Some.ensures.taken.0 c.in_ok-add_record.ensures.skipped,
     )
 
 pub returns-in_err-add_record-clause-failed : goal.returns-in_err-add_record-clause-failed

@@ -1,4 +1,4 @@
-use Rattle.std.proofs.Common.{ap, inr, refl}
+use Rattle.std.proofs.Common.{ap, arith, inr, refl}
 use Rattle.std.proofs.lemmas.Result.{err_from_is_err_and}
 use Rattle.sketch_countmin.specs.State.{CountState}
 use Rattle.sketches.proofs.KeyWeights.{keys_failed, some_weights, total_written, weigh_failed, weights_written, writing_failed}
@@ -13,9 +13,9 @@ returns-in_err-complete-clause-failed g c =
 pub returns-clause-written : goal.returns-clause-written
 returns-clause-written g c =
     weights_written g.W.Output.contents c.args.options (g.I.Inputs.inputs c.args.inputs.now) (g.R.LineSource.remaining c.args.keys.now) (g.R.LineSource.fails c.args.keys.now) (g.I.Inputs.fails c.args.inputs.now) c.in_ok-complete.complete c.in_ok-failure.failure
-    c.in_ok-sketch.sketch (record { sketch = c.in_ok-sketch.sketch; chosen = c.args.options.chosen; count = 0; unweighed = 0 }, tt) (c.read_inputs.new.sink, c.read_inputs.new.output) c.total_weight.result (g.W.Output.contents c.args.writer.now)
+    c.in_ok-sketch.sketch (record { sketch = c.in_ok-sketch.sketch; chosen = c.args.options.chosen; count = 0; unweighed = 0 }, tt) (c.read_inputs.new.sink, c.read_inputs.new.output) c.total_weight.result c.records_unweighed-unweighed.result (g.W.Output.contents c.args.writer.now)
     (record { sketch = c.read_inputs.new.sink.sketch; part = c.args.options.keys_part; style = c.args.options.style; written = c.new.result; number = c.new-2.result }, c.write_total.new.writer) (c.read_lines.new.sink, c.read_lines.new.output)
-    c.in_ok-sketch.ensures.made refl refl c.in_ok-complete.ensures.taken c.total_weight.ensures c.in_ok-write_total.ensures.written refl refl refl c.in_ok-failure.ensures.taken
+    c.in_ok-sketch.ensures.made refl refl refl c.records_unweighed-unweighed.ensures (omega arith) c.in_ok-complete.ensures.taken c.total_weight.ensures c.in_ok-write_total.ensures.written refl refl refl c.in_ok-failure.ensures.taken
 
 pub returns-in_err-write_total-clause-failed : goal.returns-in_err-write_total-clause-failed
 returns-in_err-write_total-clause-failed g c =

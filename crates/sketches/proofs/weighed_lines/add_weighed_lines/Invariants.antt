@@ -1,12 +1,17 @@
 use Rattle.std.proofs.Common.{length}
 use Rattle.std.specs.Str.Lines.{lines}
+use Rattle.sketches.specs.Skipped.{skips_line}
 use Rattle.sketches.specs.declared.weighing.Weighing.TheVariants.{Field}
+use Rattle.sketches.proofs.SkippedLines.{HasSkipped}
 use Rattle.sketches.proofs.WeighedLines.{HasWeighedLines}
 use Rattle.sketches.proofs.Utf8Strings.{HasGrown}
 use Rattle.sketches.proofs.weighed_lines.add_weighed_lines.Given as goal
 
 abbrev pub invariant-each : goal.invariant-each
-invariant-each l = HasWeighedLines (Field l.part) l.fn.sketch (lines l.bytes) (lines l.rest) l.sketch × HasGrown (Field l.part) l.fn.not_utf8 (lines l.bytes) (lines l.rest) l.not_utf8
+invariant-each l =
+    HasWeighedLines (Field l.part) l.fn.sketch (lines l.bytes) (lines l.rest) l.sketch
+    × HasGrown (Field l.part) l.fn.not_utf8 (lines l.bytes) (lines l.rest) l.not_utf8
+    × HasSkipped (skips_line l.part) l.fn.bad (lines l.bytes) (lines l.rest) l.bad
 
 abbrev pub decreases-each : goal.decreases-each
 decreases-each l = length l.rest
