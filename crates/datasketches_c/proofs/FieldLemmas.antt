@@ -2,11 +2,11 @@
 use Rattle.std.proofs.Common.{◌≡◌, ℕ, ℤ, List, length, Option, None, Some, inl, inr, sym, ◌∙◌, ap, subst}
 use Rattle.sketch_base.specs.Errors.{ErrorValue}
 use Rattle.sketch_base.specs.declared.error.ErrorKind.TheVariants.{InvalidArgument, OutOfMemory}
-use Rattle.sketch_base.specs.RecordItems.{AreItems, FailsItems, IsFirstBad, ItemsValue}
-use Rattle.sketch_base.specs.Records.{records_by}
-use Rattle.sketch_base.specs.declared.record_items.BadRecord.{BadRecord}
-use Rattle.sketch_base.specs.declared.record_items.WeighedRecord.{WeighedRecord}
-use Rattle.sketch_base.specs.declared.record_part.RecordPart.{RecordPart}
+use Rattle.sketch_text.specs.RecordItems.{AreItems, FailsItems, IsFirstBad, ItemsValue}
+use Rattle.sketch_text.specs.Records.{records_by}
+use Rattle.sketch_text.specs.declared.record_items.BadRecord.{BadRecord}
+use Rattle.sketch_text.specs.declared.record_items.WeighedRecord.{WeighedRecord}
+use Rattle.sketch_text.specs.declared.record_part.RecordPart.{RecordPart}
 use Rattle.datasketches_c.specs.FieldUpdates.{IsPart, IsWeight, OnRead, no_field}
 use Rattle.datasketches_c.specs.Numbers.{refusal_number}
 use Rattle.datasketches_c.specs.declared.fields_argument.FieldsArgument.{FieldsArgument}

@@ -1,16 +1,16 @@
 -- Results and effects of calls on the items and weights in fields of records.
 use Rattle.std.specs.Hash as fed
 use Rattle.std.specs.Prelude.{◌≡◌, ◌≢◌, ◌⊎◌, ◌<◌, ℕ, ℤ, pos, List, length, map, Option, Some, None}
-use Rattle.sketch_base.specs.Decimals.{number_in, signed_in}
 use Rattle.sketch_base.specs.Hashes.{fed_bytes}
-use Rattle.sketch_base.specs.RecordItems.{AreItems, IsFirstBad, ItemsValue}
-use Rattle.sketch_base.specs.Records.{records_by}
 use Rattle.sketch_base.specs.declared.fault.Fault.{Fault}
 use Rattle.sketch_base.specs.declared.fault.Fault.TheVariants.{NoMemory}
-use Rattle.sketch_base.specs.declared.part.Part.TheVariants as part
-use Rattle.sketch_base.specs.declared.record_items.WeighedRecord.{WeighedRecord}
-use Rattle.sketch_base.specs.declared.record_part.RecordPart.{RecordPart}
-use Rattle.sketch_base.specs.declared.record_part.RecordPart.TheVariants as record_part
+use Rattle.sketch_text.specs.Decimals.{number_in, signed_in}
+use Rattle.sketch_text.specs.RecordItems.{AreItems, IsFirstBad, ItemsValue}
+use Rattle.sketch_text.specs.Records.{records_by}
+use Rattle.sketch_text.specs.declared.part.Part.TheVariants as part
+use Rattle.sketch_text.specs.declared.record_items.WeighedRecord.{WeighedRecord}
+use Rattle.sketch_text.specs.declared.record_part.RecordPart.{RecordPart}
+use Rattle.sketch_text.specs.declared.record_part.RecordPart.TheVariants as record_part
 use Rattle.datasketches_c.specs.AnyUpdates.{WeighsAny}
 use Rattle.datasketches_c.specs.CountCalls.{AddsWeights}
 use Rattle.datasketches_c.specs.FilterCalls.{InsertsAll}

@@ -3,12 +3,13 @@ ghost use Rattle.std.specs.Prelude.{◌≡◌, ◌≤◌, length};
 ghost use Rattle.std.specs.Str.{IsUtf8};
 ghost use Rattle.core.specs.Str.{IsValidUpTo};
 ghost use Rattle.std.specs.Str.Lines.{lines};
-ghost use Rattle.sketch_base.specs.Csv.{IsBehindLastEnd, csv_records};
 ghost use Rattle.sketch_base.specs.Split.{CutsUtf8, IsBehindLast, SplitsAt, separates, words_by};
-ghost use Rattle.sketch_base.specs.declared.place.Place.TheVariants.{Start};
 ghost use Rattle.sketch_base.specs.declared.separator.Separator.TheVariants.{AsciiWhitespace, LineFeed};
+ghost use Rattle.sketch_text.specs.Csv.{IsBehindLastEnd, csv_records};
+ghost use Rattle.sketch_text.specs.declared.place.Place.TheVariants.{Start};
 
-use sketch_base::{Place, Separator, finished_csv_records, finished_lines, finished_words};
+use sketch_base::{Separator, finished_lines, finished_words};
+use sketch_text::{Place, finished_csv_records};
 
 /// Returns the number of bytes through the last byte of ASCII white space, or 0 if there is none. The words of these
 /// bytes are finished, whatever comes after them.

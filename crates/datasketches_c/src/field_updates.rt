@@ -1,6 +1,6 @@
 //! Calls that add or insert the items in fields of records.
 ghost use Rattle.std.specs.Prelude.{◌≡◌, Some, length, pos};
-ghost use Rattle.sketch_base.specs.Decimals.{number_in, signed_in};
+ghost use Rattle.sketch_text.specs.Decimals.{number_in, signed_in};
 ghost use Rattle.datasketches_c.specs.AnyUpdates.{WeighsWith};
 ghost use Rattle.datasketches_c.specs.CountCalls.{AddsWeights};
 ghost use Rattle.datasketches_c.specs.FieldUpdates.{InsertsFields, OnFields, OnRead, UpdatesFields, all_strings, fed_strings};
@@ -16,9 +16,9 @@ use crate::handle::SketchHandle;
 use crate::items_argument::{GivenItems, GivenRows};
 use crate::status_code::{BAD_ARGUMENT, NO_SKETCH, OK, WRONG_KIND, refusal_number};
 use sketch_base::ErrorKind;
-use sketch_base::records::{BadRecord, RecordItems, RecordWeight, WeighedRecord};
 use sketch_bloom::BloomFilter;
 use sketch_countmin::CountMinSketch;
+use sketch_text::records::{BadRecord, RecordItems, RecordWeight, WeighedRecord};
 use std::alloc::Global;
 
 /// Writes where a record with an error begins, and returns the error's number. Writes nothing if memory was exhausted.

@@ -1,10 +1,10 @@
 //! The fields of records as an argument of calls.
 ghost use Rattle.std.specs.Prelude.{◌≡◌, MatchOption, pos};
 ghost use Rattle.datasketches_c.specs.FieldUpdates.{IsChosen, IsPart};
-ghost use Rattle.sketch_base.specs.declared.record_items.WeighedRecord.{WeighedRecord as OfRecord};
-ghost use Rattle.sketch_base.specs.declared.record_part.RecordPart.{RecordPart as OfPart};
+ghost use Rattle.sketch_text.specs.declared.record_items.WeighedRecord.{WeighedRecord as OfRecord};
+ghost use Rattle.sketch_text.specs.declared.record_part.RecordPart.{RecordPart as OfPart};
 
-use sketch_base::records::{CsvField, Field, Part, RecordPart, WeighedRecord};
+use sketch_text::records::{CsvField, Field, Part, RecordPart, WeighedRecord};
 
 /// The index that names no field.
 const NO_FIELD: u32 = 4294967295;

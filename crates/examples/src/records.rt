@@ -1,7 +1,7 @@
 //! Examples of items and weights in fields of records, and their test.
 use sketch_base::Error;
-use sketch_base::records::{CsvField, RecordItems, RecordPart, WeighedRecord};
 use sketch_frequencies::FrequentItemsSketch;
+use sketch_text::records::{CsvField, RecordItems, RecordPart, WeighedRecord};
 use std::alloc::Global;
 use std::test::Fail;
 

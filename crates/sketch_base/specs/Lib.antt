@@ -1,9 +1,6 @@
 pub mod Batches
 pub mod Buffer
 pub mod Checks
-pub mod Columns
-pub mod Csv
-pub mod Decimals
 pub mod Errors
 pub mod Faults
 pub mod Fields
@@ -14,8 +11,6 @@ pub mod Murmur3
 pub mod Murmur3State
 pub mod PowersOfTwo
 pub mod Reciprocal
-pub mod RecordItems
-pub mod Records
 pub mod ShortBytes
 pub mod SipHash
 pub mod SipHashLanes

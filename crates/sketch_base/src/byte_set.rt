@@ -7,7 +7,7 @@ ghost use Rattle.sketch_base.specs.Split.{IsFirstMarked};
 use std::simd::prelude::*;
 
 /// A set of bytes.
-pub(crate) trait ByteSet: Copy {
+pub trait ByteSet: Copy {
     // Whether a byte is in the set.
     ghost member: { Self → ℕ → Bool };
 
@@ -28,7 +28,7 @@ pub(crate) trait ByteSet: Copy {
 
 /// The set of one byte.
 #[derive(Clone, Copy)]
-pub(crate) struct OneByte(pub u8);
+pub struct OneByte(pub u8);
 
 impl ByteSet for OneByte {
     ghost member = { λ s byte. byte == s.0 };
@@ -63,7 +63,7 @@ impl OneByte {
 
 /// Returns the first index of a byte that is in a set, or the number of bytes if there is none.
 #[inline(always)]
-pub(crate) fn first_member<S: ByteSet>(bytes: &[u8], set: S) -> usize
+pub fn first_member<S: ByteSet>(bytes: &[u8], set: S) -> usize
     ensures value { result ≡ position_or_len (S.member set) bytes.now }
     ensures bound { result ≤ length bytes.now }
 {

@@ -93,7 +93,7 @@ impl<'a> ByteWords<'a> {
     fn first_word(&self) -> &'a [u8]
         ensures { take 1 self.now ≡ with_word result.now [] }
     {
-        let (word, _) = next_word(self.bytes, self.separator);
+        let (word, _) = next_word_of_bytes(self.bytes, self.separator);
         word
     }
 
@@ -140,7 +140,7 @@ fn word_or_empty(bytes: &[u8], separator: Separator, index: u32) -> &[u8]
     ensures { take 1 (drop index (words_by separator bytes.now)) ≡ with_word result.now [] }
 {
     if index == 0 {
-        let (word, _) = next_word(bytes, separator);
+        let (word, _) = next_word_of_bytes(bytes, separator);
         return word;
     }
     let mut words = ByteWords::between(bytes, separator);
@@ -153,13 +153,13 @@ fn first_of_long(bytes: &[u8], separator: Separator) -> (&[u8], ByteWords<'_>)
     ensures words { words_by separator bytes.now ≡ with_word result.0.now result.1 }
     ensures none { result.0.now ≡ [] → result.1 ≡ [] }
 {
-    let (word, rest) = next_word(bytes, separator);
+    let (word, rest) = next_word_of_bytes(bytes, separator);
     (word, ByteWords::between(rest, separator))
 }
 
-/// Returns the first word of bytes and the bytes after it. Both are empty if there is no word.
+/// Returns the first word of bytes and the bytes after it. Both are empty if there is no word. Does not allocate.
 #[inline(always)]
-pub(crate) fn next_word(bytes: &[u8], separator: Separator) -> (&[u8], &[u8])
+pub fn next_word_of_bytes(bytes: &[u8], separator: Separator) -> (&[u8], &[u8])
     ensures words { words_by separator bytes.now ≡ with_word result.0.now (words_by separator result.1.now) }
     ensures none { result.0.now ≡ [] → result.1.now ≡ [] }
 {

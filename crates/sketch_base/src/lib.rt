@@ -1,5 +1,5 @@
-//! The layer below the sketches: hash functions, byte cursors, fields of images, families, errors, remainders, words,
-//! fields and lines.
+//! The layer below the sketches: hash functions, items, byte cursors, fields of images, families, errors, remainders, words
+//! and lines.
 //!
 //! - [`XxHash64`] and [`MurmurHash3X64128`] hash bytes that arrive in pieces. Contracts see each result as the hash of
 //!   the whole list of bytes.
@@ -19,30 +19,23 @@
 //!   unread, and those that are written.
 //! - [`image`] reads the fields of images at fixed offsets, and has the checks that all images share.
 //! - [`Family`] names a kind of sketch in an image. An [`Error`] has a kind and a [`Fault`], its cause.
-//! - [`laws`] states the values of the constants, the bytes of items, and that records of CSV concatenate to the text.
+//! - [`laws`] states the values of the constants and the bytes of items.
 //! - [`copy_short`] copies few bytes without a function call.
 //! - [`Divisor`] computes remainders by a precomputed number without a division.
-//! - [`first_words`] splits a string into an array, and [`nth_word`] returns one of its words. [`nth_word_of_bytes`]
-//!   does so for bytes that need not be UTF-8. [`nth_field_of_bytes`] and [`nth_field`] return one field between
-//!   delimiters. [`finished_words`] and [`finished_lines`] return where a chunk of a stream can be split.
-//! - [`records`] splits bytes into lines or records of CSV, and returns their items with their weights. A [`StringBuffer`] is many
-//!   strings in one buffer.
+//! - [`first_words`] splits a string into an array, and [`nth_word`] returns one of its words. [`nth_word_of_bytes`] and
+//!   [`next_word_of_bytes`] return words of bytes that need not be UTF-8. [`finished_words`] and [`finished_lines`] return where a
+//!   chunk of a stream can be split.
+//! - [`first_member`] searches bytes for the first one of a [`ByteSet`], as [`OneByte`] or a [`Separator`].
 #![tactic(auto)]
 
 mod byte_set;
 mod byte_strings;
 mod byte_words;
-mod columns;
-mod csv_fields;
-mod csv_records;
-mod decimals;
 mod divisor;
 mod error;
 mod family;
 mod fault;
 mod fed_items;
-mod field;
-mod fields;
 pub mod image;
 mod item_hash;
 mod items;
@@ -52,12 +45,6 @@ mod machine_words;
 mod map_state;
 mod murmurhash;
 mod offset_strings;
-mod part;
-mod place;
-mod raw_lines;
-mod record_items;
-mod record_part;
-pub mod records;
 mod rehashable_bytes;
 mod rehashable_item;
 mod rehashable_str;
@@ -73,31 +60,26 @@ mod sketch_bytes;
 mod sketch_slice;
 mod split;
 mod str_hash;
-mod string_buffer;
 mod strings;
-mod two_bytes;
 mod utf8;
 mod validity;
 mod words;
 mod xxhash;
 
+pub use byte_set::{ByteSet, OneByte, first_member};
 pub use byte_strings::ByteStrings;
-pub use byte_words::nth_word_of_bytes;
-pub use csv_fields::{append_csv_text, nth_csv_field, plain_csv_text};
-pub use csv_records::{finished_csv_records, next_csv_record};
+pub use byte_words::{next_word_of_bytes, nth_word_of_bytes};
 pub use divisor::Divisor;
 pub use error::{Error, ErrorKind};
 pub use family::Family;
 pub use fault::Fault;
 pub use fed_items::{FedBytes, FedItems};
-pub use fields::{nth_field, nth_field_of_bytes};
 pub use item_hash::{keyed_hash_of, keyed_hashes_of, murmur3_of, murmur3_of_u64, xxh64_of};
 pub use items::{Item, Items};
 pub use lines::Lines;
 pub use map_state::{MapHasher, MapState};
 pub use murmurhash::{DEFAULT_UPDATE_SEED, MurmurHash3X64128};
 pub use offset_strings::{OffsetStrings, Offsets, are_offsets};
-pub use place::Place;
 pub use rehashable_bytes::RehashableBytes;
 pub use rehashable_item::{Rehashable, RehashableItem};
 pub use rehashable_str::RehashableStr;
@@ -111,7 +93,6 @@ pub use sketch_bytes::SketchBytes;
 pub use sketch_slice::SketchSlice;
 pub use split::{finished_lines, finished_words, first_words};
 pub use str_hash::{keyed_hash_of_str, murmur3_of_str, xxh64_of_str};
-pub use string_buffer::StringBuffer;
 pub use strings::{Strings, Strs};
 pub use utf8::from_utf8;
 pub use validity::{ValidItems, Validity};

@@ -217,9 +217,9 @@ impl<'a, O: Offsets> OffsetStrings<'a, O> {
         Ok(OffsetStrings { bytes, offsets })
     }
 
-    /// Creates the strings of a buffer whose offsets are valid and whose strings are UTF-8.
+    /// Creates the strings of a buffer whose offsets are valid and whose strings are UTF-8. Checks nothing.
     #[inline(always)]
-    pub(crate) fn of_buffer(bytes: &'a [u8], offsets: O) -> Self
+    pub fn of_buffer(bytes: &'a [u8], offsets: O) -> Self
         requires { AreStrings bytes.now (O.offsets offsets) }
         ensures { result ≡ strings_of bytes.now (O.offsets offsets) }
     {

@@ -8,11 +8,11 @@ use Rattle.sketch_bloom.specs.State.{FilterState, all_inserted, answers_in_turn,
 use Rattle.sketches.specs.EndedText.{Prints, form_after_all, form_both, prints_none, text_both, text_of}
 use Rattle.sketches.specs.Joined.{joined_lines}
 use Rattle.sketches.specs.RecordParts.{raws_by}
-use Rattle.sketch_base.specs.Records.{part_in, records_by}
+use Rattle.sketch_text.specs.Records.{part_in, records_by}
 use Rattle.sketches.specs.Unseen.{AreNextLines, hashed, is_seen, item_of, unseen_lines, with_items, with_lines, written_by, written_of}
 use Rattle.sketches.specs.UnseenLaws.{items_both}
 use Rattle.sketches.specs.declared.ended_text.RecordForm.{RecordForm}
-use Rattle.sketch_base.specs.declared.record_part.RecordPart.{RecordPart}
+use Rattle.sketch_text.specs.declared.record_part.RecordPart.{RecordPart}
 
 -- the item of a record with its end is that of the record without it
 pub item_is : (part : RecordPart) (raw line : List ℕ) → records_by part raw ≡ line ∷ [] → item_of part raw ≡ part_in part line

@@ -3,7 +3,7 @@ use Rattle.std.proofs.Common.{◌≡◌, inl, inr, ⊎_elim, ℕ, Bool, List, []
 use Rattle.sketches.specs.Reading.{AreFirstRecords, AreWholeRecords, FailsInput, HasLongRecord, IsReadOf, TakesInput}
 use Rattle.sketches.specs.declared.failure.Failure.{Failure}
 use Rattle.sketches.specs.declared.failure.Failure.TheVariants.{LineTooLong}
-use Rattle.sketch_base.specs.declared.records.Records.{Records}
+use Rattle.sketch_text.specs.declared.records.Records.{Records}
 use Rattle.sketches.proofs.ReadLines.{whole_none}
 
 module _ {S : Type 0} (splits : S → Records) (takes : S → List ℕ → S → Type 0) (old begun : S) (same : splits begun ≡ splits old) (begins : takes old [] begun) where

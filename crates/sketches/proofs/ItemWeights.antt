@@ -18,13 +18,13 @@ use Rattle.sketch_countmin.specs.State.{CountState, IsMinCell, empty_state}
 use Rattle.sketches.specs.Faults.{failure_of}
 use Rattle.sketches.specs.KeyWeightLaws.{all_lines, estimates_both, estimates_none, lines_later, lines_sooner, no_lines, one_fails, one_line}
 use Rattle.sketches.specs.KeyWeights.{CountsLines, CountsWeighed, IsEmptyTable, IsTableFor, Row, WritesEstimates, row_line, unweighed_line, usable_seed, weighed_line}
-use Rattle.sketch_base.specs.Records.{part_in}
+use Rattle.sketch_text.specs.Records.{part_in}
 use Rattle.sketches.specs.Unseen.{hashed}
 use Rattle.sketches.specs.WeighFailures.{FailsCounting, FailsLines, FailsTable}
 use Rattle.sketches.specs.declared.failure.Failure.{Failure}
 use Rattle.sketches.specs.declared.weighing.WeighedRecord.{WeighedRecord}
 use Rattle.sketches.specs.declared.layout.Style.{Style}
-use Rattle.sketch_base.specs.declared.record_part.RecordPart.{RecordPart}
+use Rattle.sketch_text.specs.declared.record_part.RecordPart.{RecordPart}
 
 -- ---- the items of records
 

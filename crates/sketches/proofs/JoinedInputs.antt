@@ -13,14 +13,14 @@ use Rattle.sketches.specs.Reading.{AreFirstRecords}
 use Rattle.sketches.specs.Joined.{FindsKeys, WritesJoined, WritesSomeJoined, joined_lines, keys_of}
 use Rattle.sketches.specs.JoinedLaws.{joined_both}
 use Rattle.sketches.specs.RecordParts.{raws_by}
-use Rattle.sketch_base.specs.Records.{splits_by}
+use Rattle.sketch_text.specs.Records.{splits_by}
 use Rattle.sketches.specs.Unseen.{item_of, with_items, written_of}
 use Rattle.sketches.specs.Appending.{appends_both, front_after, front_all, front_more, front_same}
 use Rattle.sketches.specs.EndedText.{Prints, form_after_all, prints_none, prints_both, text_both, text_of}
 use Rattle.sketches.specs.declared.failure.Failure.{Failure}
 use Rattle.sketches.specs.declared.joined.JoinedLines.{JoinedLines}
 use Rattle.sketches.specs.declared.ended_text.RecordForm.{RecordForm}
-use Rattle.sketch_base.specs.declared.record_part.RecordPart.{RecordPart}
+use Rattle.sketch_text.specs.declared.record_part.RecordPart.{RecordPart}
 use Rattle.sketches.proofs.Written.{inserted_is_seen, lines_failed, raws_more, seen_at, writing_failed}
 
 by_wanted : (wanted : Bool) (raw : List ℕ) → written_of wanted true raw ≡ (if wanted then raw ∷ [] else [])

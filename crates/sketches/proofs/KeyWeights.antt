@@ -23,7 +23,7 @@ use Rattle.sketches.specs.Inputs.{AreRead, FailsAmong, FailsInputs, FailsTakingI
 use Rattle.sketches.specs.KeyWeightLaws.{all_lines, no_lines, some_whole}
 use Rattle.sketches.specs.KeyWeights.{CountsLines, CountsWeighed, IsEmptyTable, IsWeightOf, Row, WritesEstimates, WritesSomeEstimates, WritesSomeWeights, WritesWeights, bucket_weight, counted, parts_in, total_line, unweighed_in, unweighed_line, unweighed_lines, usable_seed, weighed_in, weighed_line, weighed_lines}
 use Rattle.sketches.specs.Reading.{AreFirstRecords, FailsInput, TakesInput}
-use Rattle.sketch_base.specs.Records.{records_by, splits_by}
+use Rattle.sketch_text.specs.Records.{records_by, splits_by}
 use Rattle.sketches.specs.Skipped.{skipped_rows}
 use Rattle.sketches.specs.SkippedLaws.{rows_append, skips_none}
 use Rattle.sketches.specs.Unseen.{hashed}
@@ -41,7 +41,7 @@ use Rattle.sketches.specs.declared.weighing.WeighedRecord.{WeighedRecord}
 use Rattle.sketches.specs.declared.weighing.Weighing.TheVariants.{Record}
 use Rattle.sketches.specs.declared.key_weights.KeyWeights.{KeyWeights}
 use Rattle.sketches.specs.declared.layout.Style.{Style}
-use Rattle.sketch_base.specs.declared.record_part.RecordPart.{RecordPart}
+use Rattle.sketch_text.specs.declared.record_part.RecordPart.{RecordPart}
 use Rattle.sketches.specs.declared.weigh.WeighOptions.{WeighOptions}
 
 -- ---- the weight in a bucket

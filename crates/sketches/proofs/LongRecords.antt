@@ -4,15 +4,15 @@ use Rattle.std.proofs.lemmas.List.{take-append-drop, take-append-le, drop-append
 use Rattle.std.proofs.lemmas.List.Elements.{All-take}
 use Rattle.std.proofs.Math.Seq.{take-append_seam, drop-append_seam}
 use Rattle.std.proofs.lemmas.Bool.{cases_lt, false≢true}
-use Rattle.sketch_base.specs.Csv.{EndsRecord, IsOnePart, cuts, ends_field, in_quotes, is_feed, after_byte, place_after}
 use Rattle.sketch_base.specs.Split.{separates}
-use Rattle.sketch_base.specs.declared.place.Place.{Place}
-use Rattle.sketch_base.specs.declared.place.Place.TheVariants.{Start}
 use Rattle.sketch_base.specs.declared.separator.Separator.TheVariants.{LineFeed}
-use Rattle.sketch_base.specs.declared.records.Records.{Records}
-use Rattle.sketch_base.specs.declared.records.Records.TheVariants.{Lines, Csv}
-use Rattle.sketch_base.proofs.CsvRecords.{one_at, place_at_end}
-use Rattle.sketch_base.proofs.CsvRuns.{after_append}
+use Rattle.sketch_text.specs.Csv.{EndsRecord, IsOnePart, cuts, ends_field, in_quotes, is_feed, after_byte, place_after}
+use Rattle.sketch_text.specs.declared.place.Place.{Place}
+use Rattle.sketch_text.specs.declared.place.Place.TheVariants.{Start}
+use Rattle.sketch_text.specs.declared.records.Records.{Records}
+use Rattle.sketch_text.specs.declared.records.Records.TheVariants.{Lines, Csv}
+use Rattle.sketch_text.proofs.CsvRecords.{one_at, place_at_end}
+use Rattle.sketch_text.proofs.CsvRuns.{after_append}
 use Rattle.sketches.specs.Reading.{AreWholeRecords, HasLongRecord, IsInOne, IsInOneLine, place_of}
 
 -- no record has at least `limit` bytes before its line feed

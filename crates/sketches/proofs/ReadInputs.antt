@@ -6,7 +6,7 @@ use Rattle.sketch_frequencies.proofs.KeyedBatches.{all_zip_push}
 use Rattle.sketches.specs.Reading.{AreFirstRecords, FailsInput, HasLongRecord, IsReadOf, TakesInput}
 use Rattle.sketches.specs.Inputs.{AreRead, FailsAmong, FailsInputs, HaveLongRecord, OpensNext, TakesEach, TakesFirst, TakesInputs, none_fails}
 use Rattle.sketches.specs.declared.failure.Failure.{Failure}
-use Rattle.sketch_base.specs.declared.records.Records.{Records}
+use Rattle.sketch_text.specs.declared.records.Records.{Records}
 use Rattle.sketches.proofs.LongRecords.{Fits}
 
 -- what was read of one more input

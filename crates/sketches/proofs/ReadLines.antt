@@ -11,13 +11,13 @@ use Rattle.sketch_base.specs.Split.{IsBehindLast, separates}
 use Rattle.sketch_base.specs.declared.separator.Separator.TheVariants.{LineFeed}
 use Rattle.sketches.specs.Reading.{AreFirstRecords, AreWholeLines, AreWholeRecords, FailsTaking, FailsWithin, HasLongRecord, IsBehindEnd, IsInOne, IsInOneLine, IsReadOf, StopsAfter, TakesInput, TakesRecords, place_of}
 use Rattle.sketches.specs.declared.failure.Failure.{Failure}
-use Rattle.sketch_base.specs.declared.records.Records.{Records}
-use Rattle.sketch_base.specs.declared.records.Records.TheVariants.{Lines, Csv}
-use Rattle.sketch_base.specs.Csv.{EndsRecord, ends_field, is_feed, place_after}
-use Rattle.sketch_base.specs.declared.place.Place.{Place}
-use Rattle.sketch_base.specs.declared.place.Place.TheVariants.{Start}
-use Rattle.sketch_base.proofs.CsvRuns.{after_append, one_append}
-use Rattle.sketch_base.proofs.CsvRecords.{ends_later, place_at_end}
+use Rattle.sketch_text.specs.declared.records.Records.{Records}
+use Rattle.sketch_text.specs.declared.records.Records.TheVariants.{Lines, Csv}
+use Rattle.sketch_text.specs.Csv.{EndsRecord, ends_field, is_feed, place_after}
+use Rattle.sketch_text.specs.declared.place.Place.{Place}
+use Rattle.sketch_text.specs.declared.place.Place.TheVariants.{Start}
+use Rattle.sketch_text.proofs.CsvRuns.{after_append, one_append}
+use Rattle.sketch_text.proofs.CsvRecords.{ends_later, place_at_end}
 use Rattle.sketches.proofs.LongRecords.{Fits, fits_append, fits_short, fits_whole, place_both, place_whole}
 
 -- whole lines, and whole lines after them

@@ -11,8 +11,8 @@ use Rattle.std.specs.Io.KnownBytes.{Appends}
 use Rattle.std.specs.List.{AllZip, flat_map}
 use Rattle.std.specs.Option.{unwrap_or}
 use Rattle.std.specs.declared.io.Error.{Error}
-use Rattle.sketch_base.specs.Records.{records_by, splits_by}
-use Rattle.sketch_base.specs.declared.record_part.RecordPart.{RecordPart}
+use Rattle.sketch_text.specs.Records.{records_by, splits_by}
+use Rattle.sketch_text.specs.declared.record_part.RecordPart.{RecordPart}
 use Rattle.sketches.proofs.TakenKeys.{length_names, same_bytes}
 use Rattle.sketches.proofs.KeyWeights.{few_of_each, unweighed_among, weighed_among}
 use Rattle.sketches.specs.Appending.{appends_both, appends_none, front_after, front_all, front_more, front_same}

@@ -14,8 +14,8 @@ use Rattle.std.specs.Prelude.{if◌then◌else◌}
 use Rattle.std.specs.Str.{bytes_eq}
 use Rattle.std.specs.declared.vec.Vec.{Vec}
 use Rattle.indexmap.specs.IndexMap.{insert_entry}
-use Rattle.sketch_base.specs.Records.{part_in}
-use Rattle.sketch_base.specs.declared.record_part.RecordPart.{RecordPart}
+use Rattle.sketch_text.specs.Records.{part_in}
+use Rattle.sketch_text.specs.declared.record_part.RecordPart.{RecordPart}
 use Rattle.sketch_frequencies.proofs.KeyedBatches.{all_zip_push}
 use Rattle.sketches.proofs.KeyWeights.{weight_within}
 use Rattle.sketches.specs.KeySumLaws.{all_sums, no_sums, one_sum, taken_both, taken_none, taking_after, taking_more}

@@ -8,14 +8,14 @@ use Rattle.std.specs.List.{All, list_all, slice_split}
 use Rattle.std.specs.Prelude.{◌&&◌, not}
 use Rattle.std.specs.Str.{IsUtf8, is_utf8}
 use Rattle.std.specs.Str.Lines.{lines, lines_of_parts, strip_carriage_return}
-use Rattle.sketch_base.proofs.Delimited.{fields_of, fields_utf8}
 use Rattle.sketch_base.proofs.PartsUtf8.{parts_utf8, words_utf8}
 use Rattle.sketch_base.proofs.SplitWords.{separator_below}
-use Rattle.sketch_base.specs.Records.{part_of}
 use Rattle.sketch_base.specs.Split.{separates, words_of}
-use Rattle.sketch_base.specs.declared.part.Part.{Part}
-use Rattle.sketch_base.specs.declared.part.Part.TheVariants as part
 use Rattle.sketch_base.specs.declared.separator.Separator.TheVariants.{AsciiWhitespace, LineFeed}
+use Rattle.sketch_text.proofs.Delimited.{fields_of, fields_utf8}
+use Rattle.sketch_text.specs.Records.{part_of}
+use Rattle.sketch_text.specs.declared.part.Part.{Part}
+use Rattle.sketch_text.specs.declared.part.Part.TheVariants as part
 use Rattle.sketches.specs.Utf8Lines.{GrowsBy, bytes_of, bytes_of_line, not_utf8_in, not_utf8_of}
 use Rattle.sketches.specs.declared.selection.Selection.{Selection}
 use Rattle.sketches.specs.declared.selection.Selection.TheVariants as selection
@@ -64,11 +64,6 @@ module _ (chosen : Weighing) where
   pub grown_more : (old mid new : ℕ) (all left later : List (List ℕ)) (row : List ℕ) → HasGrown old all left mid → left ≡ row ∷ later → GrowsBy mid (not_utf8_in chosen (row ∷ [])) new → HasGrown old all later new
   grown_more old mid new all left later row so next grows =
       omega (arith, so, grows, ap (not_utf8_in chosen) next, not_utf8_cons row later)
-
-  pub grown_all : (old new : ℕ) (all left : List (List ℕ)) → HasGrown old all left new → left ≡ [] → GrowsBy old (not_utf8_in chosen all) new
-  grown_all old new all left so none =
-      let zero : not_utf8_in chosen [] ≡ 0 = refl in
-      omega (arith, so, ap (not_utf8_in chosen) none, zero)
 
 -- an item that is UTF-8 counts 0, and another counts 1
 pub item_counts_none : (item : List ℕ) → IsUtf8 item → not_utf8_of item ≡ 0

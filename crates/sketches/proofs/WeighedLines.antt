@@ -26,7 +26,7 @@ use Rattle.sketches.specs.Added.{Sketch, AddsLine, AddsLines, AddsStrings, AddsW
 use Rattle.sketches.specs.Failures.{FailsAdding, FailsLine, FailsLines, FailsWeighing, IsBadWeight}
 use Rattle.sketches.specs.Faults.{failure_of}
 use Rattle.sketches.specs.Items.{items_of, items_of_raw_line}
-use Rattle.sketch_base.specs.Records.{part_in, part_of}
+use Rattle.sketch_text.specs.Records.{part_in, part_of}
 use Rattle.sketches.specs.Weighed.{Weighed, items_of_record, line_weight, once, records_of, total_of, unweighed_of, unweighed_of_line, weighed_of, weighed_of_line, with_weight, without_weight}
 use Rattle.sketches.specs.Weights.{counted_weight}
 use Rattle.sketches.specs.declared.weighing.WeighedRecord.{WeighedRecord}

@@ -14,13 +14,13 @@ use Rattle.sketches.specs.Inputs.{FailsAmong, FailsInputs, HaveLongRecord, Takes
 use Rattle.sketches.specs.Outputs.{WritesFront}
 use Rattle.sketches.specs.Reading.{AreFirstRecords}
 use Rattle.sketches.specs.RecordParts.{raws_by}
-use Rattle.sketch_base.specs.Records.{splits_by}
+use Rattle.sketch_text.specs.Records.{splits_by}
 use Rattle.sketches.specs.Unseen.{AreFirst, WritesSomeUnseen, WritesUnseen, hashed, is_seen, item_of, unseen_lines, with_items, with_lines}
 use Rattle.sketches.specs.Appending.{appends_both, front_after, front_all, front_more, front_same}
 use Rattle.sketches.specs.EndedText.{Prints, form_after_all, prints_none, prints_both, text_both, text_of}
 use Rattle.sketches.specs.UnseenLaws.{unseen_both, with_both}
 use Rattle.sketches.specs.declared.ended_text.RecordForm.{RecordForm}
-use Rattle.sketch_base.specs.declared.record_part.RecordPart.{RecordPart}
+use Rattle.sketch_text.specs.declared.record_part.RecordPart.{RecordPart}
 use Rattle.sketches.specs.declared.failure.Failure.{Failure}
 use Rattle.sketches.specs.declared.failure.Failure.TheVariants.{Memory, LineTooLong, TooManyItems, BadSize, BadWeight, Write}
 use Rattle.sketches.specs.declared.unseen.UnseenLines.{UnseenLines}

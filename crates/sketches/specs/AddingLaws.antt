@@ -8,8 +8,8 @@ use Rattle.std.specs.String.{string_bytes, string_eq}
 use Rattle.std.specs.declared.string.String.{String}
 use Rattle.sketch_base.specs.Split.{IsBehindLast, separates}
 use Rattle.sketch_base.specs.declared.separator.Separator.TheVariants.{LineFeed}
-use Rattle.sketch_base.proofs.CsvBoth.{csv_both}
 use Rattle.sketch_base.proofs.SplitEnds.{lines_split, none_behind_end}
+use Rattle.sketch_text.proofs.CsvBoth.{csv_both}
 use Rattle.sketch_frequencies.specs.Batches.{StepsEqualAlong, all_updated}
 use Rattle.sketch_frequencies.specs.History.{FrequentHistory}
 use Rattle.sketch_frequencies.specs.History.FrequentHistory.{Update}
@@ -17,9 +17,9 @@ use Rattle.sketch_frequencies.specs.Stands.{StandsFor, KeepsTailBudget}
 use Rattle.sketches.specs.Added.{Sketch, AddsStrings}
 use Rattle.sketches.specs.Failures.{FailsAdding}
 use Rattle.sketches.specs.Reading.{AreWholeLines, AreWholeRecords}
-use Rattle.sketch_base.specs.Records.{records_in}
-use Rattle.sketch_base.specs.declared.records.Records.{Records}
-use Rattle.sketch_base.specs.declared.records.Records.TheVariants.{Lines, Csv}
+use Rattle.sketch_text.specs.Records.{records_in}
+use Rattle.sketch_text.specs.declared.records.Records.{Records}
+use Rattle.sketch_text.specs.declared.records.Records.TheVariants.{Lines, Csv}
 use Rattle.sketches.specs.declared.failure.Failure.{Failure}
 use Rattle.sketches.specs.declared.failure.Failure.TheVariants.{Memory, LineTooLong, TooManyItems, BadSize, BadWeight, Write}
 

@@ -2,11 +2,11 @@
 use Rattle.std.proofs.Common.{◌≡◌, ℕ, ◌+◌, ◌≤◌, ◌^◌, List, [], ◌++◌, length, refl, ◌∙◌, ap, arith, length-append}
 use Rattle.sketches.specs.Reading.{AreWholeRecords}
 use Rattle.sketches.specs.RecordParts.{raws_by}
-use Rattle.sketch_base.specs.Records.{splits_by}
+use Rattle.sketch_text.specs.Records.{splits_by}
 use Rattle.sketches.specs.UnseenLaws.{raw_records_both, raws_none}
 use Rattle.sketches.specs.declared.failure.Failure.{Failure}
 use Rattle.sketches.specs.declared.failure.Failure.TheVariants.{TooManyItems}
-use Rattle.sketch_base.specs.declared.record_part.RecordPart.{RecordPart}
+use Rattle.sketch_text.specs.declared.record_part.RecordPart.{RecordPart}
 
 number_both : (p : RecordPart) (xs ys : List ℕ) → AreWholeRecords (splits_by p) xs → length (raws_by p (xs ++ ys)) ≡ length (raws_by p xs) + length (raws_by p ys)
 number_both p xs ys whole = ap length (raw_records_both (splits_by p) xs ys whole) ∙ length-append (raws_by p xs) (raws_by p ys)

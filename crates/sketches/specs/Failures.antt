@@ -6,14 +6,14 @@ use Rattle.sketch_bloom.specs.Sizes.{AreEnoughBitsRounded, IsLn2TimesWithin}
 use Rattle.sketch_frequencies.specs.Sizes.{size_fault}
 use Rattle.sketches.specs.Added.{Sketch}
 use Rattle.sketches.specs.Inputs.{HaveLongRecord}
-use Rattle.sketch_base.specs.Records.{splits_by}
+use Rattle.sketch_text.specs.Records.{splits_by}
 use Rattle.sketches.specs.Weighed.{Weighed, splits_of, total_of, unweighed_of, unweighed_of_line, weighed_of, weighed_of_line}
 use Rattle.sketches.specs.declared.failure.Failure.{Failure}
 use Rattle.sketches.specs.declared.failure.Failure.TheVariants.{Memory, LineTooLong, TooManyItems, BadSize, BadWeight, Write}
 use Rattle.sketches.specs.declared.filter_size.FilterSize.{FilterSize}
 use Rattle.sketches.specs.declared.filter_size.FilterSize.TheVariants.{Target, Shape}
 use Rattle.sketches.specs.FilterSizes.{HasNoSize}
-use Rattle.sketch_base.specs.declared.record_part.RecordPart.{RecordPart}
+use Rattle.sketch_text.specs.declared.record_part.RecordPart.{RecordPart}
 use Rattle.sketches.specs.declared.top.Options.{Options}
 use Rattle.sketches.specs.declared.uniq.UniqOptions.{UniqOptions}
 use Rattle.sketches.specs.declared.weighing.Weighing.{Weighing}

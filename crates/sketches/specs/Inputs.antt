@@ -4,7 +4,7 @@ use Rattle.std.specs.List.{AllZip, list_any}
 use Rattle.sketches.specs.Reading.{AreFirstRecords, HasLongRecord, IsReadOf}
 use Rattle.sketches.specs.declared.failure.Failure.{Failure}
 use Rattle.sketches.specs.declared.failure.Failure.TheVariants.{Memory, LineTooLong}
-use Rattle.sketch_base.specs.declared.records.Records.{Records}
+use Rattle.sketch_text.specs.declared.records.Records.{Records}
 
 -- the next input was opened, and is left no more; or none is left
 abbrev pub OpensNext : {R : Type 0} → (R → Option (List ℕ)) → (R → Bool) → Option (List (List ℕ)) → Option (List (List ℕ)) → List Bool → List Bool → Option R → Type 0

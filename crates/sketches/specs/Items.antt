@@ -3,8 +3,8 @@ use Rattle.std.specs.Prelude.{ℕ, List}
 use Rattle.std.specs.List.{flat_map}
 use Rattle.std.specs.Str.Lossy.{utf8_lossy}
 use Rattle.std.specs.Str.Lines.{lines}
-use Rattle.sketch_base.specs.Records.{part_of}
 use Rattle.sketch_base.specs.Split.{words_of}
+use Rattle.sketch_text.specs.Records.{part_of}
 use Rattle.sketches.specs.declared.selection.Selection.{Selection}
 use Rattle.sketches.specs.declared.selection.Selection.TheVariants as selection
 

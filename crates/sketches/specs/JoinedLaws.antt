@@ -8,11 +8,11 @@ use Rattle.sketches.specs.Outputs.{WritesFront}
 use Rattle.sketches.specs.Joined.{joined_lines}
 use Rattle.sketches.specs.Reading.{AreWholeRecords}
 use Rattle.sketches.specs.RecordParts.{raws_by}
-use Rattle.sketch_base.specs.Records.{splits_by}
+use Rattle.sketch_text.specs.Records.{splits_by}
 use Rattle.sketches.specs.Unseen.{is_seen, item_of, with_lines, written_of}
 use Rattle.sketches.specs.UnseenLaws.{raw_records_both, raws_none, with_both}
 use Rattle.sketches.specs.declared.ended_text.RecordForm.{RecordForm}
-use Rattle.sketch_base.specs.declared.record_part.RecordPart.{RecordPart}
+use Rattle.sketch_text.specs.declared.record_part.RecordPart.{RecordPart}
 
 -- ---- keys
 

@@ -1,8 +1,8 @@
 -- The laws of keys that are taken, and of weights that are added to their sums, one after another.
 use Rattle.std.proofs.Common.{◌≡◌, ℕ, List, [], ◌∷◌, ◌++◌, append_assoc, append-nil, refl, sym, ◌∙◌, ap, subst, arith}
 use Rattle.std.proofs.lemmas.List.Elements.{Contains-append_left}
-use Rattle.sketch_base.specs.Records.{records_by, splits_by}
-use Rattle.sketch_base.specs.declared.record_part.RecordPart.{RecordPart}
+use Rattle.sketch_text.specs.Records.{records_by, splits_by}
+use Rattle.sketch_text.specs.declared.record_part.RecordPart.{RecordPart}
 use Rattle.sketches.specs.AddingLaws.{records_both}
 use Rattle.sketches.specs.KeySums.{AddsItems, AddsLines, FailsTakingKeys, HaveMoreKeys, HoldsKeys, HoldsSums, StaysWithin, Sums, TakesKeys}
 use Rattle.sketches.specs.KeyWeightLaws.{parts_append, records_none, unweighed_append, weighed_append}

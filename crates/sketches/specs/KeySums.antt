@@ -6,7 +6,7 @@ use Rattle.std.specs.List.{AllZip, IsDistinct, flat_map}
 use Rattle.std.specs.Str.{bytes_eq}
 use Rattle.std.specs.declared.io.Error.{Error}
 use Rattle.std.specs.declared.vec.Vec.{Vec}
-use Rattle.sketch_base.specs.Records.{records_by, splits_by}
+use Rattle.sketch_text.specs.Records.{records_by, splits_by}
 use Rattle.sketches.specs.Inputs.{AreRead, HaveLongRecord}
 use Rattle.sketches.specs.KeyWeights.{Row, parts_in, row_line, total_line, unweighed_in, unweighed_lines, weighed_in, weighed_lines}
 use Rattle.sketches.specs.Outputs.{WritesFront}

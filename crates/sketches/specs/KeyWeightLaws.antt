@@ -14,7 +14,7 @@ use Rattle.sketches.specs.AddingLaws.{no_records, records_both}
 use Rattle.sketches.specs.KeyWeights.{CountsLines, CountsWeighed, Row, WritesEstimates, WritesSomeEstimates, counted, parts_in, row_line, unweighed_line, unweighed_lines, weighed_line, weighed_lines}
 use Rattle.sketches.specs.Outputs.{WritesFront}
 use Rattle.sketches.specs.Reading.{AreWholeRecords}
-use Rattle.sketch_base.specs.Records.{part_in, records_by, splits_by}
+use Rattle.sketch_text.specs.Records.{part_in, records_by, splits_by}
 use Rattle.sketches.specs.Unseen.{hashed}
 use Rattle.sketches.specs.Appending.{appends_none, appends_both, front_after, front_all, front_none}
 use Rattle.sketches.specs.WeighFailures.{FailsCounting, FailsLines}
@@ -24,7 +24,7 @@ use Rattle.sketches.specs.declared.failure.Failure.{Failure}
 use Rattle.sketches.specs.declared.failure.Failure.TheVariants.{Memory, LineTooLong, TooManyItems, BadSize, BadWeight, Write}
 use Rattle.sketches.specs.declared.weighing.WeighedRecord.{WeighedRecord}
 use Rattle.sketches.specs.declared.layout.Style.{Style}
-use Rattle.sketch_base.specs.declared.record_part.RecordPart.{RecordPart}
+use Rattle.sketch_text.specs.declared.record_part.RecordPart.{RecordPart}
 
 updated_both : (h : CountHistory) (xs ys : List (List ℕ × ℤ)) → each_updated h (xs ++ ys) ≡ each_updated (each_updated h xs) ys
 updated_both h [] ys = refl

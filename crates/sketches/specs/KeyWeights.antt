@@ -14,7 +14,7 @@ use Rattle.sketches.specs.Inputs.{AreRead}
 use Rattle.sketches.specs.Json.{json_lossy}
 use Rattle.sketches.specs.Outputs.{WritesFront}
 use Rattle.sketches.specs.Reading.{AreFirstRecords, IsReadOf}
-use Rattle.sketch_base.specs.Records.{part_in, records_by, splits_by}
+use Rattle.sketch_text.specs.Records.{part_in, records_by, splits_by}
 use Rattle.sketches.specs.Skipped.{skipped_rows}
 use Rattle.sketches.specs.TextEscapes.{text_escaped}
 use Rattle.sketches.specs.Unseen.{hashed}
@@ -23,7 +23,7 @@ use Rattle.sketches.specs.Weights.{counted_weight}
 use Rattle.sketches.specs.declared.weighing.WeighedRecord.{WeighedRecord}
 use Rattle.sketches.specs.declared.layout.Style.{Style}
 use Rattle.sketches.specs.declared.layout.Style.TheVariants.{Plain, Escaped, Json}
-use Rattle.sketch_base.specs.declared.record_part.RecordPart.{RecordPart}
+use Rattle.sketch_text.specs.declared.record_part.RecordPart.{RecordPart}
 use Rattle.sketches.specs.declared.weigh.WeighOptions.{WeighOptions}
 
 -- the items with a weight, if there is one

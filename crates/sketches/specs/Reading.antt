@@ -1,15 +1,15 @@
 -- What is taken of the bytes of an input, record by record.
 use Rattle.std.specs.Prelude.{◌≡◌, ℕ, ◌+◌, ◌-◌, ◌<◌, ◌≤◌, ◌⊎◌, Bool, true, false, List, [], ◌++◌, length, take, drop, slice_index, All, Option, is_some, IfSome, MatchOption, Result, MatchResult}
 use Rattle.std.specs.Io.KnownBytes.{Consumes, Keeps}
-use Rattle.sketch_base.specs.Csv.{EndsRecord, IsBehindLastEnd, IsInOneRecord, place_after}
 use Rattle.sketch_base.specs.Split.{IsBehindLast, separates}
-use Rattle.sketch_base.specs.declared.place.Place.{Place}
-use Rattle.sketch_base.specs.declared.place.Place.TheVariants.{Start}
 use Rattle.sketch_base.specs.declared.separator.Separator.TheVariants.{LineFeed}
+use Rattle.sketch_text.specs.Csv.{EndsRecord, IsBehindLastEnd, IsInOneRecord, place_after}
+use Rattle.sketch_text.specs.declared.place.Place.{Place}
+use Rattle.sketch_text.specs.declared.place.Place.TheVariants.{Start}
 use Rattle.sketches.specs.declared.failure.Failure.{Failure}
 use Rattle.sketches.specs.declared.failure.Failure.TheVariants.{Memory, LineTooLong}
-use Rattle.sketch_base.specs.declared.records.Records.{Records}
-use Rattle.sketch_base.specs.declared.records.Records.TheVariants.{Lines, Csv}
+use Rattle.sketch_text.specs.declared.records.Records.{Records}
+use Rattle.sketch_text.specs.declared.records.Records.TheVariants.{Lines, Csv}
 
 -- these bytes are whole lines: none, or the last is a line feed
 abbrev pub AreWholeLines : List ℕ → Type 0

@@ -1,12 +1,12 @@
 -- Records with their ends.
 use Rattle.std.specs.Prelude.{◌≡◌, ℕ, ◌<◌, List, [], ◌∷◌, length, Option, MatchOption}
 use Rattle.std.specs.Borrow.{Bor}
-use Rattle.sketch_base.specs.Csv.{raw_csv_records}
-use Rattle.sketch_base.specs.Records.{records_by, splits_by}
+use Rattle.sketch_text.specs.Csv.{raw_csv_records}
+use Rattle.sketch_text.specs.Records.{records_by, splits_by}
 use Rattle.sketches.specs.RawLines.{raw_lines}
-use Rattle.sketch_base.specs.declared.record_part.RecordPart.{RecordPart}
-use Rattle.sketch_base.specs.declared.records.Records.{Records}
-use Rattle.sketch_base.specs.declared.records.Records.TheVariants as records
+use Rattle.sketch_text.specs.declared.record_part.RecordPart.{RecordPart}
+use Rattle.sketch_text.specs.declared.records.Records.{Records}
+use Rattle.sketch_text.specs.declared.records.Records.TheVariants as records
 
 -- the records of an input with their ends
 abbrev pub raw_records_in : Records → List ℕ → List (List ℕ)

@@ -1,7 +1,7 @@
 -- How many records have an item and no weight, and count with the weight 0.
 use Rattle.std.specs.Prelude.{ℕ, List, [], ◌∷◌, Option, None, Some, sum_by}
 use Rattle.std.specs.Str.Lossy.{utf8_lossy}
-use Rattle.sketch_base.specs.Records.{part_in, part_of}
+use Rattle.sketch_text.specs.Records.{part_in, part_of}
 use Rattle.sketches.specs.Weights.{weight_in, weight_on}
 use Rattle.sketches.specs.declared.weighing.Unweighed.{Unweighed}
 use Rattle.sketches.specs.declared.weighing.Unweighed.TheVariants.{Fails, IsZero}

@@ -3,7 +3,7 @@ use Rattle.std.proofs.Common.{◌≡◌, ℕ, ◌+◌, List, [], ◌++◌, refl,
 use Rattle.std.proofs.lemmas.List.Sums.{sum_by-append}
 use Rattle.sketches.specs.AddingLaws.{no_records, records_both}
 use Rattle.sketches.specs.Reading.{AreWholeRecords}
-use Rattle.sketch_base.specs.Records.{records_by, splits_by}
+use Rattle.sketch_text.specs.Records.{records_by, splits_by}
 use Rattle.sketches.specs.Skipped.{skipped_in, skipped_rows, skips_line, skips_row}
 use Rattle.sketches.specs.Utf8Lines.{GrowsBy}
 use Rattle.sketches.specs.Weighed.{records_of, splits_of}

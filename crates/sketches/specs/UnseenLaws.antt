@@ -5,7 +5,7 @@ use Rattle.std.proofs.lemmas.List.Concat.{flat_map-append}
 use Rattle.std.proofs.lemmas.List.Splits.{length-slice_split}
 use Rattle.std.specs.List.{flat_map, onto_first, slice_split}
 use Rattle.std.specs.Prelude.{if◌then◌else◌}
-use Rattle.sketch_base.proofs.CsvBoth.{raw_csv_both}
+use Rattle.sketch_text.proofs.CsvBoth.{raw_csv_both}
 use Rattle.sketch_bloom.specs.State.{FilterState, all_inserted, inserted}
 use Rattle.sketches.specs.Appending.{front_after, front_more, front_same}
 use Rattle.sketches.specs.EndedText.{Prints, form_after_all, prints_none, prints_both, text_both, text_of}
@@ -13,12 +13,12 @@ use Rattle.sketches.specs.Outputs.{WritesFront}
 use Rattle.sketches.specs.RawLines.{raw_lines, raw_lines_of_parts}
 use Rattle.sketches.specs.Reading.{AreWholeLines, AreWholeRecords}
 use Rattle.sketches.specs.RecordParts.{raw_records_in, raws_by}
-use Rattle.sketch_base.specs.Records.{splits_by}
+use Rattle.sketch_text.specs.Records.{splits_by}
 use Rattle.sketches.specs.Unseen.{hashed, is_seen, is_written, item_of, unseen_lines, with_items, with_lines}
 use Rattle.sketches.specs.declared.ended_text.RecordForm.{RecordForm}
-use Rattle.sketch_base.specs.declared.record_part.RecordPart.{RecordPart}
-use Rattle.sketch_base.specs.declared.records.Records.{Records}
-use Rattle.sketch_base.specs.declared.records.Records.TheVariants as records
+use Rattle.sketch_text.specs.declared.record_part.RecordPart.{RecordPart}
+use Rattle.sketch_text.specs.declared.records.Records.{Records}
+use Rattle.sketch_text.specs.declared.records.Records.TheVariants as records
 
 abbrev is_feed : ℕ → Bool
 is_feed byte = eqb byte 10

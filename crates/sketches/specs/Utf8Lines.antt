@@ -2,7 +2,7 @@
 use Rattle.std.specs.Prelude.{◌≡◌, ℕ, ◌+◌, ◌-◌, ◌^◌, List, [], ◌∷◌, min, not, if◌then◌else◌}
 use Rattle.std.specs.List.{count_by, list_all}
 use Rattle.std.specs.Str.{is_utf8}
-use Rattle.sketch_base.specs.Records.{part_in, part_of}
+use Rattle.sketch_text.specs.Records.{part_in, part_of}
 use Rattle.sketches.specs.declared.selection.Selection.{Selection}
 use Rattle.sketches.specs.declared.selection.Selection.TheVariants as selection
 use Rattle.sketches.specs.declared.weighing.Weighing.{Weighing}

@@ -4,7 +4,7 @@ use Rattle.std.specs.declared.io.Error.{Error}
 use Rattle.sketch_countmin.specs.Sizes.{IsETimesWithin}
 use Rattle.sketches.specs.Inputs.{HaveLongRecord}
 use Rattle.sketches.specs.Reading.{HasLongRecord}
-use Rattle.sketch_base.specs.Records.{splits_by}
+use Rattle.sketch_text.specs.Records.{splits_by}
 use Rattle.sketches.specs.KeyWeights.{IsTableFor, unweighed_in, unweighed_lines, weighed_in, weighed_lines}
 use Rattle.sketches.specs.Weighed.{Weighed, total_of}
 use Rattle.sketches.specs.declared.failure.Failure.{Failure}

@@ -4,10 +4,10 @@ use Rattle.std.specs.List.{flat_map}
 use Rattle.std.specs.Str.{bytes_eq}
 use Rattle.std.specs.Str.Lossy.{utf8_lossy}
 use Rattle.sketches.specs.Items.{items_of_raw_line}
-use Rattle.sketch_base.specs.Records.{part_in, part_of, records_in, splits_by}
+use Rattle.sketch_text.specs.Records.{part_in, part_of, records_in, splits_by}
 use Rattle.sketches.specs.Weights.{counted_weight, taken_weight, weight_in}
-use Rattle.sketch_base.specs.declared.records.Records.{Records}
-use Rattle.sketch_base.specs.declared.records.Records.TheVariants as records
+use Rattle.sketch_text.specs.declared.records.Records.{Records}
+use Rattle.sketch_text.specs.declared.records.Records.TheVariants as records
 use Rattle.sketches.specs.declared.weighing.WeighedPart.{WeighedPart}
 use Rattle.sketches.specs.declared.weighing.WeighedRecord.{WeighedRecord}
 use Rattle.sketches.specs.declared.weighing.Weighing.{Weighing}

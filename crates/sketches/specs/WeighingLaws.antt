@@ -12,7 +12,7 @@ use Rattle.sketch_frequencies.specs.History.FrequentHistory.{Update}
 use Rattle.sketch_frequencies.specs.Stands.{StandsFor, KeepsTailBudget}
 use Rattle.sketch_frequencies.specs.WeightedBatches.{StepsEqualWeighed, all_weighed}
 use Rattle.sketches.specs.Added.{Sketch, AddsLines, AddsWeighed}
-use Rattle.sketch_base.specs.Records.{splits_by}
+use Rattle.sketch_text.specs.Records.{splits_by}
 use Rattle.sketches.specs.AddingLaws.{no_records, records_both}
 use Rattle.sketches.specs.Failures.{FailsLines, FailsWeighing}
 use Rattle.sketches.specs.Reading.{AreWholeRecords}

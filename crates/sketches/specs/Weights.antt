@@ -2,10 +2,10 @@
 use Rattle.std.specs.Prelude.{ℕ, List, Option, Some, None}
 use Rattle.std.specs.List.{slice_get}
 use Rattle.std.specs.Option.{option_and_then}
-use Rattle.sketch_base.specs.Decimals.{number_in}
-use Rattle.sketch_base.specs.Records.{part_in, part_of}
-use Rattle.sketch_base.specs.declared.part.Part.{Part}
-use Rattle.sketch_base.specs.declared.record_part.RecordPart.{RecordPart}
+use Rattle.sketch_text.specs.Decimals.{number_in}
+use Rattle.sketch_text.specs.Records.{part_in, part_of}
+use Rattle.sketch_text.specs.declared.part.Part.{Part}
+use Rattle.sketch_text.specs.declared.record_part.RecordPart.{RecordPart}
 use Rattle.sketches.specs.declared.weighing.Unweighed.{Unweighed}
 use Rattle.sketches.specs.declared.weighing.Unweighed.TheVariants.{Fails, IsZero}
 use Rattle.sketches.specs.declared.weighing.WeighedRecord.{WeighedRecord}

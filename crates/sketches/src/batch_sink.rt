@@ -1,13 +1,13 @@
 //! What is done with records and their items.
 ghost use Rattle.std.specs.Prelude.{◌≡◌, ◌≤◌, ◌∷◌, ◌++◌, ℕ, [], List, IfErr, OnOk, length, map};
 ghost use Rattle.sketch_base.specs.Strings.{strings_at};
-ghost use Rattle.sketch_base.specs.Records.{records_by};
+ghost use Rattle.sketch_text.specs.Records.{records_by};
 ghost use Rattle.sketches.specs.Unseen.{item_of};
-ghost use Rattle.sketch_base.specs.declared.record_part.RecordPart.{RecordPart};
+ghost use Rattle.sketch_text.specs.declared.record_part.RecordPart.{RecordPart};
 
 use crate::batches::BATCH;
 use crate::failure::Failure;
-use sketch_base::records::RecordPart;
+use sketch_text::records::RecordPart;
 use std::alloc::Global;
 
 /// Takes records, in order, many at once if their items are known.

@@ -10,7 +10,7 @@ use crate::ended_text::EndedText;
 use crate::failure::Failure;
 use crate::records::next_record_with_end;
 use sketch_base::from_utf8;
-use sketch_base::records::{RecordPart, whole_part_of};
+use sketch_text::records::{RecordPart, whole_part_of};
 use std::alloc::Global;
 
 /// The maximum number of records that a sink takes at once.

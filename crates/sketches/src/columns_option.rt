@@ -1,8 +1,9 @@
 //! Options that choose columns: numbers from the first or from the last, or names in a header of CSV.
-use sketch_base::records::{
+use sketch_base::from_utf8;
+use sketch_text::nth_csv_field;
+use sketch_text::records::{
     Column, Columns, CsvField, Field, MAX_COLUMNS, Part, RecordPart, Split, number_of,
 };
-use sketch_base::{from_utf8, nth_csv_field};
 
 /// The message of a field that is not allowed.
 pub const BAD_FIELD: &str =

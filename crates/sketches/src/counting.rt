@@ -16,9 +16,9 @@ use crate::selection::Selection;
 use crate::utf8_lines::str_of;
 use crate::weighed_lines::add_weighed_lines;
 use crate::weighing::Weighing;
-use sketch_base::records::{Records, next_raw_line, part_of};
 use sketch_base::{Lines, Strings, Words, from_utf8};
 use sketch_frequencies::FrequentItemsSketch;
+use sketch_text::records::{Records, next_raw_line, part_of};
 use std::alloc::{AllocError, Global};
 
 /// Adds the items of the records that it takes, with their weights.

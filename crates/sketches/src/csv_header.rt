@@ -1,6 +1,6 @@
 //! The header of a file of CSV.
 use crate::files::Input;
-use sketch_base::{
+use sketch_text::{
     Place, append_csv_text, finished_csv_records, next_csv_record, nth_csv_field, plain_csv_text,
 };
 use std::alloc::{AllocError, Global};

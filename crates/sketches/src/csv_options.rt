@@ -4,7 +4,7 @@ use crate::options::delimiter_of;
 use crate::selection::Selection;
 use crate::weighing::{Unweighed, WeighedPart, WeighedRecord, Weighing};
 use clap::{Arg, ArgAction, ArgMatches, Command};
-use sketch_base::records::{Part, RecordPart, Split};
+use sketch_text::records::{Part, RecordPart, Split};
 use std::alloc::{AllocError, Global};
 
 /// The message of a delimiter that is not allowed.

@@ -2,7 +2,7 @@
 ghost use Rattle.std.specs.Prelude.{◌≡◌, ◌⊎◌, ◌+◌, false, Option, IfErr, IfOk, IfSome, OnErr, OnOk};
 ghost use Rattle.std.specs.Io.KnownBytes.{Appends};
 ghost use Rattle.std.specs.declared.io.Error.{Error};
-ghost use Rattle.sketch_base.specs.Records.{splits_by};
+ghost use Rattle.sketch_text.specs.Records.{splits_by};
 ghost use Rattle.sketches.specs.Failures.{FailsWriting};
 ghost use Rattle.sketches.specs.Inputs.{HaveLongRecord, none_fails};
 ghost use Rattle.sketches.specs.KeySums.{ComesWhileWriting, FailsExact, FailsFileKeys, FailsSums, HaveFewKeys, HoldsKeys, IsOfKeys, SumsInputs, WritesSomeSums, WritesSums, rows_text};
@@ -21,7 +21,7 @@ use crate::reading::{BLOCK, read_lines};
 use crate::sum_rows::write_rows;
 use crate::weigh::write_total;
 use crate::weighing::WeighedRecord;
-use sketch_base::records::RecordPart;
+use sketch_text::records::RecordPart;
 use std::alloc::Global;
 use std::hash::RandomState;
 use std::io;

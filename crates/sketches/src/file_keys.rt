@@ -1,13 +1,13 @@
 //! Takes the keys of a file.
 ghost use Rattle.std.specs.Prelude.{◌≡◌, ℕ, List, [], ◌∷◌, IfErr, IfOk, OnOk};
-ghost use Rattle.sketch_base.specs.Records.{part_in};
+ghost use Rattle.sketch_text.specs.Records.{part_in};
 ghost use Rattle.sketches.specs.KeySums.{FailsTakingKeys, FindsKey, StaysWithin, TakesKeys};
 ghost use Rattle.sketches.specs.KeyWeights.{parts_in};
 
 use crate::failure::Failure;
 use crate::line_sink::LineSink;
 use indexmap::IndexMap;
-use sketch_base::records::{RecordPart, Records, next_record, record_part_of};
+use sketch_text::records::{RecordPart, Records, next_record, record_part_of};
 use std::alloc::Global;
 use std::hash::RandomState;
 
@@ -29,7 +29,7 @@ pub struct FileKeys {
 
 impl LineSink<()> for FileKeys {
     ghost use Rattle.std.proofs.Common.{ap};
-    ghost use Rattle.sketch_base.specs.Records.{splits_by};
+    ghost use Rattle.sketch_text.specs.Records.{splits_by};
     ghost use Rattle.sketches.specs.KeySumLaws.{keys_none, keys_both, keys_sooner, keys_later};
 
     ghost splits = { λ s. splits_by s.part };

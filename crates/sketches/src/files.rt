@@ -10,7 +10,7 @@ use crate::line_source::LineSource;
 use crate::progress::Progress;
 use crate::weighing::WeighedRecord;
 use crate::words::{is_marked, shown};
-use sketch_base::records::{Column, Columns, CsvField, RecordPart, Split};
+use sketch_text::records::{Column, Columns, CsvField, RecordPart, Split};
 use std::alloc::AllocError;
 use std::fs::File;
 use std::io;

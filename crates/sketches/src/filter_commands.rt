@@ -20,9 +20,9 @@ use crate::uniq::{Summary, UniqOptions, uniq, uniq_after};
 use crate::words::shown;
 use crate::{ERROR, STANDARD_INPUT, end, fail, max_line_of, message_of, number_of};
 use clap::ArgMatches;
-use sketch_base::records::RecordPart;
 use sketch_bloom::BloomFilter;
 use sketch_frequencies::TableKey;
+use sketch_text::records::RecordPart;
 use std::alloc::AllocError;
 
 /// The maximum number of times that a state is looked up and created.

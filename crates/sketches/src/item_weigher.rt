@@ -1,7 +1,7 @@
 //! Adds the items of records with their weights to a Count-Min sketch.
 ghost use Rattle.std.specs.Prelude.{◌≡◌, [], ◌∷◌, IfErr, IfOk, OnOk};
 ghost use Rattle.sketches.specs.KeyWeights.{CountsLines, CountsWeighed, unweighed_line, weighed_line};
-ghost use Rattle.sketch_base.specs.Records.{records_by};
+ghost use Rattle.sketch_text.specs.Records.{records_by};
 ghost use Rattle.sketches.specs.Failures.{IsBadWeight};
 ghost use Rattle.sketches.specs.Skipped.{skipped_rows, skips, skips_row};
 ghost use Rattle.sketches.specs.Utf8Lines.{GrowsBy};
@@ -16,8 +16,8 @@ use crate::weighed_lines::bad_field;
 use crate::weighing::WeighedRecord;
 use crate::weights::taken_weight;
 use sketch_base::from_utf8;
-use sketch_base::records::{RecordPart, Records, next_record, number_of, record_part_of};
 use sketch_countmin::CountMinSketch;
+use sketch_text::records::{RecordPart, Records, next_record, number_of, record_part_of};
 use std::alloc::{AllocError, Global};
 
 /// Adds the items of the records that it takes, with their weights.
@@ -42,7 +42,7 @@ impl ItemWeigher {
 
 impl LineSink<()> for ItemWeigher {
     ghost use Rattle.std.proofs.Common.{ap};
-    ghost use Rattle.sketch_base.specs.Records.{splits_by};
+    ghost use Rattle.sketch_text.specs.Records.{splits_by};
     ghost use Rattle.sketches.specs.declared.weighing.WeighedRecord.{WeighedRecord};
     ghost use Rattle.sketches.specs.KeyWeightLaws.{counts_none, counts_both, counts_sooner, counts_later};
     ghost use Rattle.sketches.specs.SkippedLaws.{rows_both, rows_none};

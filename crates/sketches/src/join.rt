@@ -1,6 +1,6 @@
 //! The records of inputs whose items are in a file of keys.
 ghost use Rattle.std.specs.Prelude.{◌≡◌, ◌⊎◌, ◌+◌, false, IfErr, IfOk, IfSome, IsErrOf, OnOk};
-ghost use Rattle.sketch_base.specs.Records.{splits_by};
+ghost use Rattle.sketch_text.specs.Records.{splits_by};
 ghost use Rattle.sketch_bloom.specs.State.{FilterState};
 ghost use Rattle.sketches.specs.FilterSizes.{HasNoSize, IsFilterOf};
 ghost use Rattle.sketches.specs.Inputs.{HaveLongRecord, none_fails};
@@ -19,8 +19,8 @@ use crate::key_lines::KeyLines;
 use crate::line_source::LineSource;
 use crate::output::Output;
 use crate::reading::{BLOCK, read_lines};
-use sketch_base::records::RecordPart;
 use sketch_bloom::BloomFilter;
+use sketch_text::records::RecordPart;
 use std::alloc::Global;
 use std::io;
 

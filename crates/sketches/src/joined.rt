@@ -16,8 +16,8 @@ use crate::line_items::contains_record;
 use crate::line_sink::LineSink;
 use crate::output::Output;
 use sketch_base::Strs;
-use sketch_base::records::{RecordPart, Records};
 use sketch_bloom::BloomFilter;
+use sketch_text::records::{RecordPart, Records};
 use std::alloc::Global;
 
 /// Writes the records whose items the filter contains, or, unless `wanted`, the others.
@@ -34,7 +34,7 @@ pub struct JoinedLines {
 
 impl<W: Output> LineSink<W> for JoinedLines {
     ghost use Rattle.std.proofs.Common.{ap};
-    ghost use Rattle.sketch_base.specs.Records.{splits_by};
+    ghost use Rattle.sketch_text.specs.Records.{splits_by};
     ghost use Rattle.sketches.specs.JoinedLaws.{lines_none, lines_both, front_sooner, front_later};
     ghost use Rattle.sketches.specs.Failures.{FailsWriting};
 

@@ -9,8 +9,8 @@ use crate::failure::Failure;
 use crate::line_items::insert_record;
 use crate::line_sink::LineSink;
 use sketch_base::Strs;
-use sketch_base::records::{RecordPart, Records};
 use sketch_bloom::BloomFilter;
+use sketch_text::records::{RecordPart, Records};
 use std::alloc::Global;
 
 /// Inserts the items of records into a filter.
@@ -22,7 +22,7 @@ pub struct KeyLines {
 
 impl LineSink<()> for KeyLines {
     ghost use Rattle.std.proofs.Common.{ap};
-    ghost use Rattle.sketch_base.specs.Records.{splits_by};
+    ghost use Rattle.sketch_text.specs.Records.{splits_by};
     ghost use Rattle.sketches.specs.JoinedLaws.{key_lines_none, key_lines_both};
     ghost use Rattle.sketches.specs.declared.failure.Failure.TheVariants.{Memory};
 

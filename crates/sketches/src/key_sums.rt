@@ -1,6 +1,6 @@
 //! Adds the weights of items to the sums of keys.
 ghost use Rattle.std.specs.Prelude.{◌≡◌, [], ◌∷◌, IfErr, OnOk};
-ghost use Rattle.sketch_base.specs.Records.{records_by};
+ghost use Rattle.sketch_text.specs.Records.{records_by};
 ghost use Rattle.sketches.specs.KeySums.{AddsItems, AddsLines, AddsWeight, names};
 ghost use Rattle.sketches.specs.KeyWeights.{unweighed_line, weighed_line};
 ghost use Rattle.sketches.specs.Skipped.{skipped_rows, skips_row};
@@ -12,7 +12,7 @@ use crate::file_keys::KeyMap;
 use crate::item_weigher::{bad_weight, counted_weight, lines_between};
 use crate::line_sink::LineSink;
 use crate::weighing::WeighedRecord;
-use sketch_base::records::{Records, next_record, record_part_of};
+use sketch_text::records::{Records, next_record, record_part_of};
 use std::alloc::Global;
 
 /// Adds the weight of each item of the records that it takes to a total, and to the sum of the key that is equal to the item.
@@ -38,7 +38,7 @@ impl KeySums {
 
 impl LineSink<()> for KeySums {
     ghost use Rattle.std.proofs.Common.{ap};
-    ghost use Rattle.sketch_base.specs.Records.{splits_by};
+    ghost use Rattle.sketch_text.specs.Records.{splits_by};
     ghost use Rattle.sketches.specs.declared.weighing.WeighedRecord.{WeighedRecord};
     ghost use Rattle.sketches.specs.KeyWeightLaws.{counts_sooner, counts_later};
     ghost use Rattle.sketches.specs.KeySumLaws.{sums_none, sums_both};

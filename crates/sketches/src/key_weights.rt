@@ -1,7 +1,7 @@
 //! Writes the weights of keys.
 ghost use Rattle.std.specs.Prelude.{◌≡◌, Some, OnOk, pos};
 ghost use Rattle.sketch_countmin.specs.State.{IsMinCell};
-ghost use Rattle.sketch_base.specs.Records.{part_in};
+ghost use Rattle.sketch_text.specs.Records.{part_in};
 ghost use Rattle.sketches.specs.Unseen.{hashed};
 ghost use Rattle.sketches.specs.KeyWeights.{WritesEstimates, WritesSomeEstimates, parts_in};
 
@@ -12,8 +12,8 @@ use crate::output::Output;
 use crate::raw_item::RawItem;
 use crate::weight_lines::append_line;
 use sketch_base::from_utf8;
-use sketch_base::records::{RecordPart, Records, next_record, record_part_of};
 use sketch_countmin::CountMinSketch;
+use sketch_text::records::{RecordPart, Records, next_record, record_part_of};
 use std::alloc::{AllocError, Global};
 
 /// Writes a line for each key of the records that it takes: its estimate and the key.
@@ -31,7 +31,7 @@ pub struct KeyWeights {
 
 impl<W: Output> LineSink<W> for KeyWeights {
     ghost use Rattle.std.proofs.Common.{ap};
-    ghost use Rattle.sketch_base.specs.Records.{splits_by};
+    ghost use Rattle.sketch_text.specs.Records.{splits_by};
     ghost use Rattle.sketches.specs.KeyWeightLaws.{keys_none, keys_both, some_sooner, some_later};
     ghost use Rattle.sketches.specs.Failures.{FailsWriting};
 

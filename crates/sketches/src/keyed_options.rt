@@ -4,7 +4,7 @@ use crate::files::{Files, Opened};
 use crate::inputs::Inputs;
 use crate::{ERROR, fail, max_line_of};
 use clap::{Arg, ArgMatches, Command};
-use sketch_base::records::RecordPart;
+use sketch_text::records::RecordPart;
 use std::alloc::{AllocError, Global};
 use std::io::{ErrorKind, Read};
 

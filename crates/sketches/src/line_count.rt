@@ -1,6 +1,6 @@
 //! Counts the records of an input.
 ghost use Rattle.std.specs.Prelude.{◌≡◌, ◌+◌, ◌≤◌, ◌^◌, false, IfErr, IfOk, IfSome, OnOk, length};
-ghost use Rattle.sketch_base.specs.Records.{splits_by};
+ghost use Rattle.sketch_text.specs.Records.{splits_by};
 ghost use Rattle.sketches.specs.JoinFailures.{FailsCount};
 ghost use Rattle.sketches.specs.Reading.{HasLongRecord};
 ghost use Rattle.sketches.specs.RecordParts.{raws_by};
@@ -11,7 +11,7 @@ use crate::line_sink::LineSink;
 use crate::line_source::LineSource;
 use crate::reading::{BLOCK, read_lines};
 use crate::records::next_record_with_end;
-use sketch_base::records::{RecordPart, Records};
+use sketch_text::records::{RecordPart, Records};
 use std::alloc::Global;
 
 /// The number of records that were taken.
@@ -23,7 +23,7 @@ pub struct LineCount {
 
 impl LineSink<()> for LineCount {
     ghost use Rattle.std.proofs.Common.{ap};
-    ghost use Rattle.sketch_base.specs.Records.{splits_by};
+    ghost use Rattle.sketch_text.specs.Records.{splits_by};
     ghost use Rattle.sketches.specs.CountedLines.{counts_none, counts_both, exceeds_sooner, exceeds_later};
     ghost use Rattle.sketches.specs.declared.failure.Failure.TheVariants.{TooManyItems};
 

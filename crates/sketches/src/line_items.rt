@@ -1,13 +1,13 @@
 //! The items of records in a filter.
 ghost use Rattle.std.specs.Prelude.{◌≡◌, IfOk, OnOk};
 ghost use Rattle.sketch_bloom.specs.State.{contains_item, inserted};
-ghost use Rattle.sketch_base.specs.Records.{part_in};
+ghost use Rattle.sketch_text.specs.Records.{part_in};
 ghost use Rattle.sketches.specs.Unseen.{hashed, is_seen, with_items};
 
 use crate::raw_item::RawItem;
 use sketch_base::from_utf8;
-use sketch_base::records::{RecordPart, record_part_of};
 use sketch_bloom::BloomFilter;
+use sketch_text::records::{RecordPart, record_part_of};
 use std::alloc::{AllocError, Global};
 
 /// Inserts the item of a record, if it has one, into a filter. Returns whether the filter contained it before.

@@ -2,10 +2,10 @@
 ghost use Rattle.std.specs.Prelude.{◌≡◌, ℕ, List, [], ◌++◌, IfErr, OnOk};
 ghost use Rattle.sketches.specs.Reading.{AreWholeRecords};
 ghost use Rattle.sketches.specs.declared.failure.Failure.{Failure};
-ghost use Rattle.sketch_base.specs.declared.records.Records.{Records};
+ghost use Rattle.sketch_text.specs.declared.records.Records.{Records};
 
 use crate::failure::Failure;
-use sketch_base::records::Records;
+use sketch_text::records::Records;
 use std::alloc::Global;
 
 /// Takes the records of inputs, in order, and may write to an output.

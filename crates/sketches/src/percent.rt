@@ -1,7 +1,7 @@
 //! Percentages.
 ghost use Rattle.std.specs.Prelude.{◌<◌, ◌≤◌, IfSome};
 
-use sketch_base::records::number_of;
+use sketch_text::records::number_of;
 
 /// The number of millionths of a percent in 100 percent.
 pub const WHOLE: u32 = 100_000_000;

@@ -1,15 +1,15 @@
 //! Reads the records of one input.
 ghost use Rattle.std.specs.Prelude.{◌≡◌, ◌≢◌, ◌⊎◌, ◌↔◌, ◌+◌, ◌<◌, ◌≤◌, length, take, drop, IfErr, IfOk, IfSome, IsErrOf, IsTrue, OnOk};
 ghost use Rattle.std.specs.IoError.{error_kind};
-ghost use Rattle.sketch_base.specs.declared.place.Place.TheVariants.{Start};
+ghost use Rattle.sketch_text.specs.declared.place.Place.TheVariants.{Start};
 ghost use Rattle.sketches.specs.Reading.{FailsInput, FailsWithin, Fills, HasLongRecord, IsInOne, TakesInput, TakesRecords, place_of};
 
 use crate::failure::Failure;
 use crate::line_sink::LineSink;
 use crate::line_source::LineSource;
 use crate::records::finished_records;
-use sketch_base::Place;
-use sketch_base::records::Records;
+use sketch_text::Place;
+use sketch_text::records::Records;
 use std::alloc::Global;
 use std::io;
 use std::io::ErrorKind;

@@ -1,7 +1,7 @@
 //! Adds the items of records with their weights.
 ghost use Rattle.std.specs.Prelude.{◌≡◌, [], ◌∷◌, Some, IfErr, OnOk};
 ghost use Rattle.std.specs.Str.Lossy.{utf8_lossy};
-ghost use Rattle.sketch_base.specs.Records.{records_by};
+ghost use Rattle.sketch_text.specs.Records.{records_by};
 ghost use Rattle.sketches.specs.Added.{AddsLine, AddsLines, AddsWeighed};
 ghost use Rattle.sketches.specs.Failures.{FailsLine, FailsLines, FailsWeighing};
 ghost use Rattle.sketches.specs.Skipped.{skipped_rows, skips_row};
@@ -13,8 +13,8 @@ use crate::item_weigher::{bad_weight, counted_weight, lines_between};
 use crate::utf8_lines::count_item;
 use crate::weighing::{WeighedRecord, Weighing};
 use sketch_base::from_utf8;
-use sketch_base::records::{next_record, record_part_of};
 use sketch_frequencies::FrequentItemsSketch;
+use sketch_text::records::{next_record, record_part_of};
 use std::alloc::Global;
 
 /// Adds the item of each record with the weight of the record. Adds to `count` the number of lines of each record. Increments `not_utf8`
@@ -23,8 +23,7 @@ use std::alloc::Global;
 /// # Errors
 ///
 /// Returns `BadWeight` at the first record with an item and without a weight, if this is an error. It has the number of the record's first
-/// line. Returns `TooManyItems`
-/// if the total would exceed `u64::MAX`, and `Memory` if an allocation fails.
+/// line. Returns `TooManyItems` if the total would exceed `u64::MAX`, and `Memory` if an allocation fails.
 #[inline(never)]
 pub fn add_records(
     alloc: Global,

@@ -4,8 +4,9 @@ ghost use Rattle.sketches.specs.RecordParts.{TakesRawRecord};
 ghost use Rattle.sketches.specs.Reading.{IsBehindEnd, place_of};
 
 use crate::raw_lines::next_line_with_end;
-use sketch_base::records::{RecordPart, Records};
-use sketch_base::{Place, finished_csv_records, finished_lines, next_csv_record};
+use sketch_base::finished_lines;
+use sketch_text::records::{RecordPart, Records};
+use sketch_text::{Place, finished_csv_records, next_csv_record};
 
 /// Returns the number of bytes through the last end of a record, or 0 if there is none, and the place in a field after all bytes.
 ///

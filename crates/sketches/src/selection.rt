@@ -1,5 +1,5 @@
 //! The items of a line.
-use sketch_base::records::Part;
+use sketch_text::records::Part;
 
 /// The items of a line.
 #[derive(Clone, Copy)]

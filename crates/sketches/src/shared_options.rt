@@ -3,7 +3,7 @@ use crate::layout::{Layout, Style};
 use crate::percent::percent_of;
 use crate::threshold::Threshold;
 use clap::{Arg, ArgAction, ArgMatches, value_parser};
-use sketch_base::records::number_of;
+use sketch_text::records::number_of;
 use std::alloc::{AllocError, Global};
 
 /// The maximum number of rows if no option chooses them.

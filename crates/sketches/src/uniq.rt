@@ -1,6 +1,6 @@
 //! The records of inputs whose items were not seen before.
 ghost use Rattle.std.specs.Prelude.{◌≡◌, ◌⊎◌, ◌+◌, IfErr, IfOk, IfSome, IsErrOf, OnOk};
-ghost use Rattle.sketch_base.specs.Records.{splits_by};
+ghost use Rattle.sketch_text.specs.Records.{splits_by};
 ghost use Rattle.sketch_bloom.specs.State.{FilterState};
 ghost use Rattle.sketches.specs.Failures.{FailsWrittenLines, FailsUniq};
 ghost use Rattle.sketches.specs.FilterSizes.{HasNoSize, IsFilterOf};
@@ -15,8 +15,8 @@ use crate::inputs::{Inputs, read_inputs};
 use crate::output::Output;
 use crate::reading::BLOCK;
 use crate::unseen::UnseenLines;
-use sketch_base::records::RecordPart;
 use sketch_bloom::BloomFilter;
+use sketch_text::records::RecordPart;
 use std::alloc::Global;
 
 /// Which records are written.

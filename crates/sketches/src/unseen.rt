@@ -15,8 +15,8 @@ use crate::line_items::insert_record;
 use crate::line_sink::LineSink;
 use crate::output::Output;
 use sketch_base::Strs;
-use sketch_base::records::{RecordPart, Records};
 use sketch_bloom::BloomFilter;
+use sketch_text::records::{RecordPart, Records};
 use std::alloc::Global;
 
 /// Writes the records whose items were not seen before, or, if `repeated`, the others.
@@ -33,7 +33,7 @@ pub struct UnseenLines {
 
 impl<W: Output> LineSink<W> for UnseenLines {
     ghost use Rattle.std.proofs.Common.{ap};
-    ghost use Rattle.sketch_base.specs.Records.{splits_by};
+    ghost use Rattle.sketch_text.specs.Records.{splits_by};
     ghost use Rattle.sketches.specs.UnseenLaws.{takes_nothing, takes_lines, front_sooner, front_later};
     ghost use Rattle.sketches.specs.Failures.{FailsWriting};
 

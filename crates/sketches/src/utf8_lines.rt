@@ -6,7 +6,7 @@ ghost use Rattle.sketches.specs.Utf8Lines.{GrowsBy, not_utf8_in, not_utf8_of};
 use crate::selection::Selection;
 use crate::weighing::Weighing;
 use sketch_base::from_utf8;
-use sketch_base::records::raw_part_of;
+use sketch_text::records::raw_part_of;
 
 /// Returns the string of a line. If the line is not UTF-8, returns `None`, and increments `not_utf8`, up to `u64::MAX`, if its items are
 /// not UTF-8.

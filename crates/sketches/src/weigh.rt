@@ -1,11 +1,7 @@
 //! The weights of keys in inputs.
 ghost use Rattle.std.specs.Prelude.{◌≡◌, ◌⊎◌, ◌+◌, ◌≤◌, is_some, IfErr, IfOk, IfSome, IsErrOf, OnErr, OnOk};
 ghost use Rattle.std.specs.Io.KnownBytes.{Appends};
-ghost use Rattle.sketch_base.specs.Hashes.{seed_hash};
-ghost use Rattle.sketch_base.specs.Records.{splits_by};
-ghost use Rattle.sketch_countmin.specs.State.{empty_state};
-ghost use Rattle.sketch_countmin.specs.History.CountHistory.{New};
-ghost use Rattle.sketch_countmin.specs.Stands.{StandsFor};
+ghost use Rattle.sketch_text.specs.Records.{splits_by};
 ghost use Rattle.sketches.specs.Failures.{FailsWriting};
 ghost use Rattle.sketches.specs.WeighFailures.{ComesLate, FailsTable, FailsWeigh};
 ghost use Rattle.sketches.specs.Inputs.{HaveLongRecord, none_fails};
@@ -23,9 +19,9 @@ use crate::output::Output;
 use crate::reading::{BLOCK, read_lines};
 use crate::weighing::WeighedRecord;
 use crate::weight_lines::write_total_line;
-use sketch_base::records::RecordPart;
 use sketch_base::{DEFAULT_UPDATE_SEED, ErrorKind, compute_seed_hash};
 use sketch_countmin::{CountMinSketch, suggest_num_buckets, suggest_num_hashes};
+use sketch_text::records::RecordPart;
 use std::alloc::{AllocError, Global};
 use std::io;
 

@@ -14,8 +14,8 @@ use crate::selection::Selection;
 use crate::utf8_lines::str_of;
 use crate::weighing::{WeighedPart, Weighing};
 use crate::weights::{taken_weight, weight_of};
-use sketch_base::records::{Part, next_raw_line, part_of, raw_part_of};
 use sketch_frequencies::FrequentItemsSketch;
+use sketch_text::records::{Part, next_raw_line, part_of, raw_part_of};
 use std::alloc::{AllocError, Global};
 
 /// The maximum number of characters of a bad weight in a message.

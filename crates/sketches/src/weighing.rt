@@ -3,7 +3,7 @@ ghost use Rattle.std.specs.Prelude.{◌≡◌};
 ghost use Rattle.sketches.specs.Weighed.{splits_of};
 
 use crate::selection::Selection;
-use sketch_base::records::{Part, RecordPart, Records};
+use sketch_text::records::{Part, RecordPart, Records};
 
 /// The items of a record and their weights. A record is a line, or one of CSV.
 #[derive(Clone, Copy)]

@@ -3,10 +3,9 @@ ghost use Rattle.std.specs.Prelude.{◌≡◌, None};
 ghost use Rattle.sketches.specs.Skipped.{skips};
 ghost use Rattle.sketches.specs.Utf8Lines.{GrowsBy};
 ghost use Rattle.sketches.specs.Weights.{taken_weight, weight_in};
-ghost use Rattle.sketch_base.specs.Decimals.{number_in};
 
 use crate::weighing::Unweighed;
-use sketch_base::records::{Part, number_of, raw_part_of};
+use sketch_text::records::{Part, number_of, raw_part_of};
 
 /// Returns the weight in a part of a line.
 ///

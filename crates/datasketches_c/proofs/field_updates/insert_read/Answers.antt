@@ -1,6 +1,6 @@
 use Rattle.std.proofs.Common.{◌≡◌, ℕ, ℤ, refl}
-use Rattle.sketch_base.specs.Decimals.{number_in}
-use Rattle.sketch_base.specs.RecordItems.{ItemsValue}
+use Rattle.sketch_text.specs.Decimals.{number_in}
+use Rattle.sketch_text.specs.RecordItems.{ItemsValue}
 use Rattle.datasketches_c.specs.FieldUpdates.{OnRead, fed_strings}
 use Rattle.datasketches_c.specs.FilterCalls.{InsertsInto}
 use Rattle.datasketches_c.specs.Numbers.{ok}

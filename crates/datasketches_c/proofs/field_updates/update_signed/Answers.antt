@@ -1,6 +1,6 @@
 use Rattle.std.proofs.Common.{◌≡◌, ℤ, pos, refl}
-use Rattle.sketch_base.specs.Decimals.{signed_in}
-use Rattle.sketch_base.specs.RecordItems.{ItemsValue}
+use Rattle.sketch_text.specs.Decimals.{signed_in}
+use Rattle.sketch_text.specs.RecordItems.{ItemsValue}
 use Rattle.datasketches_c.specs.CountCalls.{AddsWeights}
 use Rattle.datasketches_c.specs.FieldUpdates.{OnRead, fed_strings}
 use Rattle.datasketches_c.specs.Numbers.{max_i64}

@@ -1,5 +1,5 @@
 use Rattle.std.proofs.lemmas.Result.{err_from_is_err_and}
-use Rattle.sketch_base.specs.Records.{records_by}
+use Rattle.sketch_text.specs.Records.{records_by}
 use Rattle.sketches.proofs.TakenKeys.{keys_begun, keys_failed, keys_more}
 use Rattle.sketches.proofs.file_keys.add_keys.Goals as goal
 

@@ -1,5 +1,5 @@
 use Rattle.std.proofs.Common.{length}
-use Rattle.sketch_base.specs.Records.{records_by}
+use Rattle.sketch_text.specs.Records.{records_by}
 use Rattle.sketches.proofs.TakenKeys.{HasTakenKeys}
 use Rattle.sketches.specs.KeySums.{StaysWithin}
 use Rattle.sketches.proofs.file_keys.add_keys.Given as goal

@@ -1,7 +1,7 @@
 use Rattle.std.proofs.Common.{inl, refl, subst, IfSome, ◌∙◌}
 use Rattle.std.proofs.lemmas.Result.{err_from_is_err_and}
 use Rattle.sketches.specs.Reading.{FailsInput, TakesInput}
-use Rattle.sketch_base.specs.declared.records.Records.{Records}
+use Rattle.sketch_text.specs.declared.records.Records.{Records}
 use Rattle.sketches.proofs.LongRecords.{Fits}
 use Rattle.sketches.proofs.ReadInputs.{inputs_none, inputs_more, inputs_all, inputs_fit, inputs_failed, inputs_stopped}
 use Rattle.sketches.proofs.inputs.read_inputs.Goals as goal

@@ -1,5 +1,5 @@
 use Rattle.std.proofs.Common.{refl}
-use Rattle.sketch_base.specs.Records.{records_by}
+use Rattle.sketch_text.specs.Records.{records_by}
 use Rattle.sketches.specs.Skipped.{skips_row}
 use Rattle.sketches.proofs.SkippedLines.{skipped_more}
 use Rattle.sketches.proofs.ItemWeights.{lines_none, lines_more, lines_failed}

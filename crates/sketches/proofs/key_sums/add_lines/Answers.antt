@@ -1,6 +1,6 @@
 use Rattle.std.proofs.Common.{refl}
 use Rattle.std.proofs.lemmas.Result.{err_from_is_err_and}
-use Rattle.sketch_base.specs.Records.{records_by}
+use Rattle.sketch_text.specs.Records.{records_by}
 use Rattle.sketches.specs.Skipped.{skips_row}
 use Rattle.sketches.proofs.SkippedLines.{skipped_more}
 use Rattle.sketches.proofs.TakenKeys.{sums_begun, sums_failed, sums_more}

@@ -1,4 +1,4 @@
-use Rattle.sketch_base.specs.Records.{records_by}
+use Rattle.sketch_text.specs.Records.{records_by}
 use Rattle.sketches.proofs.ItemWeights.{keys_none, keys_more}
 use Rattle.sketches.proofs.key_weights.append_lines.Goals as goal
 

@@ -1,5 +1,5 @@
 use Rattle.std.proofs.Common.{length}
-use Rattle.sketch_base.specs.Records.{records_by}
+use Rattle.sketch_text.specs.Records.{records_by}
 use Rattle.sketches.proofs.ItemWeights.{HasWrittenKeys}
 use Rattle.sketches.proofs.key_weights.append_lines.Given as goal
 

@@ -1,5 +1,5 @@
 use Rattle.std.proofs.Common.{◌≡◌, ◌≤◌, length, take}
-use Rattle.sketch_base.specs.declared.place.Place.TheVariants.{Start}
+use Rattle.sketch_text.specs.declared.place.Place.TheVariants.{Start}
 use Rattle.sketches.specs.Reading.{IsInOne, place_of}
 use Rattle.sketches.proofs.ReadLines.{HasTaken}
 use Rattle.sketches.proofs.reading.read_lines.Given as goal

@@ -1,5 +1,5 @@
 use Rattle.std.proofs.Common.{length}
-use Rattle.sketch_base.specs.Records.{records_by}
+use Rattle.sketch_text.specs.Records.{records_by}
 use Rattle.sketches.specs.Skipped.{skips_row}
 use Rattle.sketches.specs.declared.weighing.Weighing.TheVariants.{Record}
 use Rattle.sketches.proofs.SkippedLines.{HasSkipped}

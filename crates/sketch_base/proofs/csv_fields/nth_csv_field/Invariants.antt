@@ -1,6 +1,0 @@
-use Rattle.std.proofs.Common.{◌≡◌, drop}
-use Rattle.sketch_base.proofs.CsvFields.{parts_of}
-use Rattle.sketch_base.proofs.csv_fields.nth_csv_field.Given as goal
-
-abbrev pub invariant-fields : goal.invariant-fields
-invariant-fields l = drop l.at (parts_of l.delimiter l.row) ≡ parts_of l.delimiter l.rest

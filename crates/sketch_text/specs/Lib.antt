@@ -1,0 +1,5 @@
+pub mod Columns
+pub mod Csv
+pub mod Decimals
+pub mod RecordItems
+pub mod Records
