@@ -21,7 +21,7 @@ import tempfile
 HERE = os.path.dirname(os.path.abspath(__file__))
 C = os.path.dirname(HERE)
 TOP = os.path.dirname(os.path.dirname(C))
-sys.path[:0] = [f"{TOP}/tests/program", f"{TOP}/tests"]
+sys.path[:0] = [f"{TOP}/tests/cli", f"{TOP}/tests"]
 
 import checks  # noqa: E402
 import loads  # noqa: E402

@@ -1,4 +1,4 @@
-//! Worked examples. `tests/program/sessions.py` tests the numbers of sketches, bounds of items, errors, purges and
+//! Worked examples. `tests/cli/sessions.py` tests the numbers of sketches, bounds of items, errors, purges and
 //! merges, as lines of the program.
 mod batches;
 mod by_key;

@@ -1,4 +1,4 @@
-//! Printed strings. `tests/program/sessions.py` tests commands of each kind, as lines of the program.
+//! Printed strings. `tests/cli/sessions.py` tests commands of each kind, as lines of the program.
 use super::text_of;
 use datasketches::{Command, Refusal, Session};
 use sketch_base::{Error, Fault};

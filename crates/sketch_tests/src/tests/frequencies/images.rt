@@ -1,4 +1,4 @@
-//! An image of many items. `tests/program/loads.py` tests images that are altered or cut, as lines of the program.
+//! An image of many items. `tests/cli/loads.py` tests images that are altered or cut, as lines of the program.
 use super::{numbers, once_each};
 use sketch_frequencies::laws;
 use std::test::Fail;

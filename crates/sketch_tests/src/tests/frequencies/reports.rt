@@ -1,4 +1,4 @@
-//! Rows of reports. `tests/program/sessions.py` tests which items a report has, as lines of the program.
+//! Rows of reports. `tests/cli/sessions.py` tests which items a report has, as lines of the program.
 use sketch_base::Error;
 use sketch_frequencies::{ErrorType, FrequentItemsSketch, Row};
 use std::alloc::Global;

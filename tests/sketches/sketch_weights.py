@@ -1,6 +1,6 @@
 """Runs `sketches top` with weights, thresholds and error targets, and compares the reports with exact sums.
 
-    python3 tests/program/sketch_weights.py crates/sketches/out/sketches
+    python3 tests/sketches/sketch_weights.py crates/sketches/out/sketches
 
 prints a line for each check that failed, and then 'N passed, M failed'.
 """

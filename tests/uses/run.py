@@ -1,6 +1,6 @@
 """Runs the jobs of `crates/uses` over generated data sets, and compares their reports with exact results.
 
-    python3 tests/program/uses.py crates/uses/out/uses
+    python3 tests/uses/run.py crates/uses/out/uses
 
 prints a line for each check that failed, and then 'N passed, M failed'.
 """

@@ -1,6 +1,6 @@
 """Runs `sketches top`, `uniq`, `join` and `weigh` over generated files, and compares their outputs with exact counts and sets.
 
-    python3 tests/program/sketches.py crates/sketches/out/sketches
+    python3 tests/sketches/sketches.py crates/sketches/out/sketches
 
 prints a line for each check that failed, and then 'N passed, M failed'.
 """

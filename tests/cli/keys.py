@@ -5,8 +5,8 @@ import subprocess
 
 import cluster
 import sessions
+from failing import KEY
 
-VARIABLE = "DATASKETCHES_TABLE_KEY"
 GIVEN = "000102030405060708090a0b0c0d0e0f"
 OTHER = "f0e0d0c0b0a090807060504030201000"
 HALVES = [GIVEN[:16] + OTHER[16:], OTHER[:16] + GIVEN[16:]]  # each shares one half with both
@@ -77,7 +77,7 @@ def unread(tests, key, **settings):
         file.write(sessions.text(["frequent s 8"]))
     env = {"PATH": "/usr/bin:/bin", **settings}
     if key is not None:
-        env[VARIABLE] = key
+        env[KEY] = key
     with open(path, "rb") as file:
         ran = subprocess.run([tests.program], stdin=file, capture_output=True, env=env, timeout=60)
         return ran.returncode, ran.stdout, ran.stderr, os.lseek(file.fileno(), 0, os.SEEK_CUR)

@@ -1,7 +1,7 @@
 """Runs `sketches` with `--csv` over generated files, and compares what it prints with exact sets and sums by Python's `csv`. Checks
 `--progress`, too.
 
-    python3 tests/program/sketch_csv.py crates/sketches/out/sketches
+    python3 tests/sketches/sketch_csv.py crates/sketches/out/sketches
 
 prints a line for each check that failed, and then 'N passed, M failed'.
 """

@@ -1,8 +1,7 @@
 #!/usr/bin/env python3
-"""Runs the built program with allocations and streams that fail. `README.md` describes the tests.
+"""Tests `datasketches_cli`, also with allocations and streams that fail.
 
-The arguments are the paths of the program and of the trials. It prints a line for each test that failed and then
-'N passed, M failed'.
+The argument is the path of the program. It prints a line for each test that failed and then 'N passed, M failed'.
 """
 import os
 import subprocess
@@ -12,21 +11,20 @@ import threading
 
 HERE = os.path.dirname(os.path.abspath(__file__))
 TESTS = os.path.dirname(HERE)
-sys.path[:0] = [TESTS, os.path.join(TESTS, "memory")]
+sys.path.insert(0, TESTS)
 
-import checks  # noqa: E402
 import cluster  # noqa: E402
 import counted  # noqa: E402
+import failing  # noqa: E402
 import keys  # noqa: E402
 import loads  # noqa: E402
 import sessions  # noqa: E402
 import streams  # noqa: E402
-import trials  # noqa: E402
 
 NO_MEMORY = b"refused NoMemory"
 
 # All runs but those of `keys.py` are plain, so that each reply is determined.
-os.environ[keys.VARIABLE] = "plain"
+os.environ[failing.KEY] = "plain"
 
 # The main job, and each kind with its merges, images and errors. The result of the only purge is determined: all counts are 1.
 WORKED = """frequent s 8
@@ -122,36 +120,14 @@ def mixed():
     return ("\n".join(lines) + "\n").encode()
 
 
-class Tests(checks.Checks):
-    def __init__(self, program, played, work):
-        self.program = program
-        self.trials = played
+class Tests(failing.Failing):
+    def __init__(self, program, work):
         super().__init__(work)
-        self.library = checks.preloaded(work)
+        self.program = program
 
-    def run(self, lines, refused_at=None, words=None, key="plain", **settings):
-        """Runs the program over lines, or the trials with these words. The lines are in a file, so that each run reads
-        them by the same calls. With None for the key, tables hash under random keys. Returns the exit status, both outputs,
-        and the library's report if it was loaded."""
-        env = {"PATH": "/usr/bin:/bin"}
-        if key is not None:
-            env[keys.VARIABLE] = key
-        report, name = [os.path.join(self.work, it) for it in ("report", "lines")]
-        with open(name, "wb") as file:
-            file.write(lines)
-        if refused_at is not None:
-            settings["REFUSED_AT"] = refused_at
-        if settings:
-            env.update({name: str(value) for name, value in settings.items()})
-            env.update(LD_PRELOAD=self.library, REFUSED_REPORT=report)
-        command = [self.program] if words is None else [self.trials] + words
-        with open(name, "rb") as file:
-            ran = subprocess.run(command, stdin=file, capture_output=True, env=env, timeout=60)
-        numbers = None
-        if settings:
-            with open(report) as file:
-                numbers = [int(word) for word in file.read().split()]
-        return ran.returncode, ran.stdout, ran.stderr, numbers
+    def run(self, lines, refused_at=None, key="plain", **settings):
+        """Runs the program over lines, as `run_with` runs a command."""
+        return self.run_with([self.program], lines, refused_at, key, **settings)
 
     def refused_in_turn(self, name, lines):
         """Fails the n-th allocation in the n-th run, until no allocation fails in a run. Returns the number of allocations."""
@@ -370,66 +346,6 @@ class Tests(checks.Checks):
             name = f"answers at once, and status {status} at the end"
             self.check(name, (answered, ended, said) == (replies, status, (wanted, b"")), (answered, ended, said))
 
-    def play(self, words, refused_at):
-        """Runs a trial. Returns its lines, and the report on its marked calls."""
-        status, out, said, numbers = self.run(b"", refused_at, words, REFUSED_MARKED=1)
-        where = f"trial {' '.join(words[:1])}, request {refused_at}:"
-        self.check(f"{where} it ends", (status, said) == (0, b""), (status, said))
-        self.check(f"{where} all memory is given back", numbers[2] == 0, numbers)
-        return out.decode().splitlines(), numbers
-
-    def each_call(self):
-        """Fails each allocation of each call in its own run. The call returns an error and changes nothing, or it succeeds
-        without that allocation."""
-        for name, wanted in trials.CALLS.items():
-            lines, _ = self.play([name], 0)
-            self.check(f"trial {name}", lines == wanted, lines)
-            before = wanted[: wanted.index("call")]
-            n = 1
-            while True:
-                lines, numbers = self.play([name], n)
-                if numbers[1] == 0:
-                    break
-                where = f"trial {name}, request {n}:"
-                end = lines.index("after") if "after" in lines else len(lines)
-                if lines == wanted:
-                    n += 1  # the call succeeded with a smaller allocation
-                    continue
-                self.check(f"{where} it is refused", lines[:end].count(trials.REFUSED) == 1, lines)
-                kept = len(lines) == len(wanted) and all(
-                    line in (whole, trials.REFUSED) or line == trials.LEFT.get(whole)
-                    for line, whole in zip(lines[:end], wanted)
-                )
-                self.check(f"{where} the other answers are as without it", kept, lines)
-                self.check(f"{where} all is as before", lines[end + 1 :] == before or end == len(lines), lines)
-                n += 1
-
-    def allocation_free_calls(self):
-        """Checks calls that allocate nothing."""
-        for name, wanted in trials.ALLOCATION_FREE.items():
-            lines, numbers = self.play([name], 0)
-            self.check(f"trial {name}", (lines, numbers[0]) == (wanted, 0), (lines, numbers))
-
-    def counted_calls(self):
-        """Checks the numbers of allocations and of freed blocks of calls."""
-        for name, wanted in trials.COUNTED.items():
-            lines, numbers = self.play([name], 0)
-            self.check(f"trial {name}, counted", (numbers[0], numbers[3], lines) == wanted, (lines, numbers))
-
-    def limits(self):
-        """Checks images under the minimum limit that accepts them: at most twice the limit is allocated. Under a limit of one
-        byte less they are rejected, and nothing is allocated."""
-        for name, sizes, limit, takes in trials.LIMITS:
-            lines, numbers = self.play([f"limit_{name}", str(limit), *sizes], 0)
-            where = f"limit of {name} {' '.join(sizes)}"
-            self.check(where, lines == [f"takes {takes}"] and 0 < numbers[4] <= 2 * limit, (lines, numbers))
-            lines, numbers = self.play([f"limit_{name}", str(limit - 1), *sizes], 0)
-            self.check(f"{where}, less 1", (lines, numbers[0]) == (["refused data TableTooLarge"], 0), (lines, numbers))
-        for name, slots, takes in trials.TABLES:
-            lines, numbers = self.play([f"limit_{name}", str(slots)], 0)
-            told = lines == [f"takes {takes}"] and 0 < numbers[4] <= 2 * takes
-            self.check(f"limit of {name} of {slots} slots", told, (lines, numbers))
-
     def requests_of(self, lines):
         """Returns the number of allocations that the program makes over the lines, and its replies."""
         status, out, said, numbers = self.run(lines, 0)
@@ -449,35 +365,6 @@ class Tests(checks.Checks):
         without, _ = self.requests_of(b"frequent f 8\n")
         new, replies = self.requests_of(b"frequent f 8\nwindows 2 8\n")
         self.check("requests of new windows", (new, replies) == (without, ["ok", "ok"]), (new, without))
-
-    def hard_items(self):
-        for name, wanted in trials.ITEMS.items():
-            lines, _ = self.play([name], 0)
-            self.check(f"trial {name}", lines == wanted, lines)
-
-    def list_of_calls(self, name):
-        """Fails each allocation of a list of calls in its own run: the calls of a session's run. Returns the number of
-        allocations."""
-        lines, _ = self.play([name], 0)
-        then = lines.index("then")
-        self.check(f"{name}: no want of memory", trials.REFUSED not in lines)
-        every = [str(place) for place in range(then)]
-        n = 1
-        while True:
-            lines, numbers = self.play([name], n)
-            if numbers[1] == 0:
-                return n - 1
-            where = f"{name}, request {n}:"
-            if lines[0] == f"run {trials.REFUSED}":
-                others, _ = self.play([name] + every, 0)
-                self.check(f"{where} nothing was done", lines[1:] == others, lines)
-            else:
-                places = [place for place, line in enumerate(lines[:then]) if line == trials.REFUSED]
-                others, _ = self.play([name] + [str(place) for place in places], 0)
-                self.check(f"{where} one is refused", len(places) == 1, places)
-                accepted = [line for place, line in enumerate(lines) if place not in places]
-                self.check(f"{where} the others are as without it", accepted == others, lines)
-            n += 1
 
     def statuses(self):
         ok = b"ok\n"
@@ -567,19 +454,11 @@ class Tests(checks.Checks):
 
 
 def main():
-    words = sys.argv[1:]
-    program, played = [os.path.abspath(path) for path in words]
     with tempfile.TemporaryDirectory() as work:
-        tests = Tests(program, played, work)
+        tests = Tests(os.path.abspath(sys.argv[1]), work)
         worked = tests.refused_in_turn("worked lines", WORKED)
         many = tests.refused_in_turn("two hundred lines", mixed())
-        run = tests.list_of_calls("session")
-        tests.each_call()
-        tests.allocation_free_calls()
-        tests.counted_calls()
-        tests.limits()
         tests.lines_counted()
-        tests.hard_items()
         tests.sessions()
         tests.purges()
         tests.thousands()
@@ -597,7 +476,7 @@ def main():
         tests.arguments()
         tests.failing_streams()
         tests.sizes()
-        print(f"requests refused in turn: {worked} and {many} of the program, {run} of a run of a session")
+        print(f"requests refused in turn: {worked} and {many}")
         tests.end()
 
 

@@ -1,6 +1,6 @@
 """Saves images with `sketches top --save`, merges and shows them, and compares the reports with exact counts.
 
-    python3 tests/program/sketch_images.py crates/sketches/out/sketches
+    python3 tests/sketches/sketch_images.py crates/sketches/out/sketches
 
 prints a line for each check that failed, and then 'N passed, M failed'.
 """
