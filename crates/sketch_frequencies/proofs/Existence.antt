@@ -102,7 +102,7 @@ module _ {C : Type 0} (codec : Codec C) (lawful : IsLawful codec) where
       let m = max_size_at image in
       let n = max_sample_size m in
       let power = power_is (byte_at image 3) in
-      let state : IsState codec.same (empty_state m n Plain) = fresh_state codec.same m n Plain (omega (arith, least)) most power (usual_sample m (omega (arith, least)) power) in
+      let state : IsState codec.same (empty_state m n Plain) = fresh_state codec.same m n Plain 0 (omega (arith, least)) most power (usual_sample m (omega (arith, least)) power) in
       (state_of_contents itself (empty_state m n Plain), image_of_none codec itself codec.same (λ x y. refl) image m n Plain state checks empty refl)
 
   full_one : (image : List ℕ) → first_failing (header_checks image) ≡ None → says_empty image ≡ false → first_failing (count_checks image) ≡ None → first_failing (weight_checks image) ≡ None → fault_in (items_at codec image) ≡ None → (s : FrequentState C) × IsImage codec image s
@@ -120,7 +120,7 @@ module _ {C : Type 0} (codec : Codec C) (lawful : IsLawful codec) where
       let size = length-items_in codec (active_at image) (drop (32 + 8 * active_at image) image) read.0 read.1 in
       let laws = lawful.equivalence in
       let c = collect read.0 (weights_at image) [] [] [] (omega (arith, len, size)) refl (none_counted codec itself codec.same laws laws (λ x y. refl)) in
-      let s : FrequentState C = record { counters = c.0; error = error_at image; total = total_at image; max_size = max_size_at image; size = size_at image; sample_size = max_sample_size (max_size_at image); key = Plain } in
+      let s : FrequentState C = record { counters = c.0; error = error_at image; total = total_at image; max_size = max_size_at image; size = size_at image; sample_size = max_sample_size (max_size_at image); key = Plain; purges = 0 } in
       let counters : AreCounters codec itself codec.same image c.0 = record { items = read.0; read = read.1; counted = c.1 } in
       let some : 0 < total_at image = positive (total_at image) q.1.1.1.0 in
       let least : 2 ^ 3 ≤ size_at image = pow_mono low in

@@ -34,7 +34,7 @@ positive_from_contents {T} {C} content (e ∷ es) h =
 
 -- a state stays one where its counters are replaced by as many of other items, of the same weight together
 with_counters : {A B : Type 0} (eq : A → A → Bool) (other : B → B → Bool) (s : FrequentState A) (counters : List (B × ℕ)) → IsState eq s → IsDistinct other (keys_of counters) → All (λ e. 0 < e.1) counters → length counters ≡ length s.counters → sum_of counters ≡ sum_of s.counters →
-    IsState other (record { counters = counters; error = s.error; total = s.total; max_size = s.max_size; size = s.size; sample_size = s.sample_size; key = s.key })
+    IsState other (record { counters = counters; error = s.error; total = s.total; max_size = s.max_size; size = s.size; sample_size = s.sample_size; key = s.key; purges = s.purges })
 with_counters eq other s counters h distinct positive long weight = record {
   distinct = distinct;
   positive = positive;

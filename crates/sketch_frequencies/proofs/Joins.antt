@@ -36,7 +36,7 @@ state_step {T} {eq} laws old new x w pos ok step =
     let k = step.doubled over below in
     let fits = doubled_fits old.size old.max_size ok.size_power ok.max_size_power below in
     let some : 0 < old.total = omega (arith, over, length_put_le eq old.counters x w, length_le_sum old.counters ok.positive, ok.sum, ok.least) in
-    let wide : Table T = record { entries = old.counters; size = 2 * old.size; key = old.key; purges = 0 } in
+    let wide : Table T = record { entries = old.counters; size = 2 * old.size; key = old.key; purges = old.purges } in
     let mid : FrequentState T = state_of wide old.error old.total old.max_size old.sample_size in
     let made : IsState eq mid = state_made laws old wide ok (IsPermutation-refl old.counters) refl fits some in
     let adds : Adds eq mid x w new = record { total = step.total; max_size = step.max_size; sample_size = step.sample_size; key = step.key; kept = λ _. k; purge = λ more. absurd (omega (arith, more, length_put_le eq old.counters x w, ok.few, ok.least)) } in

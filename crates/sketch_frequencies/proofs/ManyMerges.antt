@@ -109,6 +109,7 @@ module _ {T : Type 0} {eq : T → T → Bool} (laws : IsEquivalence eq) where
     };
     sample_size = second.sample_size ∙ first.sample_size;
     key = second.key ∙ first.key;
+    purges = second.purges ∙ first.purges;
   }
 
   -- a join with a sketch that is the same as old is one with old

@@ -85,7 +85,7 @@ module _ {T : Type 0} {eq : T → T → Bool} (laws : IsEquivalence eq) where
         whole = IsPermutation-refl adds.order;
         last = last;
         steps = adds.steps;
-        left = record { counters = IsPermutation-refl last.counters; error = refl; size = refl };
+        left = record { counters = IsPermutation-refl last.counters; error = refl; size = refl; purges = refl };
         total = omega (arith, same.holds.total);
         max_size = (steps_total own last adds.order adds.steps).1;
         sample_size = (steps_total own last adds.order adds.steps).2;
@@ -95,7 +95,7 @@ module _ {T : Type 0} {eq : T → T → Bool} (laws : IsEquivalence eq) where
         own = own;
         same_own = same;
         more = more;
-        same_more = record { holds = record { counters = adds.same; error = refl; total = refl; max_size = refl; size = refl }; sample_size = refl; key = refl };
+        same_more = record { holds = record { counters = adds.same; error = refl; total = refl; max_size = refl; size = refl }; sample_size = refl; key = refl; purges = refl };
         join = record { nothing = λ none. absurd (omega (arith, none, some)); added = λ _. subst (λ s. AddsAll eq own more s) (sym is) added };
       }
 

@@ -29,6 +29,7 @@ module _ {T : Type 0} {eq : T → T → Bool} (laws : IsEquivalence eq) where
     holds = record { counters = same_map_refl s.counters; error = refl; total = refl; max_size = refl; size = refl };
     sample_size = refl;
     key = refl;
+    purges = refl;
   }
 
   -- the same sketch is a state

@@ -1,5 +1,5 @@
 -- From the parts of an update to its step.
-use Rattle.std.proofs.Common.{◌≡◌, ℕ, ◌+◌, ◌*◌, ◌<◌, ◌≤◌, Bool, true, false, ◌&&◌, List, length, refl, ap, sym, ◌∙◌, subst, arith, IsPermutation}
+use Rattle.std.proofs.Common.{◌≡◌, ℕ, ◌+◌, ◌*◌, ◌%◌, ◌^◌, ◌<◌, ◌≤◌, Bool, true, false, ◌&&◌, List, length, refl, ap, sym, ◌∙◌, subst, arith, IsPermutation}
 use Rattle.std.specs.Cmp.{IsEquivalence}
 use Rattle.std.proofs.lemmas.Bool.{cases_lt, le-ltb}
 use Rattle.std.proofs.lemmas.Bool.Decides.{nat_tests}
@@ -61,8 +61,8 @@ step_with_room eq old new x w room adds = record {
 }
 
 -- from what the table's call says of a tracked item
-pub adds_tracked : {T : Type 0} (eq : T → T → Bool) (old : FrequentState T) (x : T) (w : ℕ) (t : Table T) → IsState eq old → is_tracked eq old.counters x ≡ true → IsPermutation (put eq old.counters x w) t.entries → t.size ≡ old.size → t.key ≡ old.key → Adds eq old x w (state_of t old.error (old.total + w) old.max_size old.sample_size)
-adds_tracked eq old x w t ok there p size key = adds_kept eq old x w t p size key (omega (arith, length_permutation (put eq old.counters x w) t.entries p, length_tracked eq old.counters x w there, ok.few, size))
+pub adds_tracked : {T : Type 0} (eq : T → T → Bool) (old : FrequentState T) (x : T) (w : ℕ) (t : Table T) → IsState eq old → is_tracked eq old.counters x ≡ true → IsPermutation (put eq old.counters x w) t.entries → t.size ≡ old.size → t.key ≡ old.key → t.purges ≡ old.purges → Adds eq old x w (state_of t old.error (old.total + w) old.max_size old.sample_size)
+adds_tracked eq old x w t ok there p size key purges = adds_kept eq old x w t p size key purges (omega (arith, length_permutation (put eq old.counters x w) t.entries p, length_tracked eq old.counters x w there, ok.few, size))
 
 -- the step of a tracked item
 pub step_tracked : {T : Type 0} (eq : T → T → Bool) (old new : FrequentState T) (x : T) (w : ℕ) → IsState eq old → is_tracked eq old.counters x ≡ true → Adds eq old x w new → Steps eq old x w new
@@ -115,18 +115,18 @@ module _ {T : Type 0} {eq : T → T → Bool} (laws : IsEquivalence eq) (old mid
     kept = λ h.
         let same = stays h in
         let k = adds.kept (omega (arith, put_made_length, h, same)) in
-        record { counters = IsPermutation-trans _ _ _ put_made k.counters; error = k.error ∙ made.error; size = k.size ∙ same };
+        record { counters = IsPermutation-trans _ _ _ put_made k.counters; error = k.error ∙ made.error; size = k.size ∙ same; purges = k.purges ∙ made.purges };
     doubled = λ h below.
         let twice = grows h below in
         let k = adds.kept (omega (arith, put_made_length, one_more, ok.few, ok.least, twice)) in
-        record { counters = IsPermutation-trans _ _ _ put_made k.counters; error = k.error ∙ made.error; size = k.size ∙ twice };
+        record { counters = IsPermutation-trans _ _ _ put_made k.counters; error = k.error ∙ made.error; size = k.size ∙ twice; purges = k.purges ∙ made.purges };
     purge = λ h at.
         let same = made.stays (no_growth_at_max old at) in
         let k = adds.purge (omega (arith, put_made_length, h, same)) in
         record {
           m = k.m;
           middle = subst (λ (n : ℕ). IsSampleMiddle n (put eq old.counters x w) k.m) made.sample_size (IsSampleMiddle-permutation mid.sample_size k.m (put eq old.counters x w) (put eq mid.counters x w) put_made k.middle);
-          left = record { counters = IsPermutation-trans _ _ _ (purged-permutation k.m (put eq old.counters x w) (put eq mid.counters x w) put_made) k.left.counters; error = k.left.error ∙ ap (λ n. n + k.m) made.error; size = k.left.size ∙ same };
+          left = record { counters = IsPermutation-trans _ _ _ (purged-permutation k.m (put eq old.counters x w) (put eq mid.counters x w) put_made) k.left.counters; error = k.left.error ∙ ap (λ n. n + k.m) made.error; size = k.left.size ∙ same; purges = k.left.purges ∙ ap (λ (n : ℕ). (n + 1) % 2 ^ 64) made.purges };
         };
   }
 

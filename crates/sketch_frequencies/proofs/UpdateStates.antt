@@ -1,5 +1,5 @@
 -- What an update leaves is a state.
-use Rattle.std.proofs.Common.{◌≡◌, ℕ, ◌+◌, ◌-◌, ◌*◌, ◌<◌, ◌≤◌, min, Bool, true, List, [], ◌∷◌, length, refl, sym, ◌∙◌, subst, arith, IsPermutation, ltb}
+use Rattle.std.proofs.Common.{◌≡◌, ℕ, ◌+◌, ◌-◌, ◌*◌, ◌%◌, ◌^◌, ◌<◌, ◌≤◌, min, Bool, true, List, [], ◌∷◌, length, refl, ap, sym, ◌∙◌, subst, arith, IsPermutation, ltb}
 use Rattle.std.proofs.Math.Nat.{mul-le-mul_left}
 use Rattle.std.specs.Cmp.{IsEquivalence}
 use Rattle.std.specs.List.{All, filter}
@@ -73,18 +73,18 @@ state_after {T} {eq} laws old new x w pos ok adds =
     })
 
 -- from what the table's calls say
-pub adds_kept : {T : Type 0} (eq : T → T → Bool) (old : FrequentState T) (x : T) (w : ℕ) (t : Table T) → IsPermutation (put eq old.counters x w) t.entries → t.size ≡ old.size → t.key ≡ old.key → length t.entries ≤ capacity t.size → Adds eq old x w (state_of t old.error (old.total + w) old.max_size old.sample_size)
-adds_kept eq old x w t p size key few = record {
+pub adds_kept : {T : Type 0} (eq : T → T → Bool) (old : FrequentState T) (x : T) (w : ℕ) (t : Table T) → IsPermutation (put eq old.counters x w) t.entries → t.size ≡ old.size → t.key ≡ old.key → t.purges ≡ old.purges → length t.entries ≤ capacity t.size → Adds eq old x w (state_of t old.error (old.total + w) old.max_size old.sample_size)
+adds_kept eq old x w t p size key purges few = record {
   total = refl;
   max_size = refl;
   sample_size = refl;
   key = key;
-  kept = λ _. record { counters = p; error = refl; size = size };
+  kept = λ _. record { counters = p; error = refl; size = size; purges = purges };
   purge = λ over. absurd (omega (arith, over, few, length_permutation (put eq old.counters x w) t.entries p, size));
 }
 
-pub adds_purged : {T : Type 0} (eq : T → T → Bool) (old : FrequentState T) (x : T) (w : ℕ) (t u : Table T) (m n : ℕ) → IsPermutation (put eq old.counters x w) t.entries → t.size ≡ old.size → capacity t.size < length t.entries → old.size ≡ old.max_size → n ≡ old.sample_size → IsState eq old → IsSampleMiddle (min n (min (length t.entries) 1024)) t.entries m → IsPermutation (purged m t.entries) u.entries → u.size ≡ t.size → u.key ≡ old.key → Adds eq old x w (state_of u (old.error + m) (old.total + w) old.max_size old.sample_size)
-adds_purged {T} eq old x w t u m n p size over same sample ok middle q size' key =
+pub adds_purged : {T : Type 0} (eq : T → T → Bool) (old : FrequentState T) (x : T) (w : ℕ) (t u : Table T) (m n : ℕ) → IsPermutation (put eq old.counters x w) t.entries → t.size ≡ old.size → capacity t.size < length t.entries → old.size ≡ old.max_size → n ≡ old.sample_size → IsState eq old → IsSampleMiddle (min n (min (length t.entries) 1024)) t.entries m → IsPermutation (purged m t.entries) u.entries → u.size ≡ t.size → u.key ≡ old.key → u.purges ≡ (old.purges + 1) % 2 ^ 64 → Adds eq old x w (state_of u (old.error + m) (old.total + w) old.max_size old.sample_size)
+adds_purged {T} eq old x w t u m n p size over same sample ok middle q size' key purges =
     let c1 = put eq old.counters x w in
     let is : min n (min (length t.entries) 1024) ≡ old.sample_size = omega (arith, size, over, same, sample, ok.sample.greatest) in
     record {
@@ -96,7 +96,7 @@ adds_purged {T} eq old x w t u m n p size over same sample ok middle q size' key
       purge = λ _. record {
         m = m;
         middle = IsSampleMiddle-permutation old.sample_size m c1 t.entries p (subst (λ (k : ℕ). IsSampleMiddle k t.entries m) is middle);
-        left = record { counters = IsPermutation-trans (purged m c1) (purged m t.entries) u.entries (purged-permutation m c1 t.entries p) q; error = refl; size = size' ∙ size };
+        left = record { counters = IsPermutation-trans (purged m c1) (purged m t.entries) u.entries (purged-permutation m c1 t.entries p) q; error = refl; size = size' ∙ size; purges = purges };
       };
     }
 
@@ -125,13 +125,13 @@ length_le_sum [] h = omega arith
 length_le_sum {T} (e ∷ es) h = omega (arith, length_le_sum es (All-tail (λ (p : T × ℕ). 0 < p.1) e es h), All-head (λ (p : T × ℕ). 0 < p.1) e es h, sum_by-cons (λ (p : T × ℕ). p.1) e es)
 
 -- w was added at x, and a purge followed if there was then one counter too many
-pub adds_excess : {T : Type 0} (eq : T → T → Bool) (old : FrequentState T) (x : T) (w : ℕ) (t u : Table T) (m : ℕ) → IsPermutation (put eq old.counters x w) t.entries → t.size ≡ old.size → t.key ≡ old.key → (capacity old.size < length (put eq old.counters x w) → old.size ≡ old.max_size) → IsState eq old → PurgesExcess old.sample_size t u m → Adds eq old x w (state_of u (old.error + m) (old.total + w) old.max_size old.sample_size)
-adds_excess {T} eq old x w t u m p size key room ok excess =
+pub adds_excess : {T : Type 0} (eq : T → T → Bool) (old : FrequentState T) (x : T) (w : ℕ) (t u : Table T) (m : ℕ) → IsPermutation (put eq old.counters x w) t.entries → t.size ≡ old.size → t.key ≡ old.key → t.purges ≡ old.purges → (capacity old.size < length (put eq old.counters x w) → old.size ≡ old.max_size) → IsState eq old → PurgesExcess old.sample_size t u m → Adds eq old x w (state_of u (old.error + m) (old.total + w) old.max_size old.sample_size)
+adds_excess {T} eq old x w t u m p size key purges room ok excess =
     by_cases (cases_lt (capacity t.size) (length t.entries))
     (λ over.
     let at = room (omega (arith, over, length_permutation (put eq old.counters x w) t.entries p, size)) in
-    adds_purged eq old x w t u m old.sample_size p size over at refl ok (excess.middle over) (excess.entries over) excess.size (excess.key ∙ key))
+    adds_purged eq old x w t u m old.sample_size p size over at refl ok (excess.middle over) (excess.entries over) excess.size (excess.key ∙ key) (excess.purges over ∙ ap (λ (n : ℕ). (n + 1) % 2 ^ 64) purges))
     (λ fits.
     let same = excess.kept fits in
     let none : old.error + m ≡ old.error = omega (arith, same.0) in
-    rw (none, same.1) (adds_kept eq old x w t p size key fits))
+    rw (none, same.1) (adds_kept eq old x w t p size key purges fits))

@@ -178,7 +178,7 @@ weight_at codec image x =
     unless_empty image (weight_of codec.same x (items_or_none (items_at codec image)) (weights_at image))
 
 -- The bytes are an image of a sketch of contents. A count is the sum of the weights of equal items, with no counter if that
--- is 0. Bytes that are not named here are arbitrary. The sample size and the key are not in the image.
+-- is 0. Bytes that are not named here are arbitrary. The sample size, the key and the number of purges are not in the image.
 pub record IsImage {C : Type 0} (codec : Codec C) (image : List ℕ) (s : FrequentState C) : Type 0 where
   pub no_fault : first_fault codec image ≡ None
   pub state : IsState codec.same s
@@ -250,6 +250,7 @@ state_of_contents content s = record {
   size = s.size;
   sample_size = s.sample_size;
   key = s.key;
+  purges = s.purges;
 }
 
 module _ {T C : Type 0} (codec : Codec C) (content : T → C) where

@@ -16,8 +16,8 @@ module _ {C : Type 0} (codec : Codec C) where
   SpelledIsFront = (image rest : List ℕ) (s : FrequentState C) → IsSpelled codec image s →
       IsImage codec (image ++ rest) s × (prefix_bytes codec (image ++ rest) ≡ length image)
 
-  -- no bytes are an image of two sketches, up to which of equal items they hold and up to their sample sizes
-  -- and keys
+  -- no bytes are an image of two sketches, up to which of equal items they hold and up to their sample sizes,
+  -- keys and purges
   abbrev pub ImageIsOfOne : Type 0
   ImageIsOfOne =
       (image : List ℕ) (s t : FrequentState C) → IsImage codec image s → IsImage codec image t →

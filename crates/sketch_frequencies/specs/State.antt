@@ -1,4 +1,4 @@
--- A frequent-items sketch as its counters, five numbers and the key of its table.
+-- A frequent-items sketch as its counters, six numbers and the key of its table.
 use Rattle.std.specs.Prelude.{◌≡◌, ℕ, ◌+◌, ◌*◌, ◌/◌, ◌%◌, ◌^◌, ◌<◌, ◌≤◌, min, nat_lt, nat_le, not, ◌&&◌, Bool, IsTrue, List, [], length, All, if◌then◌else◌}
 use Rattle.std.specs.Int.{is_power_of_two}
 use Rattle.std.specs.List.{IsDistinct}
@@ -6,8 +6,8 @@ use Rattle.std.specs.Map.{keys_of}
 use Rattle.counter_table.specs.Tables.{Table, count_by_key, count_of, is_tracked_by_key, is_tracked, sum_of}
 use Rattle.counter_table.specs.declared.table_key.TableKey.{TableKey}
 
--- the counters in some order, the error, the total, the maximum and the current size of the table, the sample size, and the
--- key of the table
+-- the counters in some order, the error, the total, the maximum and the current size of the table, the sample size, the
+-- key of the table, and the number of its purges modulo 2^64, which with the key selects where the next purge samples
 pub record FrequentState (T : Type 0) : Type 0 where
   pub counters : List (T × ℕ)
   pub error : ℕ
@@ -16,6 +16,7 @@ pub record FrequentState (T : Type 0) : Type 0 where
   pub size : ℕ
   pub sample_size : ℕ
   pub key : TableKey
+  pub purges : ℕ
 
 -- the counters of a table, with the other numbers
 abbrev pub state_of : {T : Type 0} → Table T → (error total max_size sample_size : ℕ) → FrequentState T
@@ -27,6 +28,7 @@ state_of map error total max_size sample_size = record {
   size = map.size;
   sample_size = sample_size;
   key = map.key;
+  purges = map.purges;
 }
 
 -- how many counters a table of this size may hold: three quarters
@@ -75,7 +77,12 @@ empty_state max_size sample_size key = record {
   size = 8;
   sample_size = sample_size;
   key = key;
+  purges = 0;
 }
+
+-- what a reset leaves: the empty sketch of the same sizes under the same key, which keeps the number of purges
+abbrev pub emptied : {T : Type 0} → FrequentState T → FrequentState T
+emptied s = record (empty_state s.max_size s.sample_size s.key) { purges = s.purges }
 
 -- the estimate of an item's weight: its count plus the error if it is tracked, else 0
 abbrev pub estimate_of : {T : Type 0} → (T → T → Bool) → FrequentState T → T → ℕ

@@ -1,20 +1,21 @@
 -- What an update and a merge do to a sketch. The counters that a purge samples and the order of a merge are unspecified.
-use Rattle.std.specs.Prelude.{◌≡◌, ℕ, ◌+◌, ◌*◌, ◌<◌, ◌≤◌, Bool, List, [], ◌∷◌, length, IsPermutation, IsTrue}
+use Rattle.std.specs.Prelude.{◌≡◌, ℕ, ◌+◌, ◌*◌, ◌%◌, ◌^◌, ◌<◌, ◌≤◌, Bool, List, [], ◌∷◌, length, IsPermutation, IsTrue}
 use Rattle.counter_table.specs.Tables.{put, purged, IsSampleMiddle, IsSameMap}
 use Rattle.sketch_frequencies.specs.State.{FrequentState, capacity}
 
 module _ {T : Type 0} where
-  -- the new sketch has these counters in some order, the error e and the size n
-  pub record Becomes (all : List (T × ℕ)) (e n : ℕ) (new : FrequentState T) : Type 0 where
+  -- the new sketch has these counters in some order, the error e, the size n and p purges
+  pub record Becomes (all : List (T × ℕ)) (e n p : ℕ) (new : FrequentState T) : Type 0 where
     pub counters : IsPermutation all new.counters
     pub error : new.error ≡ e
     pub size : new.size ≡ n
+    pub purges : new.purges ≡ p
 
   -- m is the middle of a sample: each count is less by m, those at or below m are dropped, and the error is greater by m
   pub record Purges (old : FrequentState T) (all : List (T × ℕ)) (new : FrequentState T) : Type 0 where
     pub m : ℕ
     pub middle : IsSampleMiddle old.sample_size all m
-    pub left : Becomes (purged m all) (old.error + m) old.size new
+    pub left : Becomes (purged m all) (old.error + m) old.size ((old.purges + 1) % 2 ^ 64) new
 
 module _ {T : Type 0} (eq : T → T → Bool) where
   -- new is old after the weight w above 0 was added at x
@@ -26,11 +27,11 @@ module _ {T : Type 0} (eq : T → T → Bool) where
     -- the counters fit
     pub kept :
         length (put eq old.counters x w) ≤ capacity old.size →
-        Becomes (put eq old.counters x w) old.error old.size new
+        Becomes (put eq old.counters x w) old.error old.size old.purges new
     -- they do not fit, and the table doubles
     pub doubled :
         capacity old.size < length (put eq old.counters x w) → old.size < old.max_size →
-        Becomes (put eq old.counters x w) old.error (2 * old.size) new
+        Becomes (put eq old.counters x w) old.error (2 * old.size) old.purges new
     -- they do not fit, the table is at its maximum size, and is purged
     pub purge :
         capacity old.size < length (put eq old.counters x w) → old.size ≡ old.max_size →
@@ -57,7 +58,7 @@ module _ {T : Type 0} (eq : T → T → Bool) where
     pub whole : IsPermutation other.counters order
     pub last : FrequentState T
     pub steps : StepsAlong old order last
-    pub left : Becomes last.counters (last.error + other.error) last.size new
+    pub left : Becomes last.counters (last.error + other.error) last.size last.purges new
     pub total : new.total ≡ old.total + other.total
     pub max_size : new.max_size ≡ old.max_size
     pub sample_size : new.sample_size ≡ old.sample_size
@@ -68,7 +69,8 @@ module _ {T : Type 0} (eq : T → T → Bool) where
     pub nothing : other.total ≡ 0 → new ≡ old
     pub added : 0 < other.total → AddsAll old other new
 
-  -- the same sketch, up to which of equal items it holds and up to its sample size and its key: what an image states
+  -- the same sketch, up to which of equal items it holds and up to its sample size, its key and its purges: what an image
+  -- states
   pub record HoldsSame (s t : FrequentState T) : Type 0 where
     pub counters : IsSameMap eq s.counters t.counters
     pub error : t.error ≡ s.error
@@ -81,6 +83,7 @@ module _ {T : Type 0} (eq : T → T → Bool) where
     pub holds : HoldsSame s t
     pub sample_size : t.sample_size ≡ s.sample_size
     pub key : t.key ≡ s.key
+    pub purges : t.purges ≡ s.purges
 
   -- new is old after the other was merged into it, up to which of equal items both hold
   pub record JoinsEqual (old other new : FrequentState T) : Type 0 where

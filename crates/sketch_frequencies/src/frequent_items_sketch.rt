@@ -7,7 +7,7 @@ ghost use Rattle.sketch_frequencies.specs.History.{FrequentHistory, total_weight
 ghost use Rattle.sketch_frequencies.specs.History.FrequentHistory.{New, Merge, Reset};
 ghost use Rattle.sketch_frequencies.specs.Sizes.{sample_fault, size_fault, sizes_fault};
 ghost use Rattle.sketch_frequencies.specs.Stands.{StandsFor, KeepsTailBudget, Extends, ExtendsBudget};
-ghost use Rattle.sketch_frequencies.specs.State.{IsState, capacity, max_sample_size, empty_state};
+ghost use Rattle.sketch_frequencies.specs.State.{IsState, capacity, max_sample_size, empty_state, emptied};
 ghost use Rattle.sketch_frequencies.specs.Steps.{IsSameState};
 
 mod batches;
@@ -186,12 +186,13 @@ impl<T: Eq + Hash + Drop> FrequentItemsSketch<T> {
         })
     }
 
-    /// Removes all items, and sets the total weight and the error to 0. Keeps the maximum size, the sample size and the key.
+    /// Removes all items, and sets the total weight and the error to 0. Keeps the maximum size, the sample size, the key and the
+    /// number of purges, which with the key selects where the next purge samples.
     ///
     /// Does not allocate. The table keeps its array and uses 8 slots of it. When the table next doubles, it allocates an array
     /// of the new size and frees the kept one.
     pub fn reset(&mut self)
-        ensures empty { self.new ≡ empty_state self.old.max_size self.old.sample_size self.old.key }
+        ensures empty { self.new ≡ emptied self.old }
         ensures state { IsState T.eq self.new }
         ensures stands { Extends T.eq self.old self.new Reset }
         ensures budget { (h : FrequentHistory T) → KeepsTailBudget T.eq self.new (Reset h) }
@@ -314,7 +315,7 @@ impl<T: Eq + Hash + Drop> FrequentItemsSketch<T> {
         self.map.estimated_size()
     }
 
-    /// Returns the same sketch with clones of the items.
+    /// Returns the same sketch with clones of the items, after the same number of purges.
     ///
     /// Allocates a table of the same size and the clones.
     ///

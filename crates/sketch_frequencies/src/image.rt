@@ -251,6 +251,7 @@ pub(crate) fn read_counters<T: FrequentItemValue + Drop>(
     ensures counters { IfOk result (λ r. AreCounters T.codec T.content T.eq image.now r.0.entries) }
     ensures size { IfOk result (λ r. r.0.size ≡ size) }
     ensures key { IfOk result (λ r. r.0.key ≡ key) }
+    ensures purges { IfOk result (λ r. r.0.purges ≡ 0) }
     ensures owned { IfOk result (λ r. owned_by T.codec T.content r.0.entries
         ≤ max_owned T.codec (items_bytes T.codec active (drop (32 + 8 * active) image.now))) }
     ensures used { IfOk result (λ r. r.1 ≡ 32 + 8 * active + items_bytes T.codec active (drop (32 + 8 * active) image.now)) }

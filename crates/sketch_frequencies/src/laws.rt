@@ -20,9 +20,10 @@ use std::alloc::Global;
 
 /// Proves the laws of images.
 ///
-/// The bytes that `serialize` writes are an image of the sketch (`spelled`), whatever bytes follow (`front`). Two sketches with the same image differ at most
-/// in their sample sizes, in their keys and in which of equal items they hold (`one`). Bytes are an image of some sketch exactly if no check
-/// fails (`some`). For every image, also an untrusted one, the counts plus the error are at most the total (`within`).
+/// The bytes that `serialize` writes are an image of the sketch (`spelled`), whatever bytes follow (`front`). Two sketches with
+/// the same image differ at most in their sample sizes, in their keys, in their numbers of purges and in which of equal items they
+/// hold (`one`). Bytes are an image of some sketch exactly if no check fails (`some`). For every image, also an untrusted one, the
+/// counts plus the error are at most the total (`within`).
 pub fn image_laws<T: FrequentItemValue>()
     ensures spelled { SpelledIsImage T.codec }
     ensures front { SpelledIsFront T.codec }
@@ -70,7 +71,7 @@ pub fn stream_bounds<T: Eq>()
 /// Writes an image of the sketch and reads it again.
 ///
 /// The result has the same counters, error, total and sizes, and may hold other items that are equal to the sketch's. Its
-/// sample size and its key are those of a sketch that `new` creates with its maximum size.
+/// sample size and its key are those of a sketch that `new` creates with its maximum size, and it counts no purges.
 ///
 /// # Errors
 ///
@@ -82,6 +83,7 @@ pub fn restored<T: FrequentItemValue + Drop>(
     ensures same { IfOk result (λ copy. HoldsSame T.eq sketch.now copy) }
     ensures sample { IfOk result (λ copy. copy.sample_size ≡ max_sample_size sketch.now.max_size) }
     ensures key { IfOk result (λ copy. copy.key ≡ Plain) }
+    ensures purges { IfOk result (λ copy. copy.purges ≡ 0) }
     ensures err { IfErr result (IsImageWritingRefusal T.codec T.content sketch.now.counters) }
 {
     let image = sketch.serialize()?;

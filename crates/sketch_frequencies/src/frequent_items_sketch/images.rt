@@ -169,6 +169,7 @@ impl<T: FrequentItemValue + Drop> FrequentItemsSketch<T> {
         ensures state { IfOk result (λ sketch. IsState T.eq sketch) }
         ensures sample { IfOk result (λ sketch. sketch.sample_size ≡ max_sample_size sketch.max_size) }
         ensures key { IfOk result (λ sketch. sketch.key ≡ Plain) }
+        ensures purges { IfOk result (λ sketch. sketch.purges ≡ 0) }
         ensures stands { IfOk result (λ sketch. Restores T.codec T.content T.eq image.now sketch) }
         ensures budget { IfOk result (λ sketch. RestoresBudget T.codec T.content T.eq image.now sketch) }
         ensures err { IfErr result (IsImageRefusal (early_fault image.now) (first_fault T.codec image.now)) }
@@ -221,6 +222,7 @@ impl<T: FrequentItemValue + Drop> FrequentItemsSketch<T> {
         ensures state { IfOk result (λ sketch. IsState T.eq sketch) }
         ensures sample { IfOk result (λ sketch. sketch.sample_size ≡ max_sample_size sketch.max_size) }
         ensures key { IfOk result (λ sketch. sketch.key ≡ options.key) }
+        ensures purges { IfOk result (λ sketch. sketch.purges ≡ 0) }
         ensures stands { IfOk result (λ sketch. Restores T.codec T.content T.eq image.now sketch) }
         ensures budget { IfOk result (λ sketch. RestoresBudget T.codec T.content T.eq image.now sketch) }
         ensures within { IfOk result (λ sketch.
@@ -251,6 +253,7 @@ impl<T: FrequentItemValue + Drop> FrequentItemsSketch<T> {
         ensures state { IfOk result (λ r. IsState T.eq r.0) }
         ensures sample { IfOk result (λ r. r.0.sample_size ≡ max_sample_size r.0.max_size) }
         ensures key { IfOk result (λ r. r.0.key ≡ options.key) }
+        ensures purges { IfOk result (λ r. r.0.purges ≡ 0) }
         ensures stands { IfOk result (λ r. Restores T.codec T.content T.eq image.now r.0) }
         ensures budget { IfOk result (λ r. RestoresBudget T.codec T.content T.eq image.now r.0) }
         ensures used { IfOk result (λ r. r.1 ≡ prefix_bytes T.codec image.now) }

@@ -16,6 +16,7 @@ loop-i-init g c =
       so_far = rw c.in_ok-map.ensures.ok (at_start g.T.FrequentItemValue.codec g.T.FrequentItemValue.content g.T.PartialEq.eq g.met.T.Eq.laws g.met.T.FrequentItemValue.lawful.equivalence g.met.T.FrequentItemValue.alike c.args.image.now c.advance.new.self rest);
       size = rw c.in_ok-map.ensures.ok refl;
       key = rw c.in_ok-map.ensures.ok refl;
+      purges = rw c.in_ok-map.ensures.ok refl;
       read = none_read g.T.FrequentItemValue.codec (drop (32 + 8 * c.args.active) c.args.image.now) c.args.active c.advance.new.self (c.advance.ensures ∙ ap (drop (32 + 8 * c.args.active)) c.new-slice.ensures);
       owned = rw c.in_ok-map.ensures.ok (owns_at_start g.T.FrequentItemValue.codec g.T.FrequentItemValue.content (32 + 8 * c.args.active) c.args.image.now _ (c.advance.ensures ∙ ap (drop (32 + 8 * c.args.active)) c.new-slice.ensures));
     }
@@ -55,6 +56,7 @@ loop-i-preserved g c =
         so_far = rw (w.map-is, r.left) (one_more g.T.FrequentItemValue.codec g.T.FrequentItemValue.content g.T.PartialEq.eq g.met.T.Eq.laws g.met.T.FrequentItemValue.lawful.equivalence g.met.T.FrequentItemValue.alike image c.loop-i.slice k r.used weight c.in_ok-item.item c.loop-i.map.entries w.adjust_or_put_value.new.self.entries lt r.read c.weight_at-weight.ensures (omega (arith, w.if-weight-ne0.true)) c.loop-i.invariant.so_far w.adjust_or_put_value.ensures.entries w.adjust_or_put_value.ensures.distinct);
         size = ap (λ t. t.size) w.map-is ∙ w.adjust_or_put_value.ensures.size ∙ c.loop-i.invariant.size;
         key = ap (λ t. t.key) w.map-is ∙ w.adjust_or_put_value.ensures.key ∙ c.loop-i.invariant.key;
+        purges = ap (λ t. t.purges) w.map-is ∙ w.adjust_or_put_value.ensures.purges ∙ c.loop-i.invariant.purges;
         read = rw r.left (one_read g.T.FrequentItemValue.codec (drop (32 + 8 * c.args.active) image) c.args.active k r.used c.loop-i.slice c.loop-i-test.true r.within (ap used_by r.read) c.loop-i.invariant.read);
         owned = rw (w.map-is, r.left) (owns_more g.T.FrequentItemValue.codec g.T.FrequentItemValue.content g.T.PartialEq.eq room r.used weight c.loop-i.slice c.in_ok-item.item c.loop-i.map.entries w.adjust_or_put_value.new.self.entries r.within bound w.adjust_or_put_value.ensures.entries c.loop-i.invariant.owned);
       }
@@ -62,6 +64,7 @@ loop-i-preserved g c =
         so_far = rw (w.map-is, r.left) (one_dropped g.T.FrequentItemValue.codec g.T.FrequentItemValue.content g.T.PartialEq.eq g.met.T.Eq.laws g.met.T.FrequentItemValue.lawful.equivalence g.met.T.FrequentItemValue.alike image c.loop-i.slice k r.used weight c.in_ok-item.item c.loop-i.map.entries lt r.read c.weight_at-weight.ensures w.if-weight-ne0.false c.loop-i.invariant.so_far);
         size = ap (λ t. t.size) w.map-is ∙ c.loop-i.invariant.size;
         key = ap (λ t. t.key) w.map-is ∙ c.loop-i.invariant.key;
+        purges = ap (λ t. t.purges) w.map-is ∙ c.loop-i.invariant.purges;
         read = rw r.left (one_read g.T.FrequentItemValue.codec (drop (32 + 8 * c.args.active) image) c.args.active k r.used c.loop-i.slice c.loop-i-test.true r.within (ap used_by r.read) c.loop-i.invariant.read);
         owned = rw (w.map-is, r.left) (owns_dropped g.T.FrequentItemValue.codec g.T.FrequentItemValue.content room r.used c.loop-i.slice c.loop-i.map.entries r.within c.loop-i.invariant.owned);
       }

@@ -23,7 +23,7 @@ returns-clause-adds g c =
     let room : capacity old.size < length (put eq old.counters c.args.item c.args.count) → old.size ≡ old.max_size =
     subst (λ (s : FrequentState g.row.T.Denot). capacity s.size < length (put eq s.counters c.args.item c.args.count) → s.size ≡ s.max_size) (sym c.self.view_is) c.requires.room in
     subst (λ s. Adds eq s c.args.item c.args.count new) c.self.view_is
-    (adds_excess eq old c.args.item c.args.count t u c.purge_excess.result e.entries e.size e.key room c.self.invariant c.purge_excess.ensures)
+    (adds_excess eq old c.args.item c.args.count t u c.purge_excess.result e.entries e.size e.key e.purges room c.self.invariant c.purge_excess.ensures)
 
 pub invariant_of-self : goal.invariant_of-self
 invariant_of-self g c =
@@ -39,6 +39,6 @@ overflow_add-self-2 g c =
     let e = c.adjust_or_put_value.ensures in
     let room : capacity old.size < length (put eq old.counters c.args.item c.args.count) → old.size ≡ old.max_size =
     subst (λ (s : FrequentState g.row.T.Denot). capacity s.size < length (put eq s.counters c.args.item c.args.count) → s.size ≡ s.max_size) (sym c.self.view_is) c.requires.room in
-    let adds = adds_excess eq old c.args.item c.args.count c.adjust_or_put_value.new.self c.purge_excess.new.map c.purge_excess.result e.entries e.size e.key room c.self.invariant c.purge_excess.ensures in
+    let adds = adds_excess eq old c.args.item c.args.count c.adjust_or_put_value.new.self c.purge_excess.new.map c.purge_excess.result e.entries e.size e.key e.purges room c.self.invariant c.purge_excess.ensures in
     let after = state_after g.met.T.Eq.laws old _ c.args.item c.args.count c.requires.positive c.self.invariant adds in
     omega (arith, after.sum, c.requires.fits, ap (λ s. s.total) c.self.view_is)

@@ -24,7 +24,7 @@ returns-clause-step g c =
     let new : FrequentState g.row.T.Denot = state_of u (old.error + c.purge_excess.result) (old.total + c.args.count) old.max_size old.sample_size in
     let at : old.size ≡ old.max_size = subst (λ (s : FrequentState g.row.T.Denot). s.size ≡ s.max_size) (sym c.self.view_is) c.requires.greatest in
     let adds : Adds eq old puts.item c.args.count new =
-    adds_excess eq old puts.item c.args.count t u c.purge_excess.result puts.entries e.size e.key (λ _. at) c.self.invariant c.purge_excess.ensures in
+    adds_excess eq old puts.item c.args.count t u c.purge_excess.result puts.entries e.size e.key e.purges (λ _. at) c.self.invariant c.purge_excess.ensures in
     record {
       item = puts.item;
       named = puts.named;
@@ -41,7 +41,7 @@ invariant_of-self-2 g c =
     let u = c.purge_excess.new.map in
     let at : old.size ≡ old.max_size = subst (λ (s : FrequentState g.row.T.Denot). s.size ≡ s.max_size) (sym c.self.view_is) c.requires.greatest in
     state_after g.met.T.Eq.laws old _ puts.item c.args.count c.requires.positive c.self.invariant
-    (adds_excess eq old puts.item c.args.count t u c.purge_excess.result puts.entries e.size e.key (λ _. at) c.self.invariant c.purge_excess.ensures)
+    (adds_excess eq old puts.item c.args.count t u c.purge_excess.result puts.entries e.size e.key e.purges (λ _. at) c.self.invariant c.purge_excess.ensures)
 
 pub returns-clause-state : goal.returns-clause-state
 returns-clause-state g c = invariant_of-self-2 g c
@@ -52,6 +52,6 @@ overflow_add-self-2 g c =
     let e = c.adjust_or_put_by_key.ensures in
     let puts = c.in_ok-adjust_or_put_by_key.ensures.entries in
     let at : old.size ≡ old.max_size = subst (λ (s : FrequentState g.row.T.Denot). s.size ≡ s.max_size) (sym c.self.view_is) c.requires.greatest in
-    let adds = adds_excess g.T.PartialEq.eq old puts.item c.args.count c.adjust_or_put_by_key.new.self c.purge_excess.new.map c.purge_excess.result puts.entries e.size e.key (λ _. at) c.self.invariant c.purge_excess.ensures in
+    let adds = adds_excess g.T.PartialEq.eq old puts.item c.args.count c.adjust_or_put_by_key.new.self c.purge_excess.new.map c.purge_excess.result puts.entries e.size e.key e.purges (λ _. at) c.self.invariant c.purge_excess.ensures in
     let after = state_after g.met.T.Eq.laws old _ puts.item c.args.count c.requires.positive c.self.invariant adds in
     omega (arith, after.sum, c.requires.fits, ap (λ s. s.total) c.self.view_is)

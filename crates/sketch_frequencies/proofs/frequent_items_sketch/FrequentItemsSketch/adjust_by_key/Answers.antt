@@ -33,7 +33,7 @@ returns-clause-present g c = λ _ x is.
     let new : FrequentState g.row.T.Denot = state_of t old.error (old.total + c.args.count) old.max_size old.sample_size in
     let there = tracked_by_key (g.K.ItemKey.names c.args.key) (g.met.K.ItemKey.respects_eq c.args.key) old.counters x is ∙ (sym c.adjust_by_key.ensures.tracked ∙ c.if-not-adjust_by_key.false) in
     subst (λ s. Steps eq s x c.args.count new) c.self.view_is
-    (step_tracked eq old new x c.args.count c.self.invariant there (adds_tracked eq old x c.args.count t c.self.invariant there (c.adjust_by_key.ensures.present c.if-not-adjust_by_key.false x is) c.adjust_by_key.ensures.size c.adjust_by_key.ensures.key))
+    (step_tracked eq old new x c.args.count c.self.invariant there (adds_tracked eq old x c.args.count t c.self.invariant there (c.adjust_by_key.ensures.present c.if-not-adjust_by_key.false x is) c.adjust_by_key.ensures.size c.adjust_by_key.ensures.key c.adjust_by_key.ensures.purges))
 
 pub invariant_of-self-2 : goal.invariant_of-self-2
 invariant_of-self-2 g c =
@@ -41,7 +41,7 @@ invariant_of-self-2 g c =
     let named = sym c.adjust_by_key.ensures.tracked ∙ c.if-not-adjust_by_key.false in
     let x = item_by_key (g.K.ItemKey.names c.args.key) old.counters named in
     let there = tracked_by_key (g.K.ItemKey.names c.args.key) (g.met.K.ItemKey.respects_eq c.args.key) old.counters x.0 x.1 ∙ named in
-    state_after g.met.T.Eq.laws old _ x.0 c.args.count c.requires.positive c.self.invariant (adds_tracked g.T.PartialEq.eq old x.0 c.args.count c.adjust_by_key.new.self c.self.invariant there (c.adjust_by_key.ensures.present c.if-not-adjust_by_key.false x.0 x.1) c.adjust_by_key.ensures.size c.adjust_by_key.ensures.key)
+    state_after g.met.T.Eq.laws old _ x.0 c.args.count c.requires.positive c.self.invariant (adds_tracked g.T.PartialEq.eq old x.0 c.args.count c.adjust_by_key.new.self c.self.invariant there (c.adjust_by_key.ensures.present c.if-not-adjust_by_key.false x.0 x.1) c.adjust_by_key.ensures.size c.adjust_by_key.ensures.key c.adjust_by_key.ensures.purges)
 
 pub returns-clause-state : goal.returns-clause-state
 returns-clause-state g c = invariant_of-self-2 g c

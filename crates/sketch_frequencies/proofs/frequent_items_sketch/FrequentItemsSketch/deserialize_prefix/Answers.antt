@@ -89,43 +89,43 @@ returns-clause-budget g c = λ old was h stands keeps. restores_budget g.T.Frequ
 pub returns-in_err-header : goal.returns-in_err-header
 returns-in_err-header g c =
     let p = err_from_is_err_and c.from_residual.result c.from_residual.ensures.1 in
-    rw (p.1, p.2) (record { image = tt; state = tt; sample = tt; key = tt; stands = tt; budget = tt; used = tt; front = tt; there = tt; within = tt; accepted = λ ok. absurd cc; err = early_refused _ c.args.options.max_bytes g.T.FrequentItemValue.codec c.args.image.now _ (c.in_err-header.ensures.err.0, first_of _ _ c.in_err-header.ensures.err.1) })
+    rw (p.1, p.2) (record { image = tt; state = tt; sample = tt; key = tt; purges = tt; stands = tt; budget = tt; used = tt; front = tt; there = tt; within = tt; accepted = λ ok. absurd cc; err = early_refused _ c.args.options.max_bytes g.T.FrequentItemValue.codec c.args.image.now _ (c.in_err-header.ensures.err.0, first_of _ _ c.in_err-header.ensures.err.1) })
 
 pub returns-in_err-check_limit : goal.returns-in_err-check_limit
 returns-in_err-check_limit g c =
     let p = err_from_is_err_and c.from_residual-in_err-check_limit.result c.from_residual-in_err-check_limit.ensures.1 in
     let empty = sym c.in_ok-header.ensures.fields.is_empty ∙ c.if-header.true in
-    rw (p.1, p.2) (record { image = tt; state = tt; sample = tt; key = tt; stands = tt; budget = tt; used = tt; front = tt; there = tt; within = tt; accepted = λ ok. absurd cc; err = limit_refused _ c.args.options.max_bytes g.T.FrequentItemValue.codec c.args.image.now _ (none_of_empty c.args.image.now c.in_ok-header.ensures.checks empty) (size_of_empty c.args.image.now empty) (room_of_empty g.T.FrequentItemValue.codec c.args.image.now _ empty) c.in_err-check_limit.ensures.err })
+    rw (p.1, p.2) (record { image = tt; state = tt; sample = tt; key = tt; purges = tt; stands = tt; budget = tt; used = tt; front = tt; there = tt; within = tt; accepted = λ ok. absurd cc; err = limit_refused _ c.args.options.max_bytes g.T.FrequentItemValue.codec c.args.image.now _ (none_of_empty c.args.image.now c.in_ok-header.ensures.checks empty) (size_of_empty c.args.image.now empty) (room_of_empty g.T.FrequentItemValue.codec c.args.image.now _ empty) c.in_err-check_limit.ensures.err })
 
 pub returns-in_err-map : goal.returns-in_err-map
 returns-in_err-map g c =
     let p = err_from_is_err_and c.from_residual-in_err-map.result c.from_residual-in_err-map.ensures.1 in
     let empty = sym c.in_ok-header.ensures.fields.is_empty ∙ c.if-header.true in
-    rw (p.1, p.2) (record { image = tt; state = tt; sample = tt; key = tt; stands = tt; budget = tt; used = tt; front = tt; there = tt; within = tt; accepted = λ ok. absurd cc; err = memory_refused _ c.args.options.max_bytes g.T.FrequentItemValue.codec c.args.image.now _ (none_of_empty c.args.image.now c.in_ok-header.ensures.checks empty) (is_within _ c.args.options.max_bytes g.T.FrequentItemValue.codec c.args.image.now (size_of_empty c.args.image.now empty) (room_of_empty g.T.FrequentItemValue.codec c.args.image.now _ empty) c.in_ok-check_limit.ensures.within) c.in_err-map.ensures.err })
+    rw (p.1, p.2) (record { image = tt; state = tt; sample = tt; key = tt; purges = tt; stands = tt; budget = tt; used = tt; front = tt; there = tt; within = tt; accepted = λ ok. absurd cc; err = memory_refused _ c.args.options.max_bytes g.T.FrequentItemValue.codec c.args.image.now _ (none_of_empty c.args.image.now c.in_ok-header.ensures.checks empty) (is_within _ c.args.options.max_bytes g.T.FrequentItemValue.codec c.args.image.now (size_of_empty c.args.image.now empty) (room_of_empty g.T.FrequentItemValue.codec c.args.image.now _ empty) c.in_ok-check_limit.ensures.within) c.in_err-map.ensures.err })
 
 pub returns-in_err-numbers : goal.returns-in_err-numbers
 returns-in_err-numbers g c =
     let p = err_from_is_err_and c.from_residual-in_err-numbers.result c.from_residual-in_err-numbers.ensures.1 in
     let full = sym c.in_ok-header.ensures.fields.is_empty ∙ c.if-header.false in
-    rw (p.1, p.2) (record { image = tt; state = tt; sample = tt; key = tt; stands = tt; budget = tt; used = tt; front = tt; there = tt; within = tt; accepted = λ ok. absurd cc; err = early_refused _ c.args.options.max_bytes g.T.FrequentItemValue.codec c.args.image.now _ (c.in_err-numbers.ensures.err.0, counts_of_full c.args.image.now c.in_ok-header.ensures.checks full c.in_err-numbers.ensures.err.1) })
+    rw (p.1, p.2) (record { image = tt; state = tt; sample = tt; key = tt; purges = tt; stands = tt; budget = tt; used = tt; front = tt; there = tt; within = tt; accepted = λ ok. absurd cc; err = early_refused _ c.args.options.max_bytes g.T.FrequentItemValue.codec c.args.image.now _ (c.in_err-numbers.ensures.err.0, counts_of_full c.args.image.now c.in_ok-header.ensures.checks full c.in_err-numbers.ensures.err.1) })
 
 pub returns-in_err-check_limit-2 : goal.returns-in_err-check_limit-2
 returns-in_err-check_limit-2 g c =
     let p = err_from_is_err_and c.from_residual-in_err-check_limit-2.result c.from_residual-in_err-check_limit-2.ensures.1 in
     let full = sym c.in_ok-header.ensures.fields.is_empty ∙ c.if-header.false in
-    rw (p.1, p.2) (record { image = tt; state = tt; sample = tt; key = tt; stands = tt; budget = tt; used = tt; front = tt; there = tt; within = tt; accepted = λ ok. absurd cc; err = limit_refused _ c.args.options.max_bytes g.T.FrequentItemValue.codec c.args.image.now _ (counts_of_full c.args.image.now c.in_ok-header.ensures.checks full c.in_ok-numbers.ensures.checks) (size_of_full c.args.image.now full (c.table_size-size.ensures.value ∙ ap (λ (k : ℕ). 2 ^ k) c.in_ok-header.ensures.fields.lg_cur)) (room_of_full g.T.FrequentItemValue.codec c.args.image.now _ full c.in_ok-numbers.ensures.fields.active (take_rest c.args.image.now _)) c.in_err-check_limit-2.ensures.err })
+    rw (p.1, p.2) (record { image = tt; state = tt; sample = tt; key = tt; purges = tt; stands = tt; budget = tt; used = tt; front = tt; there = tt; within = tt; accepted = λ ok. absurd cc; err = limit_refused _ c.args.options.max_bytes g.T.FrequentItemValue.codec c.args.image.now _ (counts_of_full c.args.image.now c.in_ok-header.ensures.checks full c.in_ok-numbers.ensures.checks) (size_of_full c.args.image.now full (c.table_size-size.ensures.value ∙ ap (λ (k : ℕ). 2 ^ k) c.in_ok-header.ensures.fields.lg_cur)) (room_of_full g.T.FrequentItemValue.codec c.args.image.now _ full c.in_ok-numbers.ensures.fields.active (take_rest c.args.image.now _)) c.in_err-check_limit-2.ensures.err })
 
 pub returns-in_err-check_weights : goal.returns-in_err-check_weights
 returns-in_err-check_weights g c =
     let p = err_from_is_err_and c.from_residual-in_err-check_weights.result c.from_residual-in_err-check_weights.ensures.1 in
     let full = sym c.in_ok-header.ensures.fields.is_empty ∙ c.if-header.false in
-    rw (p.1, p.2) (record { image = tt; state = tt; sample = tt; key = tt; stands = tt; budget = tt; used = tt; front = tt; there = tt; within = tt; accepted = λ ok. absurd cc; err = weights_refused _ c.args.options.max_bytes g.T.FrequentItemValue.codec c.args.image.now _ (counts_of_full c.args.image.now c.in_ok-header.ensures.checks full c.in_ok-numbers.ensures.checks) (is_within _ c.args.options.max_bytes g.T.FrequentItemValue.codec c.args.image.now (size_of_full c.args.image.now full (c.table_size-size.ensures.value ∙ ap (λ (k : ℕ). 2 ^ k) c.in_ok-header.ensures.fields.lg_cur)) (room_of_full g.T.FrequentItemValue.codec c.args.image.now _ full c.in_ok-numbers.ensures.fields.active (take_rest c.args.image.now _)) c.in_ok-check_limit-2.ensures.within) full c.in_err-check_weights.ensures.err })
+    rw (p.1, p.2) (record { image = tt; state = tt; sample = tt; key = tt; purges = tt; stands = tt; budget = tt; used = tt; front = tt; there = tt; within = tt; accepted = λ ok. absurd cc; err = weights_refused _ c.args.options.max_bytes g.T.FrequentItemValue.codec c.args.image.now _ (counts_of_full c.args.image.now c.in_ok-header.ensures.checks full c.in_ok-numbers.ensures.checks) (is_within _ c.args.options.max_bytes g.T.FrequentItemValue.codec c.args.image.now (size_of_full c.args.image.now full (c.table_size-size.ensures.value ∙ ap (λ (k : ℕ). 2 ^ k) c.in_ok-header.ensures.fields.lg_cur)) (room_of_full g.T.FrequentItemValue.codec c.args.image.now _ full c.in_ok-numbers.ensures.fields.active (take_rest c.args.image.now _)) c.in_ok-check_limit-2.ensures.within) full c.in_err-check_weights.ensures.err })
 
 pub returns-in_err-map-2 : goal.returns-in_err-map-2
 returns-in_err-map-2 g c =
     let p = err_from_is_err_and c.from_residual-in_err-map-2.result c.from_residual-in_err-map-2.ensures.1 in
     let full = sym c.in_ok-header.ensures.fields.is_empty ∙ c.if-header.false in
-    rw (p.1, p.2) (record { image = tt; state = tt; sample = tt; key = tt; stands = tt; budget = tt; used = tt; front = tt; there = tt; within = tt; accepted = λ ok. absurd cc; err = items_refused _ c.args.options.max_bytes g.T.FrequentItemValue.codec c.args.image.now _ (counts_of_full c.args.image.now c.in_ok-header.ensures.checks full c.in_ok-numbers.ensures.checks) (is_within _ c.args.options.max_bytes g.T.FrequentItemValue.codec c.args.image.now (size_of_full c.args.image.now full (c.table_size-size.ensures.value ∙ ap (λ (k : ℕ). 2 ^ k) c.in_ok-header.ensures.fields.lg_cur)) (room_of_full g.T.FrequentItemValue.codec c.args.image.now _ full c.in_ok-numbers.ensures.fields.active (take_rest c.args.image.now _)) c.in_ok-check_limit-2.ensures.within) full c.in_ok-check_weights.ensures.checks c.in_err-map-2.ensures.err })
+    rw (p.1, p.2) (record { image = tt; state = tt; sample = tt; key = tt; purges = tt; stands = tt; budget = tt; used = tt; front = tt; there = tt; within = tt; accepted = λ ok. absurd cc; err = items_refused _ c.args.options.max_bytes g.T.FrequentItemValue.codec c.args.image.now _ (counts_of_full c.args.image.now c.in_ok-header.ensures.checks full c.in_ok-numbers.ensures.checks) (is_within _ c.args.options.max_bytes g.T.FrequentItemValue.codec c.args.image.now (size_of_full c.args.image.now full (c.table_size-size.ensures.value ∙ ap (λ (k : ℕ). 2 ^ k) c.in_ok-header.ensures.fields.lg_cur)) (room_of_full g.T.FrequentItemValue.codec c.args.image.now _ full c.in_ok-numbers.ensures.fields.active (take_rest c.args.image.now _)) c.in_ok-check_limit-2.ensures.within) full c.in_ok-check_weights.ensures.checks c.in_err-map-2.ensures.err })
 
 pub returns-then-header-clause-sample : goal.returns-then-header-clause-sample
 returns-then-header-clause-sample g c = c.max_sample_of-sample_size.ensures
@@ -139,6 +139,13 @@ returns-then-header-clause-key g c = ap (λ t. t.key) c.in_ok-map.ensures.ok
 
 pub returns-clause-key : goal.returns-clause-key
 returns-clause-key g c = c.in_ok-map-2.ensures.key
+
+-- it has made no purge
+pub returns-then-header-clause-purges : goal.returns-then-header-clause-purges
+returns-then-header-clause-purges g c = ap (λ t. t.purges) c.in_ok-map.ensures.ok
+
+pub returns-clause-purges : goal.returns-clause-purges
+returns-clause-purges g c = c.in_ok-map-2.ensures.purges
 
 pub returns-then-header-clause-accepted : goal.returns-then-header-clause-accepted
 returns-then-header-clause-accepted g c = λ _.

@@ -41,6 +41,7 @@ returns-clause-ok g c =
       max_size = refl;
       sample_size = refl;
       key = c.resize.ensures.key;
+      purges = c.resize.ensures.purges;
       doubled = λ _. c.in_ok-resize.ensures.ok ∙ ap (λ n. 2 * n) c.len-size.ensures.size;
       stays = λ not_due. absurd (false≢true (sym not_due ∙ due));
     } in

@@ -20,7 +20,7 @@ invariant_of-self g c =
     let put_in = c.adjust_or_put_value.ensures in
     let room = subst (λ (s : FrequentState g.row.T.Denot). length s.counters < capacity s.size) (sym c.self.view_is) c.requires.room in
     state_after g.met.T.Eq.laws old _ c.args.item c.args.count c.requires.positive c.self.invariant
-    (adds_kept eq old c.args.item c.args.count t put_in.entries put_in.size put_in.key (omega (arith, length_permutation (put eq old.counters c.args.item c.args.count) t.entries put_in.entries, length_put eq old.counters c.args.item c.args.count, room, put_in.size)))
+    (adds_kept eq old c.args.item c.args.count t put_in.entries put_in.size put_in.key put_in.purges (omega (arith, length_permutation (put eq old.counters c.args.item c.args.count) t.entries put_in.entries, length_put eq old.counters c.args.item c.args.count, room, put_in.size)))
 
 pub returns-clause-step : goal.returns-clause-step
 returns-clause-step g c =
@@ -30,7 +30,7 @@ returns-clause-step g c =
     let put_in = c.adjust_or_put_value.ensures in
     let new : FrequentState g.row.T.Denot = state_of t old.error (old.total + c.args.count) old.max_size old.sample_size in
     let room = subst (λ (s : FrequentState g.row.T.Denot). length s.counters < capacity s.size) (sym c.self.view_is) c.requires.room in
-    let adds : Adds eq old c.args.item c.args.count new = adds_kept eq old c.args.item c.args.count t put_in.entries put_in.size put_in.key (omega (arith, length_permutation (put eq old.counters c.args.item c.args.count) t.entries put_in.entries, length_put eq old.counters c.args.item c.args.count, room, put_in.size)) in
+    let adds : Adds eq old c.args.item c.args.count new = adds_kept eq old c.args.item c.args.count t put_in.entries put_in.size put_in.key put_in.purges (omega (arith, length_permutation (put eq old.counters c.args.item c.args.count) t.entries put_in.entries, length_put eq old.counters c.args.item c.args.count, room, put_in.size)) in
     subst (λ s. Steps eq s c.args.item c.args.count new) c.self.view_is
     (step_with_room eq old new c.args.item c.args.count room adds)
 

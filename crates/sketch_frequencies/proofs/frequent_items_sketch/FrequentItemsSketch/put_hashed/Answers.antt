@@ -21,7 +21,7 @@ invariant_of-self-2 g c =
     let size = c.adjust_or_put_hashed.ensures.size in
     let room = subst (λ (s : FrequentState g.row.T.Denot). length s.counters < capacity s.size) (sym c.self.view_is) c.requires.room in
     state_after g.met.T.Eq.laws old _ puts.item 1 (omega arith) c.self.invariant
-    (adds_kept eq old puts.item 1 t puts.entries size c.adjust_or_put_hashed.ensures.key (omega (arith, length_permutation (put eq old.counters puts.item 1) t.entries puts.entries, length_put eq old.counters puts.item 1, room, size)))
+    (adds_kept eq old puts.item 1 t puts.entries size c.adjust_or_put_hashed.ensures.key c.adjust_or_put_hashed.ensures.purges (omega (arith, length_permutation (put eq old.counters puts.item 1) t.entries puts.entries, length_put eq old.counters puts.item 1, room, size)))
 
 pub returns-clause-step : goal.returns-clause-step
 returns-clause-step g c =
@@ -32,7 +32,7 @@ returns-clause-step g c =
     let size = c.adjust_or_put_hashed.ensures.size in
     let new : FrequentState g.row.T.Denot = state_of t old.error (old.total + 1) old.max_size old.sample_size in
     let room = subst (λ (s : FrequentState g.row.T.Denot). length s.counters < capacity s.size) (sym c.self.view_is) c.requires.room in
-    let adds : Adds eq old puts.item 1 new = adds_kept eq old puts.item 1 t puts.entries size c.adjust_or_put_hashed.ensures.key (omega (arith, length_permutation (put eq old.counters puts.item 1) t.entries puts.entries, length_put eq old.counters puts.item 1, room, size)) in
+    let adds : Adds eq old puts.item 1 new = adds_kept eq old puts.item 1 t puts.entries size c.adjust_or_put_hashed.ensures.key c.adjust_or_put_hashed.ensures.purges (omega (arith, length_permutation (put eq old.counters puts.item 1) t.entries puts.entries, length_put eq old.counters puts.item 1, room, size)) in
     record {
       item = puts.item;
       named = puts.named;
