@@ -3,7 +3,7 @@ use Rattle.std.specs.Prelude.{◌≡◌, ℕ, ◌+◌, ◌^◌, ◌<◌, ◌≤�
 use Rattle.sketch_base.specs.Errors.{invalid_argument, no_memory}
 use Rattle.sketch_base.specs.Hashes.{fed_bytes}
 use Rattle.sketch_base.specs.declared.fault.Fault.TheVariants.{WeightOverflow}
-use Rattle.sketch_frequencies.specs.State.{FrequentState, empty_state, must_double}
+use Rattle.sketch_frequencies.specs.State.{FrequentState, emptied, must_double}
 use Rattle.sketch_frequencies.specs.Steps.{Steps}
 use Rattle.sketch_countmin.specs.State.{CountState, Counts, halved_state, decayed_state}
 use Rattle.sketch_bloom.specs.State.{inserted, cleared}
@@ -44,7 +44,8 @@ module _ {T : Type 0} where
         → (reply ≡ Done) × (new ≡ decayed_state numerator denominator old)
 
 module _ {T : Type 0} (eq : T → T → Bool) (input : T → List (List ℕ)) where
-  -- the effect of a change on a sketch. A reset sketch is empty, and keeps its sizes, its seed and its key
+  -- the effect of a change on a sketch. A reset sketch is empty, and keeps its sizes, its seed, its key and its
+  -- number of purges
   abbrev pub Changes : Change T → Sketch T → Reply T → Sketch T → Type 0
   Changes (Add item weight) (Frequent s) reply new = Becomes Frequent (AddsFrequent eq item weight s) reply new
   Changes (Add item weight) (CountU64 s) reply new =
@@ -52,7 +53,7 @@ module _ {T : Type 0} (eq : T → T → Bool) (input : T → List (List ℕ)) wh
   Changes (AddSigned item weight) (CountI64 s) reply new =
       Becomes CountI64 (AddsCount max_signed (fed_bytes input item) weight s) reply new
   Changes (Insert item) (Bloom s) reply new = (reply ≡ Done) × (new ≡ Bloom (inserted s (fed_bytes input item)))
-  Changes Reset (Frequent s) reply new = (reply ≡ Done) × (new ≡ Frequent (empty_state s.max_size s.sample_size s.key))
+  Changes Reset (Frequent s) reply new = (reply ≡ Done) × (new ≡ Frequent (emptied s))
   Changes Reset (Bloom s) reply new = (reply ≡ Done) × (new ≡ Bloom (cleared s))
   Changes Halve (CountU64 s) reply new = (reply ≡ Done) × (new ≡ CountU64 (halved_state s))
   Changes (Decay numerator denominator) (CountU64 s) reply new = Becomes CountU64 (DecaysCount numerator denominator s) reply new

@@ -8,7 +8,7 @@ use Rattle.sketch_frequencies.specs.History.{FrequentHistory}
 use Rattle.sketch_frequencies.specs.History.FrequentHistory.{New, Update, Merge, Reset}
 use Rattle.sketch_frequencies.specs.Sizes.{sample_fault}
 use Rattle.sketch_frequencies.specs.Stands.{Extends, ExtendsBudget, ExtendsBoth, ExtendsBothBudgets, KeepsTailBudget, StandsFor, IsLowerBound, IsUpperBound, IsExactOfFew}
-use Rattle.sketch_frequencies.specs.State.{FrequentState, Overflows, TotalHasRoom, empty_state, estimate_of, must_double, must_grow}
+use Rattle.sketch_frequencies.specs.State.{FrequentState, Overflows, TotalHasRoom, emptied, estimate_of, must_double, must_grow}
 use Rattle.sketch_frequencies.specs.Steps.{Steps, JoinsEqual}
 use Rattle.sketch_frequencies.specs.WeightedBatches.{weighed}
 use Rattle.datasketches_c.specs.Numbers.{OnDone, OnRefused, ok, refusal_number}
@@ -97,10 +97,10 @@ module _ {T : Type 0} (eq : T → T → Bool) where
     pub refused : OnRefused result (new ≡ old)
     pub number : OnRefused result (result ≡ refusal_number BadSampleSize)
 
-  -- new is the empty sketch of old's sizes and key. It stands for the reset of each history of old, and keeps its tail budget. It stands
-  -- for the history of a new sketch, also if old was an untrusted image
+  -- new is the empty sketch of old's sizes and key, after as many purges. It stands for the reset of each history of old, and keeps its
+  -- tail budget. It stands for the history of a new sketch, also if old was an untrusted image
   pub record Empties (old new : FrequentState T) : Type 0 where
-    pub empty : new ≡ empty_state old.max_size old.sample_size old.key
+    pub empty : new ≡ emptied old
     pub stands : Extends eq old new Reset
     pub budget : (h : FrequentHistory T) → KeepsTailBudget eq new (Reset h)
     pub renewed : StandsFor eq new (New old.max_size old.sample_size)

@@ -41,7 +41,8 @@ module _ {T C : Type 0} (codec : Codec C) (content : T → C) where
   TellsNumbersLength s bytes result =
       TellsLength (λ image. IsSpelledFor codec content image s) bytes result ⊎ RejectsItem s result
 
--- the sketch was restored from the image under the key. It takes at most `max_bytes`, with the bytes that its items own
+-- the sketch was restored from the image under the key, and counts no purges. It takes at most `max_bytes`, with the bytes that its
+-- items own
 pub record IsRestored
     {T C : Type 0} (item : RattleType) (eq : T → T → Bool) (codec : Codec C) (content : T → C) (image : List ℕ) (max_bytes : ℕ)
     (key : TableKey) (s : FrequentState T)
@@ -49,6 +50,7 @@ pub record IsRestored
   pub of_image : IsImageOf codec content image s
   pub sample : s.sample_size ≡ max_sample_size s.max_size
   pub keyed : s.key ≡ key
+  pub purges : s.purges ≡ 0
   pub stands : Restores codec content eq image s
   pub budget : RestoresBudget codec content eq image s
   pub within : memory_bytes (table_bytes item s.size) (owned_by codec content s.counters) ≤ max_bytes
