@@ -1,5 +1,5 @@
 -- Items with weights that are added one after another, lines of keys that are written, and the table.
-use Rattle.std.proofs.Common.{◌≡◌, ◌≢◌, ⊎_elim, inl, inr, ◌⊎◌, ℕ, zero, suc, ◌*◌, ◌^◌, ◌<◌, ◌≤◌, true, false, eqb, List, [], ◌∷◌, ◌++◌, None, Some, pos, append_assoc, append-nil, refl, sym, ◌∙◌, ap, subst, arith}
+use Rattle.std.proofs.Common.{◌≡◌, ◌≢◌, ⊎_elim, inl, inr, ◌⊎◌, ℕ, zero, suc, ◌+◌, ◌*◌, ◌-◌, ◌^◌, ◌<◌, ◌≤◌, true, false, eqb, min, List, [], ◌∷◌, ◌++◌, None, Some, pos, append_assoc, append-nil, refl, sym, ◌∙◌, ap, subst, arith}
 use Rattle.std.proofs.lemmas.Bool.{cases_lt, eq-eqb}
 use Rattle.std.proofs.lemmas.Bool.Decides.{nat_tests}
 use Rattle.std.proofs.lemmas.List.Concat.{flat_map-append}
@@ -16,11 +16,14 @@ use Rattle.sketch_countmin.specs.History.CountHistory.{New}
 use Rattle.sketch_countmin.specs.Stands.{StandsFor}
 use Rattle.sketch_countmin.specs.State.{CountState, IsMinCell, empty_state}
 use Rattle.sketches.specs.Faults.{failure_of}
-use Rattle.sketches.specs.KeyWeightLaws.{all_lines, estimates_both, estimates_none, lines_later, lines_sooner, no_lines, one_fails, one_line}
+use Rattle.sketches.specs.KeyWeightLaws.{all_lines, estimates_both, estimates_none, lines_later, no_lines, one_fails, one_line}
 use Rattle.sketches.specs.KeyWeights.{CountsLines, CountsWeighed, IsEmptyTable, IsTableFor, Row, WritesEstimates, row_line, unweighed_line, usable_seed, weighed_line}
-use Rattle.sketch_text.specs.Records.{part_in}
+use Rattle.sketch_text.specs.Records.{part_in, splits_by}
+use Rattle.sketches.proofs.LineCounts.{IsNextCount, more_numbers, no_numbers}
+use Rattle.sketches.specs.LineNumbers.{lines_of}
 use Rattle.sketches.specs.Unseen.{hashed}
-use Rattle.sketches.specs.WeighFailures.{FailsCounting, FailsLines, FailsTable}
+use Rattle.sketches.specs.Utf8Lines.{GrowsBy}
+use Rattle.sketches.specs.WeighFailures.{FailsLines, FailsRecord, FailsTable}
 use Rattle.sketches.specs.declared.failure.Failure.{Failure}
 use Rattle.sketches.specs.declared.weighing.WeighedRecord.{WeighedRecord}
 use Rattle.sketches.specs.declared.layout.Style.{Style}
@@ -28,32 +31,37 @@ use Rattle.sketch_text.specs.declared.record_part.RecordPart.{RecordPart}
 
 -- ---- the items of records
 
--- the items of the records before those that are left were added
-pub record HasCountedLines (chosen : WeighedRecord) (old : CountState) (all left : List (List ℕ)) (new : CountState) : Type 0 where
+-- the items of the records before those that are left were added, and their lines were counted
+pub record HasCountedLines (chosen : WeighedRecord) (old : CountState) (n : ℕ) (all left : List (List ℕ)) (new : CountState) (m : ℕ) : Type 0 where
   pub done : List (List ℕ)
   pub parts : all ≡ done ++ left
   pub counts : CountsLines chosen old done new
+  pub numbers : GrowsBy n (lines_of (splits_by chosen.item) done) m
 
-pub lines_none : (chosen : WeighedRecord) (old : CountState) (all : List (List ℕ)) → HasCountedLines chosen old all all old
-lines_none chosen old all = record { done = []; parts = refl; counts = no_lines chosen old }
+pub lines_none : (chosen : WeighedRecord) (old : CountState) (n : ℕ) (all : List (List ℕ)) → HasCountedLines chosen old n all all old n
+lines_none chosen old n all = record { done = []; parts = refl; counts = no_lines chosen old; numbers = no_numbers chosen n }
 
 -- one more record
-pub lines_more : (chosen : WeighedRecord) (old mid new : CountState) (all left later : List (List ℕ)) (line : List ℕ) → HasCountedLines chosen old all left mid → left ≡ line ∷ later → CountsWeighed mid (weighed_line chosen line) new × (unweighed_line chosen line ≡ []) → HasCountedLines chosen old all later new
-lines_more chosen old mid new all left later line so next more = record {
+pub lines_more : (chosen : WeighedRecord) (old mid new : CountState) (n m k : ℕ) (all left later : List (List ℕ)) (line : List ℕ) → HasCountedLines chosen old n all left mid m → left ≡ line ∷ later → CountsWeighed mid (weighed_line chosen line) new × (unweighed_line chosen line ≡ []) → IsNextCount chosen m line k → HasCountedLines chosen old n all later new k
+lines_more chosen old mid new n m k all left later line so next more is = record {
   done = so.done ++ line ∷ [];
   parts = so.parts ∙ (ap (λ l. so.done ++ l) next ∙ sym (append_assoc so.done (line ∷ []) later));
   counts = all_lines chosen old mid new so.done (line ∷ []) so.counts (one_line chosen mid new line more);
+  numbers = more_numbers chosen n m k so.done line so.numbers is;
 }
 
 -- all records
-pub lines_all : (chosen : WeighedRecord) (old new : CountState) (all left : List (List ℕ)) → HasCountedLines chosen old all left new → left ≡ [] → CountsLines chosen old all new
-lines_all chosen old new all left so none = subst (λ l. CountsLines chosen old l new) (sym (so.parts ∙ (ap (λ l. so.done ++ l) none ∙ append-nil so.done))) so.counts
+pub lines_all : (chosen : WeighedRecord) (old new : CountState) (n m : ℕ) (all left : List (List ℕ)) → HasCountedLines chosen old n all left new m → left ≡ [] → CountsLines chosen old all new
+lines_all chosen old new n m all left so none = subst (λ l. CountsLines chosen old l new) (sym (so.parts ∙ (ap (λ l. so.done ++ l) none ∙ append-nil so.done))) so.counts
+
+pub all_numbered : (chosen : WeighedRecord) (old new : CountState) (n m : ℕ) (all left : List (List ℕ)) → HasCountedLines chosen old n all left new m → left ≡ [] → GrowsBy n (lines_of (splits_by chosen.item) all) m
+all_numbered chosen old new n m all left so none = subst (λ l. GrowsBy n (lines_of (splits_by chosen.item) l) m) (sym (so.parts ∙ (ap (λ l. so.done ++ l) none ∙ append-nil so.done))) so.numbers
 
 -- a failure at one more record
-pub lines_failed : (chosen : WeighedRecord) (old mid : CountState) (all left later : List (List ℕ)) (line : List ℕ) (e : Failure) → HasCountedLines chosen old all left mid → left ≡ line ∷ later → FailsCounting mid.total (weighed_line chosen line) (unweighed_line chosen line) e → FailsLines chosen old.total all e
-lines_failed chosen old mid all left later line e so next f =
-    subst (λ l. FailsLines chosen old.total l e) (sym (so.parts ∙ ap (λ l. so.done ++ l) next))
-    (lines_later chosen old.total mid.total so.done (line ∷ later) e so.counts.0.total (lines_sooner chosen mid.total (line ∷ []) later e (one_fails chosen mid.total line e f)))
+pub lines_failed : (chosen : WeighedRecord) (old mid : CountState) (n m number : ℕ) (all left later : List (List ℕ)) (line : List ℕ) (e : Failure) → HasCountedLines chosen old n all left mid m → left ≡ line ∷ later → number ≡ min (m + 1) (2 ^ 64 - 1) → FailsRecord chosen mid.total number line e → FailsLines chosen old.total n all e
+lines_failed chosen old mid n m number all left later line e so next is f =
+    subst (λ l. FailsLines chosen old.total n l e) (sym (so.parts ∙ ap (λ l. so.done ++ l) next))
+    (lines_later chosen old.total mid.total n m so.done (line ∷ later) e so.counts.0.total so.counts.1 so.numbers (one_fails chosen mid.total m number line later e is f))
 
 -- ---- the keys of records
 

@@ -7,7 +7,8 @@ use Rattle.std.specs.declared.io.Error.{Error}
 use Rattle.sketch_bloom.specs.State.{FilterState}
 use Rattle.sketch_frequencies.proofs.KeyedBatches.{all_zip_push}
 use Rattle.sketches.specs.Failures.{FailsWriting, FailsWrittenLines}
-use Rattle.sketches.specs.Inputs.{FailsAmong, FailsInputs, TakesEach, TakesFirst, TakesInputs}
+use Rattle.sketches.specs.Inputs.{FailsAmong, FailsBegun, FailsInputs, TakesBegun, TakesEach, TakesFirst, TakesInputs}
+use Rattle.sketches.proofs.Begun.{Unchanged, unchanged_failed, unchanged_taken}
 use Rattle.sketches.specs.Outputs.{WritesFront}
 use Rattle.sketches.specs.Reading.{AreFirstRecords}
 use Rattle.sketches.specs.Joined.{FindsKeys, WritesJoined, WritesSomeJoined, joined_lines, keys_of}
@@ -65,11 +66,11 @@ module _ {W : Type 0} (contents : W → Option (List ℕ)) where
 
   -- all records were joined with all keys
   pub joined : (header : List ℕ) (held : Option (List ℕ)) (empty : FilterState) (keys_part : RecordPart) (keys : Option (List ℕ)) (was : Option (List (List ℕ))) (fails : List Bool) (complete : Bool) (old new : JoinedLines × W)
-      → IfSome keys (λ bytes. old.0.filter ≡ with_items empty (keys_of keys_part bytes)) → Appends held (contents old.1) header → TakesInputs (splits_by old.0.part) Joins was fails complete old new
+      → IfSome keys (λ bytes. old.0.filter ≡ with_items empty (keys_of keys_part bytes)) → Appends held (contents old.1) header → TakesInputs (splits_by old.0.part) (TakesBegun Unchanged Joins) was fails complete old new
       → IfSome keys (λ bytes. IfSome was (λ inputs. WritesJoined old.0.written.form old.0.wanted old.0.part header empty new.0.filter (keys_of keys_part bytes) inputs fails held (contents new.1)))
   joined header held empty keys_part None was fails complete old new inserted begins taken = tt
   joined header held empty keys_part (Some bytes) None fails complete old new inserted begins taken = tt
-  joined header held empty keys_part (Some bytes) (Some inputs) fails complete old new inserted begins (is, (read, are, each)) = record {
+  joined header held empty keys_part (Some bytes) (Some inputs) fails complete old new inserted begins taken = let (is, (read, are, each)) = unchanged_taken Joins (splits_by old.0.part) (Some inputs) fails complete old new taken in record {
     read = read;
     are = are;
     written =
@@ -138,16 +139,16 @@ module _ {W : Type 0} (contents : W → Option (List ℕ)) where
       }
 
   pub some_joined : (write_error : W → Option Error) (limit : ℕ) (header : List ℕ) (held : Option (List ℕ)) (empty : FilterState) (keys_part : RecordPart) (keys : Option (List ℕ)) (was : Option (List (List ℕ))) (old new : JoinedLines × W) (e : Failure)
-      → IfSome keys (λ bytes. old.0.filter ≡ with_items empty (keys_of keys_part bytes)) → Appends held (contents old.1) header → FailsInputs (splits_by old.0.part) Joins (FailsJoining write_error) limit was old new e
+      → IfSome keys (λ bytes. old.0.filter ≡ with_items empty (keys_of keys_part bytes)) → Appends held (contents old.1) header → FailsInputs (splits_by old.0.part) (TakesBegun Unchanged Joins) (FailsJoining write_error) (FailsBegun Unchanged (FailsJoining write_error)) limit was old new e
       → IfSome keys (λ bytes. IfSome was (SomeJoined header held old new empty (keys_of keys_part bytes)))
   some_joined write_error limit header held empty keys_part None was old new e inserted begins failed = tt
   some_joined write_error limit header held empty keys_part (Some bytes) None old new e inserted begins failed = tt
   some_joined write_error limit header held empty keys_part (Some bytes) (Some inputs) old new e inserted begins failed = ⊎_elim
       (λ stops. stopped header held empty (keys_of keys_part bytes) old new inputs inserted begins stops.1)
       (λ taking. failed_among write_error header held empty (keys_of keys_part bytes) old new inputs e inserted begins taking.known)
-      failed
+      (unchanged_failed Joins (FailsJoining write_error) (splits_by old.0.part) limit (Some inputs) old new e failed)
 
-  pub joined_failed : (write_error : W → Option Error) (limit : ℕ) (was : Option (List (List ℕ))) (old new : JoinedLines × W) (e : Failure) → FailsInputs (splits_by old.0.part) Joins (FailsJoining write_error) limit was old new e → FailsWrittenLines old.0.part limit was (write_error new.1) e
+  pub joined_failed : (write_error : W → Option Error) (limit : ℕ) (was : Option (List (List ℕ))) (old new : JoinedLines × W) (e : Failure) → FailsInputs (splits_by old.0.part) (TakesBegun Unchanged Joins) (FailsJoining write_error) (FailsBegun Unchanged (FailsJoining write_error)) limit was old new e → FailsWrittenLines old.0.part limit was (write_error new.1) e
   joined_failed write_error limit was old new e failed = ⊎_elim
       (λ stops. lines_failed old.0.part limit was (write_error new.1) e stops.0)
       (λ taking. writing_failed old.0.part limit was (write_error new.1) e taking.some.2.0)

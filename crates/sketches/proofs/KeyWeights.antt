@@ -1,5 +1,5 @@
 -- The weights of keys that are printed, and why a run ended without.
-use Rattle.std.proofs.Common.{◌≡◌, ⊎_elim, inl, inr, ℕ, ◌+◌, ◌-◌, ◌^◌, ◌<◌, ◌≤◌, Bool, true, false, cond, List, [], ◌∷◌, ◌++◌, get_or, length, map, Option, None, Some, IfSome, pos, ◌+ℤ◌, append-nil, refl, sym, ◌∙◌, ap, subst, arith, length-append}
+use Rattle.std.proofs.Common.{◌≡◌, ⊎_elim, inl, inr, ℕ, ◌+◌, ◌-◌, ◌^◌, ◌<◌, ◌≤◌, Bool, true, false, cond, List, [], ◌∷◌, ◌++◌, get_or, map, Option, None, Some, IfSome, pos, ◌+ℤ◌, append-nil, refl, sym, ◌∙◌, ap, subst, arith}
 use Rattle.std.proofs.lemmas.Bool.{eq-eqb, false≢true}
 use Rattle.std.proofs.lemmas.Int.{ints}
 use Rattle.std.proofs.lemmas.List.Concat.{flat_map-append}
@@ -19,9 +19,10 @@ use Rattle.sketch_countmin.specs.State.{CountState, IsMinCell, item_cell}
 use Rattle.sketch_countmin.proofs.Estimates.{bucket_below}
 use Rattle.sketches.specs.AddingLaws.{records_both}
 use Rattle.sketches.specs.Failures.{FailsWriting}
-use Rattle.sketches.specs.Inputs.{AreRead, FailsAmong, FailsInputs, FailsTakingInputs, HaveLongRecord, TakesEach, TakesInputs}
+use Rattle.sketches.specs.Inputs.{AreRead, FailsAmong, FailsBegun, FailsInputs, FailsTakingInputs, HaveLongRecord, TakesBegun, TakesEach, TakesInputs}
+use Rattle.sketches.specs.LineNumbers.{HaveUnweighed, IsFirstUnweighed, lines_of}
 use Rattle.sketches.specs.KeyWeightLaws.{all_lines, no_lines, some_whole}
-use Rattle.sketches.specs.KeyWeights.{CountsLines, CountsWeighed, IsEmptyTable, IsWeightOf, Row, WritesEstimates, WritesSomeEstimates, WritesSomeWeights, WritesWeights, bucket_weight, counted, parts_in, total_line, unweighed_in, unweighed_line, unweighed_lines, usable_seed, weighed_in, weighed_line, weighed_lines}
+use Rattle.sketches.specs.KeyWeights.{CountsLines, CountsWeighed, IsEmptyTable, IsWeightOf, Row, WritesEstimates, WritesSomeEstimates, WritesSomeWeights, WritesWeights, bucket_weight, counted, parts_in, total_line, unweighed_in, unweighed_line, usable_seed, weighed_in, weighed_line, weighed_lines}
 use Rattle.sketches.specs.Reading.{AreFirstRecords, FailsInput, TakesInput}
 use Rattle.sketch_text.specs.Records.{records_by, splits_by}
 use Rattle.sketches.specs.Skipped.{skipped_rows}
@@ -142,14 +143,36 @@ are_weights made s seed items rows some new adds estimates =
 abbrev Weigher : Type 0
 Weigher = ItemWeigher × Unit {0}
 
--- what the sink does with bytes of records
+-- what the sink does with an input, and with bytes of its records
+abbrev pub Begins : ItemWeigher → ItemWeigher → Type 0
+Begins old new = new ≡ record { sketch = old.sketch; chosen = old.chosen; count = 0; unweighed = old.unweighed }
+
+abbrev pub WeighsWithin : Weigher → List ℕ → Weigher → Type 0
+WeighsWithin old bytes new =
+    (CountsLines old.0.chosen old.0.sketch (records_by old.0.chosen.item bytes) new.0.sketch × (new.0.chosen ≡ old.0.chosen))
+    × GrowsBy old.0.unweighed (skipped_rows old.0.chosen (records_by old.0.chosen.item bytes)) new.0.unweighed
+    × GrowsBy old.0.count (lines_of (splits_by old.0.chosen.item) (records_by old.0.chosen.item bytes)) new.0.count
+
+abbrev pub FailsWithin : Weigher → List ℕ → Weigher → Failure → Type 0
+FailsWithin old bytes new failure = FailsLines old.0.chosen old.0.sketch.total old.0.count (records_by old.0.chosen.item bytes) failure
+
 abbrev pub Weighs : Weigher → List ℕ → Weigher → Type 0
-Weighs old bytes new =
+Weighs old bytes new = TakesBegun Begins WeighsWithin old bytes new
+
+abbrev pub FailsWeighs : Weigher → List ℕ → Weigher → Failure → Type 0
+FailsWeighs old bytes new failure = FailsBegun Begins FailsWithin old bytes new failure
+
+-- without the number of its lines
+abbrev WeighsItems : Weigher → List ℕ → Weigher → Type 0
+WeighsItems old bytes new =
     (CountsLines old.0.chosen old.0.sketch (records_by old.0.chosen.item bytes) new.0.sketch × (new.0.chosen ≡ old.0.chosen))
     × GrowsBy old.0.unweighed (skipped_rows old.0.chosen (records_by old.0.chosen.item bytes)) new.0.unweighed
 
-abbrev pub FailsWeighs : Weigher → List ℕ → Weigher → Failure → Type 0
-FailsWeighs old bytes new failure = FailsLines old.0.chosen old.0.sketch.total (records_by old.0.chosen.item bytes) failure
+items_weighed : (old new : Weigher) (bytes : List ℕ) → Weighs old bytes new → WeighsItems old bytes new
+items_weighed old new bytes (begun, is, taken) = subst (λ (b : ItemWeigher). WeighsItems (b, old.1) bytes new) is (taken.0, taken.1)
+
+weighing_failed : (old new : Weigher) (bytes : List ℕ) (e : Failure) → FailsWeighs old bytes new e → FailsLines old.0.chosen old.0.sketch.total 0 (records_by old.0.chosen.item bytes) e
+weighing_failed old new bytes e (begun, is, f) = subst (λ (b : ItemWeigher). FailsLines b.chosen b.sketch.total b.count (records_by b.chosen.item bytes) e) is f
 
 abbrev WeighsAll : WeighedRecord → (old : CountState) → List (List ℕ) → Weigher → Type 0
 WeighsAll p old read new = CountsLines p old (flat_map (records_by p.item) read) new.0.sketch × (new.0.chosen ≡ p)
@@ -157,7 +180,8 @@ WeighsAll p old read new = CountsLines p old (flat_map (records_by p.item) read)
 -- the items of each list were added
 each_weighed : (old new : Weigher) (read : List (List ℕ)) → TakesEach Weighs old read new → WeighsAll old.0.chosen old.0.sketch read new
 each_weighed old new [] same = subst (λ (s : Weigher). WeighsAll old.0.chosen old.0.sketch [] s) (sym same) (no_lines old.0.chosen old.0.sketch, refl)
-each_weighed old new (bytes ∷ read) (mid, ((first, kept), _), rest) =
+each_weighed old new (bytes ∷ read) (mid, one, rest) =
+    let ((first, kept), _) = items_weighed old mid bytes one in
     let (later, kept') = each_weighed mid new read rest in (
       all_lines old.0.chosen old.0.sketch mid.0.sketch new.0.sketch (records_by old.0.chosen.item bytes) (flat_map (records_by old.0.chosen.item) read) first
           (subst (λ (p : WeighedRecord). CountsLines p mid.0.sketch (flat_map (records_by p.item) read) new.0.sketch) kept later),
@@ -168,7 +192,8 @@ each_weighed old new (bytes ∷ read) (mid, ((first, kept), _), rest) =
 each_skipped : (old new : Weigher) (read : List (List ℕ)) → TakesEach Weighs old read new → GrowsBy old.0.unweighed (skipped_rows old.0.chosen (flat_map (records_by old.0.chosen.item) read)) new.0.unweighed
 each_skipped old new [] same =
     subst (λ (s : Weigher). GrowsBy old.0.unweighed (skipped_rows old.0.chosen []) s.0.unweighed) (sym same) (skips_none (Record old.0.chosen) old.0.unweighed)
-each_skipped old new (bytes ∷ read) (mid, ((_, kept), first), rest) =
+each_skipped old new (bytes ∷ read) (mid, one, rest) =
+    let ((_, kept), first) = items_weighed old mid bytes one in
     let p : WeighedRecord = old.0.chosen in
     let later = subst (λ (q : WeighedRecord). GrowsBy mid.0.unweighed (skipped_rows q (flat_map (records_by q.item) read)) new.0.unweighed) kept (each_skipped mid new read rest) in
     omega (arith, first, later, rows_append p (records_by p.item bytes) (flat_map (records_by p.item) read))
@@ -259,7 +284,7 @@ module _ {W : Type 0} (contents : W → Option (List ℕ)) where
   pub some_weights : (write_error : W → Option Error) (options : WeighOptions) (was : Option (List (List ℕ))) (bytes : Option (List ℕ)) (fails : List Bool) (complete : Bool) (made : CountState) (weigher weighed : Weigher) (total : ℕ) (held : Option (List ℕ)) (old new : KeyWeights × W) (e : Failure)
       → IsEmptyTable options.parts options.questions options.seed made → weigher.0.sketch ≡ made → weigher.0.chosen ≡ options.chosen → TakesInputs (splits_by options.chosen.item) Weighs was fails complete weigher weighed
       → pos total ≡ pos weighed.0.sketch.total → Appends held (contents old.1) (total_line options.style options.header total) → old.0.sketch ≡ weighed.0.sketch → old.0.part ≡ options.keys_part → old.0.style ≡ options.style
-      → FailsInput (splits_by options.keys_part) WritesKeys (FailsKeys write_error) (options.max_line + 1) bytes old new e
+      → FailsInput (splits_by options.keys_part) WritesKeys (FailsKeys write_error) (FailsKeys write_error) (options.max_line + 1) bytes old new e
       → IfSome was (λ inputs. IfSome bytes (λ keys. WritesSomeWeights options inputs fails keys held (contents new.1)))
   some_weights write_error options None bytes fails complete made weigher weighed total held old new e empty begin part weighs sum wrote sketch keys_part style failed = tt
   some_weights write_error options (Some inputs) None fails complete made weigher weighed total held old new e empty begin part weighs sum wrote sketch keys_part style failed = tt
@@ -345,40 +370,40 @@ module _ (p : WeighedRecord) where
       ap (weighed_lines p) (records_among earlier later input)
       ∙ (flat_map-append (weighed_line p) (flat_map records earlier) (records input ++ flat_map records later) ∙ ap (λ l. weighed_in p earlier ++ l) (flat_map-append (weighed_line p) (records input) (flat_map records later)))
 
-  pub unweighed_among : (earlier later : List (List ℕ)) (input : List ℕ) → unweighed_in p (earlier ++ input ∷ later) ≡ unweighed_in p earlier ++ (unweighed_lines p (records input) ++ unweighed_in p later)
-  unweighed_among earlier later input =
-      ap (unweighed_lines p) (records_among earlier later input)
-      ∙ (flat_map-append (unweighed_line p) (flat_map records earlier) (records input ++ flat_map records later) ∙ ap (λ l. unweighed_in p earlier ++ l) (flat_map-append (unweighed_line p) (records input) (flat_map records later)))
-
 too_many : (old after : Weigher) (inputs : List (List ℕ)) → old.0.sketch.total ≡ 0 → FailsAmong (splits_by old.0.chosen.item) Weighs FailsWeighs inputs old after TooManyItems → 2 ^ 64 ≤ total_of (weighed_in old.0.chosen inputs)
 too_many old after inputs new f =
     let p : WeighedRecord = old.0.chosen in
     let (added, same) = each_weighed old f.mid f.read f.taken in
     let here : Weighed = weighed_lines p (records_by p.item f.input) in
-    let last : 2 ^ 64 ≤ f.mid.0.sketch.total + total_of here = subst (λ (q : WeighedRecord). 2 ^ 64 ≤ f.mid.0.sketch.total + total_of (weighed_lines q (records_by q.item f.input))) same f.reason in
+    let last : 2 ^ 64 ≤ f.mid.0.sketch.total + total_of here = subst (λ (q : WeighedRecord). 2 ^ 64 ≤ f.mid.0.sketch.total + total_of (weighed_lines q (records_by q.item f.input))) same (weighing_failed f.mid after f.input TooManyItems f.reason) in
     let all = ap (λ (l : Weighed). total_of l) (ap (weighed_in p) f.parts ∙ weighed_among p f.earlier f.later f.input) in
     omega (arith, last, added.0.total, new, few_of_each p f.earlier f.read f.fronts, all, total_both (weighed_in p f.earlier) (here ++ weighed_in p f.later), total_both here (weighed_in p f.later))
 
-without_one : (old after : Weigher) (inputs : List (List ℕ)) (found : BadWeightValue) → FailsAmong (splits_by old.0.chosen.item) Weighs FailsWeighs inputs old after (BadWeight found) → 0 < length (unweighed_in old.0.chosen inputs)
+without_one : (old after : Weigher) (inputs : List (List ℕ)) (found : BadWeightValue) → FailsAmong (splits_by old.0.chosen.item) Weighs FailsWeighs inputs old after (BadWeight found) → HaveUnweighed (splits_by old.0.chosen.item) (unweighed_line old.0.chosen) inputs found.line
 without_one old after inputs found f =
-    let p : WeighedRecord = old.0.chosen in
     let (added, same) = each_weighed old f.mid f.read f.taken in
-    let here : List (List ℕ) = unweighed_lines p (records_by p.item f.input) in
-    let some : 0 < length here = subst (λ (q : WeighedRecord). 0 < length (unweighed_lines q (records_by q.item f.input))) same f.reason in
-    let all = ap (λ (l : List (List ℕ)). length l) (ap (unweighed_in p) f.parts ∙ unweighed_among p f.earlier f.later f.input) in
-    omega (arith, some, all, length-append (unweighed_in p f.earlier) (here ++ unweighed_in p f.later), length-append here (unweighed_in p f.later))
+    record {
+      earlier = f.earlier;
+      input = f.input;
+      later = f.later;
+      parts = f.parts;
+      read = f.read;
+      fronts = f.fronts;
+      weighed = added.1;
+      first = subst (λ (q : WeighedRecord). IsFirstUnweighed (lines_of (splits_by q.item)) (unweighed_line q) 0 (records_by q.item f.input) found.line) same (weighing_failed f.mid after f.input (BadWeight found) f.reason);
+    }
 
-taking_failed : (options : WeighOptions) (was : Option (List (List ℕ))) (keys : Option (List ℕ)) (write_error : Option Error) (old after : Weigher) (e : Failure) → old.0.sketch.total ≡ 0 → old.0.chosen ≡ options.chosen → FailsTakingInputs (splits_by old.0.chosen.item) Weighs FailsWeighs was old after e → FailsWeigh options was keys write_error e
+taking_failed : (options : WeighOptions) (was : Option (List (List ℕ))) (keys : Option (List ℕ)) (write_error : Option Error) (old after : Weigher) (e : Failure) → old.0.sketch.total ≡ 0 → old.0.chosen ≡ options.chosen → FailsTakingInputs (splits_by old.0.chosen.item) Weighs FailsWithin FailsWeighs was old after e → FailsWeigh options was keys write_error e
 taking_failed options was keys write_error old after Memory new same f = tt
 taking_failed options was keys write_error old after LineTooLong new same f = absurd f.some.2
 taking_failed options None keys write_error old after TooManyItems new same f = tt
 taking_failed options (Some inputs) keys write_error old after TooManyItems new same f = subst (λ (p : WeighedRecord). 2 ^ 64 ≤ total_of (weighed_in p inputs)) same (too_many old after inputs new f.known)
 taking_failed options None keys write_error old after (BadWeight found) new same f = tt
-taking_failed options (Some inputs) keys write_error old after (BadWeight found) new same f = subst (λ (p : WeighedRecord). 0 < length (unweighed_in p inputs)) same (without_one old after inputs found f.known)
+taking_failed options (Some inputs) keys write_error old after (BadWeight found) new same f = subst (λ (p : WeighedRecord). HaveUnweighed (splits_by p.item) (unweighed_line p) inputs found.line) same (without_one old after inputs found f.known)
 taking_failed options was keys write_error old after BadSize new same f = absurd f.some.2
 taking_failed options was keys write_error old after (Write error) new same f = absurd f.some.2
 
-pub weigh_failed : (options : WeighOptions) (was : Option (List (List ℕ))) (keys : Option (List ℕ)) (write_error : Option Error) (old after : Weigher) (e : Failure) → old.0.sketch.total ≡ 0 → old.0.chosen ≡ options.chosen → FailsInputs (splits_by old.0.chosen.item) Weighs FailsWeighs (options.max_line + 1) was old after e → FailsWeigh options was keys write_error e
+pub weigh_failed : (options : WeighOptions) (was : Option (List (List ℕ))) (keys : Option (List ℕ)) (write_error : Option Error) (old after : Weigher) (e : Failure) → old.0.sketch.total ≡ 0 → old.0.chosen ≡ options.chosen → FailsInputs (splits_by old.0.chosen.item) Weighs FailsWithin FailsWeighs (options.max_line + 1) was old after e → FailsWeigh options was keys write_error e
 weigh_failed options was keys write_error old after e new same failed = ⊎_elim
     (λ stops. ⊎_elim (λ memory. rw memory tt) (λ long. rw long.0 (inl (subst (λ (p : WeighedRecord). IfSome was (HaveLongRecord (splits_by p.item) (options.max_line + 1))) same long.1))) stops.0)
     (λ taking. taking_failed options was keys write_error old after e new same taking)
@@ -398,7 +423,7 @@ writing_failed options was keys write_error (BadWeight found) f = absurd f
 writing_failed options was keys write_error (Write error) f = record { fails = f; late = tt }
 
 pub keys_failed : {W : Type 0} (contents : W → Option (List ℕ)) (write_error : W → Option Error) (options : WeighOptions) (was : Option (List (List ℕ))) (keys : Option (List ℕ)) (old new : KeyWeights × W) (e : Failure)
-    → FailsInput (splits_by options.keys_part) (WritesKeys contents) (FailsKeys contents write_error) (options.max_line + 1) keys old new e → IsLateFailure options was keys (write_error new.1) e
+    → FailsInput (splits_by options.keys_part) (WritesKeys contents) (FailsKeys contents write_error) (FailsKeys contents write_error) (options.max_line + 1) keys old new e → IsLateFailure options was keys (write_error new.1) e
 keys_failed contents write_error options was keys old new e failed = ⊎_elim
     (λ stops. ⊎_elim (λ memory. rw memory (record { fails = tt; late = tt })) (λ long. rw long.0 (record { fails = inr long.1; late = tt })) stops.0)
     (λ taking. writing_failed options was keys (write_error new.1) e taking.some.2.0)

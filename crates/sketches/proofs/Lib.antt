@@ -8,6 +8,7 @@ pub mod ImageBytes
 pub mod JoinedInputs
 pub mod ItemWeights
 pub mod KeyWeights
+pub mod LineCounts
 pub mod LongRecords
 pub mod Merged
 pub mod OutputFronts

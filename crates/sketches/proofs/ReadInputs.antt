@@ -147,7 +147,7 @@ module _ (records : Records) (limit : ℕ) {S : Type 0} (takes : S → List ℕ 
       let (bytes, later, parts, known, after, _) = rw (here, e) at opens in
       record { earlier = so.done; input = bytes; later = later; parts = so.parts ∙ ap (λ l. so.done ++ l) parts; long = rw known at long }
 
-  module _ (fails : S → List ℕ → S → Failure → Type 0) where
+  module _ (may fails : S → List ℕ → S → Failure → Type 0) where
     fails_among : {R : Type 0} (remaining : R → Option (List ℕ)) (fails_after : R → Bool) (complete : Bool) (was is is' : Option (List (List ℕ))) (flags now next_fail : List Bool) (old mid new : S) (next : Option R) (reader : R) (e : Failure)
         → HasTakenSome complete was is flags now old mid → OpensNext remaining fails_after is is' now next_fail next → next ≡ Some reader → IfSome (remaining reader) (λ bytes. fails mid bytes new e) → IfSome was (λ inputs. FailsAmong records takes fails inputs old new e)
     fails_among remaining fails_after complete None is is' flags now next_fail old mid new next reader e so opens is_next known = tt
@@ -166,7 +166,7 @@ module _ (records : Records) (limit : ℕ) {S : Type 0} (takes : S → List ℕ 
         }
 
     pub inputs_failed : {R : Type 0} (remaining : R → Option (List ℕ)) (fails_after : R → Bool) (complete : Bool) (was is is' : Option (List (List ℕ))) (flags now next_fail : List Bool) (old mid new : S) (next : Option R) (reader : R) (e : Failure)
-        → HasTakenSome complete was is flags now old mid → OpensNext remaining fails_after is is' now next_fail next → next ≡ Some reader → FailsInput records takes fails limit (remaining reader) mid new e → FailsInputs records takes fails limit was old new e
+        → HasTakenSome complete was is flags now old mid → OpensNext remaining fails_after is is' now next_fail next → next ≡ Some reader → FailsInput records takes may fails limit (remaining reader) mid new e → FailsInputs records takes may fails limit was old new e
     inputs_failed remaining fails_after complete was is is' flags now next_fail old mid new next reader e so opens is_next failed =
         ⊎_elim
         (λ stops. inl (

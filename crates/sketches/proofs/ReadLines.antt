@@ -211,7 +211,7 @@ module _ (records : Records) (limit : ℕ) {S : Type 0} (takes : S → List ℕ 
     after r s t xs ys e same whole = later r s t xs ys e (subst (λ (f : Records). AreWholeRecords f xs) (sym same) whole)
 
     -- of the last line
-    pub fails_last : (was is : Option (List ℕ)) (flag b : Bool) (old mid new : S) (all held : List ℕ) (e : Failure) → splits old ≡ records → HasTaken was is old mid all → all ≡ held → StopsAfter is flag b → fails mid held new e → FailsTaking records fails was old new e
+    pub fails_last : (was is : Option (List ℕ)) (flag b : Bool) (old mid new : S) (all held : List ℕ) (e : Failure) → splits old ≡ records → HasTaken was is old mid all → all ≡ held → StopsAfter is flag b → fails mid held new e → FailsTaking fails fails was old new e
     fails_last None is flag b old mid new all held e kind h same end f = record { some = (mid, held, f); known = tt }
     fails_last (Some bytes) None flag b old mid new all held e kind h same end f = absurd h
     fails_last (Some bytes) (Some left) flag b old mid new all held e kind h same end f = record {
@@ -223,7 +223,7 @@ module _ (records : Records) (limit : ℕ) {S : Type 0} (takes : S → List ℕ 
 
     module _ (sooner : (r t : S) (xs ys : List ℕ) (e : Failure) → AreWholeRecords (splits r) xs → fails r xs t e → fails r (xs ++ ys) t e) where
       -- of whole lines
-      pub fails_lines : (was is : Option (List ℕ)) (old mid new : S) (all : List ℕ) (e : Failure) → splits old ≡ records → splits mid ≡ records → HasTaken was is old mid all → FailsWithin records fails mid all new e → FailsTaking records fails was old new e
+      pub fails_lines : (was is : Option (List ℕ)) (old mid new : S) (all : List ℕ) (e : Failure) → splits old ≡ records → splits mid ≡ records → HasTaken was is old mid all → FailsWithin records fails mid all new e → FailsTaking fails fails was old new e
       fails_lines None is old mid new all e kind same h f = record { some = (mid, f.taken, f.reason); known = tt }
       fails_lines (Some bytes) None old mid new all e kind same h f = absurd h
       fails_lines (Some bytes) (Some left) old mid new all e kind same h f = record {

@@ -1,5 +1,5 @@
 -- The sums of keys that are read of inputs and written, and why a run ended without.
-use Rattle.std.proofs.Common.{◌≡◌, ⊎_elim, ℕ, zero, suc, ◌+◌, ◌-◌, ◌^◌, ◌<◌, ◌≤◌, Bool, false, List, [], ◌∷◌, ◌++◌, length, slice_get, Option, None, Some, IfSome, Contains, is_some, append_assoc, append-nil, length-append, refl, sym, ◌∙◌, ap, subst, arith}
+use Rattle.std.proofs.Common.{◌≡◌, ⊎_elim, ℕ, zero, suc, ◌+◌, ◌-◌, ◌^◌, ◌≤◌, Bool, false, List, [], ◌∷◌, ◌++◌, length, slice_get, Option, None, Some, IfSome, Contains, is_some, append_assoc, append-nil, refl, sym, ◌∙◌, ap, subst, arith}
 use Rattle.std.proofs.lemmas.Bool.{false≢true}
 use Rattle.std.proofs.lemmas.List.Concat.{flat_map-append}
 use Rattle.std.proofs.lemmas.List.Elements.{Contains-append_cases, Contains-push_cases}
@@ -14,13 +14,14 @@ use Rattle.std.specs.declared.io.Error.{Error}
 use Rattle.sketch_text.specs.Records.{records_by, splits_by}
 use Rattle.sketch_text.specs.declared.record_part.RecordPart.{RecordPart}
 use Rattle.sketches.proofs.TakenKeys.{length_names, same_bytes}
-use Rattle.sketches.proofs.KeyWeights.{few_of_each, unweighed_among, weighed_among}
+use Rattle.sketches.proofs.KeyWeights.{few_of_each, weighed_among}
 use Rattle.sketches.specs.Appending.{appends_both, appends_none, front_after, front_all, front_more, front_same}
 use Rattle.sketches.specs.Failures.{FailsWriting}
-use Rattle.sketches.specs.Inputs.{FailsAmong, FailsInputs, FailsTakingInputs, TakesEach, TakesInputs}
+use Rattle.sketches.specs.Inputs.{FailsAmong, FailsBegun, FailsInputs, FailsTakingInputs, TakesBegun, TakesEach, TakesInputs}
+use Rattle.sketches.specs.LineNumbers.{HaveUnweighed, IsFirstUnweighed, lines_of}
 use Rattle.sketches.specs.KeySumLaws.{all_sums, no_sums}
 use Rattle.sketches.specs.KeySums.{AddsItems, AddsLines, ComesWhileWriting, FailsKeys, FailsSums, FailsTakingKeys, HaveFewKeys, HoldsKeys, HoldsSums, Sends, StaysWithin, Sums, SumsInputs, TakesKeys, WritesSomeSums, WritesSums, names, row_of, rows_at, rows_text, sum_lines}
-use Rattle.sketches.specs.KeyWeights.{Row, parts_in, row_line, total_line, unweighed_in, unweighed_lines, weighed_in, weighed_lines}
+use Rattle.sketches.specs.KeyWeights.{Row, parts_in, row_line, total_line, unweighed_line, weighed_in, weighed_lines}
 use Rattle.sketches.specs.Outputs.{WritesFront}
 use Rattle.sketches.specs.Reading.{FailsInput, HasLongRecord, IsReadOf, TakesInput}
 use Rattle.sketches.specs.Skipped.{skipped_rows}
@@ -249,7 +250,7 @@ file_failed options limit keys old (BadWeight found) part max none empty some kn
 file_failed options limit keys old (Write error) part max none empty some known = absurd some.2
 
 pub keys_not_taken : (options : ExactOptions) (limit : ℕ) (keys : Option (List ℕ)) (old new : Keyed) (e : Failure) → old.0.part ≡ options.keys_part → old.0.max_keys ≡ options.max_keys → old.0.sums.entries ≡ [] → old.0.order.items ≡ []
-    → FailsInput (splits_by old.0.part) TakesFile FailsFile limit keys old new e → FailsKeys options limit keys e
+    → FailsInput (splits_by old.0.part) TakesFile FailsFile FailsFile limit keys old new e → FailsKeys options limit keys e
 keys_not_taken options limit keys old new e part max none empty failed = ⊎_elim
     (λ stops. ⊎_elim (λ memory. rw memory tt) (λ long. rw long.0 (subst (λ (p : RecordPart). IfSome keys (HasLongRecord (splits_by p) limit)) part long.1)) stops.0)
     (λ taking. file_failed options limit keys old e part max none empty taking.some taking.known)
@@ -260,13 +261,36 @@ keys_not_taken options limit keys old new e part max none empty failed = ⊎_eli
 abbrev Adder : Type 0
 Adder = KeySums × Unit {0}
 
+-- what the sink does with an input, and with bytes of its records
+abbrev pub Begins : KeySums → KeySums → Type 0
+Begins old new = new ≡ record { sums = old.sums; total = old.total; chosen = old.chosen; count = 0; unweighed = old.unweighed }
+
+abbrev pub AddsWithin : Adder → List ℕ → Adder → Type 0
+AddsWithin old bytes new =
+    (AddsLines old.0.chosen old.0.sums.entries old.0.total (records_by old.0.chosen.item bytes) new.0.sums.entries new.0.total × (new.0.chosen ≡ old.0.chosen))
+    × GrowsBy old.0.unweighed (skipped_rows old.0.chosen (records_by old.0.chosen.item bytes)) new.0.unweighed
+    × GrowsBy old.0.count (lines_of (splits_by old.0.chosen.item) (records_by old.0.chosen.item bytes)) new.0.count
+
+abbrev pub FailsWithin : Adder → List ℕ → Adder → Failure → Type 0
+FailsWithin old bytes new failure = FailsLines old.0.chosen old.0.total old.0.count (records_by old.0.chosen.item bytes) failure
+
 abbrev pub Adds : Adder → List ℕ → Adder → Type 0
-Adds old bytes new =
+Adds old bytes new = TakesBegun Begins AddsWithin old bytes new
+
+abbrev pub FailsAdds : Adder → List ℕ → Adder → Failure → Type 0
+FailsAdds old bytes new failure = FailsBegun Begins FailsWithin old bytes new failure
+
+-- without the number of its lines
+abbrev AddsSums : Adder → List ℕ → Adder → Type 0
+AddsSums old bytes new =
     (AddsLines old.0.chosen old.0.sums.entries old.0.total (records_by old.0.chosen.item bytes) new.0.sums.entries new.0.total × (new.0.chosen ≡ old.0.chosen))
     × GrowsBy old.0.unweighed (skipped_rows old.0.chosen (records_by old.0.chosen.item bytes)) new.0.unweighed
 
-abbrev pub FailsAdds : Adder → List ℕ → Adder → Failure → Type 0
-FailsAdds old bytes new failure = FailsLines old.0.chosen old.0.total (records_by old.0.chosen.item bytes) failure
+sums_added : (old new : Adder) (bytes : List ℕ) → Adds old bytes new → AddsSums old bytes new
+sums_added old new bytes (begun, is, taken) = subst (λ (b : KeySums). AddsSums (b, old.1) bytes new) is (taken.0, taken.1)
+
+adding_failed : (old new : Adder) (bytes : List ℕ) (e : Failure) → FailsAdds old bytes new e → FailsLines old.0.chosen old.0.total 0 (records_by old.0.chosen.item bytes) e
+adding_failed old new bytes e (begun, is, f) = subst (λ (b : KeySums). FailsLines b.chosen b.total b.count (records_by b.chosen.item bytes) e) is f
 
 abbrev AddsAll : WeighedRecord → Sums → (total : ℕ) → List (List ℕ) → Adder → Type 0
 AddsAll p sums total read new = AddsLines p sums total (flat_map (records_by p.item) read) new.0.sums.entries new.0.total × (new.0.chosen ≡ p)
@@ -274,7 +298,8 @@ AddsAll p sums total read new = AddsLines p sums total (flat_map (records_by p.i
 -- the items of each list were added
 each_added : (old new : Adder) (read : List (List ℕ)) → TakesEach Adds old read new → AddsAll old.0.chosen old.0.sums.entries old.0.total read new
 each_added old new [] same = subst (λ (s : Adder). AddsAll old.0.chosen old.0.sums.entries old.0.total [] s) (sym same) (no_sums old.0.chosen old.0.sums.entries old.0.total, refl)
-each_added old new (bytes ∷ read) (mid, ((first, kept), _), rest) =
+each_added old new (bytes ∷ read) (mid, one, rest) =
+    let ((first, kept), _) = sums_added old mid bytes one in
     let (later, kept') = each_added mid new read rest in (
       all_sums old.0.chosen old.0.sums.entries mid.0.sums.entries new.0.sums.entries old.0.total mid.0.total new.0.total (records_by old.0.chosen.item bytes) (flat_map (records_by old.0.chosen.item) read) first
           (subst (λ (p : WeighedRecord). AddsLines p mid.0.sums.entries mid.0.total (flat_map (records_by p.item) read) new.0.sums.entries new.0.total) kept later),
@@ -285,7 +310,8 @@ each_added old new (bytes ∷ read) (mid, ((first, kept), _), rest) =
 each_skipped : (old new : Adder) (read : List (List ℕ)) → TakesEach Adds old read new → GrowsBy old.0.unweighed (skipped_rows old.0.chosen (flat_map (records_by old.0.chosen.item) read)) new.0.unweighed
 each_skipped old new [] same =
     subst (λ (s : Adder). GrowsBy old.0.unweighed (skipped_rows old.0.chosen []) s.0.unweighed) (sym same) (skips_none (Record old.0.chosen) old.0.unweighed)
-each_skipped old new (bytes ∷ read) (mid, ((_, kept), first), rest) =
+each_skipped old new (bytes ∷ read) (mid, one, rest) =
+    let ((_, kept), first) = sums_added old mid bytes one in
     let p : WeighedRecord = old.0.chosen in
     let later = subst (λ (q : WeighedRecord). GrowsBy mid.0.unweighed (skipped_rows q (flat_map (records_by q.item) read)) new.0.unweighed) kept (each_skipped mid new read rest) in
     omega (arith, first, later, rows_append p (records_by p.item bytes) (flat_map (records_by p.item) read))
@@ -309,20 +335,25 @@ too_many old after inputs new f =
     let p : WeighedRecord = old.0.chosen in
     let (added, same) = each_added old f.mid f.read f.taken in
     let here : Weighed = weighed_lines p (records_by p.item f.input) in
-    let last : 2 ^ 64 ≤ f.mid.0.total + total_of here = subst (λ (q : WeighedRecord). 2 ^ 64 ≤ f.mid.0.total + total_of (weighed_lines q (records_by q.item f.input))) same f.reason in
+    let last : 2 ^ 64 ≤ f.mid.0.total + total_of here = subst (λ (q : WeighedRecord). 2 ^ 64 ≤ f.mid.0.total + total_of (weighed_lines q (records_by q.item f.input))) same (adding_failed f.mid after f.input TooManyItems f.reason) in
     let all = ap (λ (l : Weighed). total_of l) (ap (weighed_in p) f.parts ∙ weighed_among p f.earlier f.later f.input) in
     omega (arith, last, added.0.total_is, new, few_of_each p f.earlier f.read f.fronts, all, total_both (weighed_in p f.earlier) (here ++ weighed_in p f.later), total_both here (weighed_in p f.later))
 
-without_one : (old after : Adder) (inputs : List (List ℕ)) (found : BadWeightValue) → FailsAmong (splits_by old.0.chosen.item) Adds FailsAdds inputs old after (BadWeight found) → 0 < length (unweighed_in old.0.chosen inputs)
+without_one : (old after : Adder) (inputs : List (List ℕ)) (found : BadWeightValue) → FailsAmong (splits_by old.0.chosen.item) Adds FailsAdds inputs old after (BadWeight found) → HaveUnweighed (splits_by old.0.chosen.item) (unweighed_line old.0.chosen) inputs found.line
 without_one old after inputs found f =
-    let p : WeighedRecord = old.0.chosen in
     let (added, same) = each_added old f.mid f.read f.taken in
-    let here : List (List ℕ) = unweighed_lines p (records_by p.item f.input) in
-    let some : 0 < length here = subst (λ (q : WeighedRecord). 0 < length (unweighed_lines q (records_by q.item f.input))) same f.reason in
-    let all = ap (λ (l : List (List ℕ)). length l) (ap (unweighed_in p) f.parts ∙ unweighed_among p f.earlier f.later f.input) in
-    omega (arith, some, all, length-append (unweighed_in p f.earlier) (here ++ unweighed_in p f.later), length-append here (unweighed_in p f.later))
+    record {
+      earlier = f.earlier;
+      input = f.input;
+      later = f.later;
+      parts = f.parts;
+      read = f.read;
+      fronts = f.fronts;
+      weighed = added.1;
+      first = subst (λ (q : WeighedRecord). IsFirstUnweighed (lines_of (splits_by q.item)) (unweighed_line q) 0 (records_by q.item f.input) found.line) same (adding_failed f.mid after f.input (BadWeight found) f.reason);
+    }
 
-taking_failed : (limit : ℕ) (was : Option (List (List ℕ))) (write_error : Option Error) (old after : Adder) (e : Failure) → old.0.total ≡ 0 → FailsTakingInputs (splits_by old.0.chosen.item) Adds FailsAdds was old after e → FailsSums old.0.chosen limit was write_error e
+taking_failed : (limit : ℕ) (was : Option (List (List ℕ))) (write_error : Option Error) (old after : Adder) (e : Failure) → old.0.total ≡ 0 → FailsTakingInputs (splits_by old.0.chosen.item) Adds FailsWithin FailsAdds was old after e → FailsSums old.0.chosen limit was write_error e
 taking_failed limit was write_error old after Memory new f = tt
 taking_failed limit was write_error old after LineTooLong new f = absurd f.some.2
 taking_failed limit None write_error old after TooManyItems new f = tt
@@ -332,7 +363,7 @@ taking_failed limit (Some inputs) write_error old after (BadWeight found) new f 
 taking_failed limit was write_error old after BadSize new f = absurd f.some.2
 taking_failed limit was write_error old after (Write error) new f = absurd f.some.2
 
-pub summing_failed : (limit : ℕ) (was : Option (List (List ℕ))) (write_error : Option Error) (old after : Adder) (e : Failure) → old.0.total ≡ 0 → FailsInputs (splits_by old.0.chosen.item) Adds FailsAdds limit was old after e → FailsSums old.0.chosen limit was write_error e
+pub summing_failed : (limit : ℕ) (was : Option (List (List ℕ))) (write_error : Option Error) (old after : Adder) (e : Failure) → old.0.total ≡ 0 → FailsInputs (splits_by old.0.chosen.item) Adds FailsWithin FailsAdds limit was old after e → FailsSums old.0.chosen limit was write_error e
 summing_failed limit was write_error old after e new failed = ⊎_elim
     (λ stops. ⊎_elim (λ memory. rw memory tt) (λ long. rw long.0 long.1) stops.0)
     (λ taking. taking_failed limit was write_error old after e new taking)

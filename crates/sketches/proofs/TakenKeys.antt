@@ -1,5 +1,5 @@
 -- Keys that are taken into a map, and weights that are added to their sums.
-use Rattle.std.proofs.Common.{◌≡◌, ⊎_elim, inl, inr, ℕ, zero, suc, ◌+◌, ◌^◌, ◌<◌, ◌≤◌, Bool, true, false, cond, List, [], ◌∷◌, ◌++◌, length, slice_get, Option, None, Some, Contains, is_some, append_assoc, append-nil, refl, sym, ◌∙◌, ap, subst, arith, true≢false}
+use Rattle.std.proofs.Common.{◌≡◌, ⊎_elim, inl, inr, ℕ, zero, suc, ◌+◌, ◌-◌, ◌^◌, ◌<◌, ◌≤◌, Bool, true, false, cond, min, List, [], ◌∷◌, ◌++◌, length, slice_get, Option, None, Some, Contains, is_some, append_assoc, append-nil, refl, sym, ◌∙◌, ap, subst, arith, true≢false}
 use Rattle.std.proofs.lemmas.Bool.{false≢true}
 use Rattle.std.proofs.lemmas.List.{map-append}
 use Rattle.std.proofs.lemmas.List.Concat.{flat_map-append}
@@ -14,15 +14,18 @@ use Rattle.std.specs.Prelude.{if◌then◌else◌}
 use Rattle.std.specs.Str.{bytes_eq}
 use Rattle.std.specs.declared.vec.Vec.{Vec}
 use Rattle.indexmap.specs.IndexMap.{insert_entry}
-use Rattle.sketch_text.specs.Records.{part_in}
+use Rattle.sketch_text.specs.Records.{part_in, splits_by}
 use Rattle.sketch_text.specs.declared.record_part.RecordPart.{RecordPart}
 use Rattle.sketch_frequencies.proofs.KeyedBatches.{all_zip_push}
 use Rattle.sketches.proofs.KeyWeights.{weight_within}
+use Rattle.sketches.proofs.LineCounts.{IsNextCount, more_numbers, no_numbers}
 use Rattle.sketches.specs.KeySumLaws.{all_sums, no_sums, one_sum, taken_both, taken_none, taking_after, taking_more}
 use Rattle.sketches.specs.KeySums.{AddsItems, AddsLines, AddsWeight, FailsTakingKeys, FindsKey, HoldsSums, Sums, TakesKeys, names}
-use Rattle.sketches.specs.KeyWeightLaws.{lines_later, lines_sooner, one_fails}
+use Rattle.sketches.specs.KeyWeightLaws.{lines_later, one_fails}
 use Rattle.sketches.specs.KeyWeights.{unweighed_line, weighed_line}
-use Rattle.sketches.specs.WeighFailures.{FailsCounting, FailsLines}
+use Rattle.sketches.specs.LineNumbers.{lines_of}
+use Rattle.sketches.specs.Utf8Lines.{GrowsBy}
+use Rattle.sketches.specs.WeighFailures.{FailsLines, FailsRecord}
 use Rattle.sketches.specs.Weighed.{Weighed, total_of, weight_of}
 use Rattle.sketches.specs.declared.failure.Failure.{Failure}
 use Rattle.sketches.specs.declared.failure.Failure.TheVariants.{BadSize}
@@ -290,28 +293,33 @@ item_added sums sums' total total' item weight more small same adds = record {
 -- ---- the items of records
 
 -- the items of the records before those that are left were added
-pub record HasSummedLines (chosen : WeighedRecord) (a : Sums) (t : ℕ) (all left : List (List ℕ)) (b : Sums) (u : ℕ) : Type 0 where
+pub record HasSummedLines (chosen : WeighedRecord) (a : Sums) (t n : ℕ) (all left : List (List ℕ)) (b : Sums) (u m : ℕ) : Type 0 where
   pub done : List (List ℕ)
   pub parts : all ≡ done ++ left
   pub adds : AddsLines chosen a t done b u
+  pub numbers : GrowsBy n (lines_of (splits_by chosen.item) done) m
 
-pub sums_begun : (chosen : WeighedRecord) (a : Sums) (t : ℕ) (all : List (List ℕ)) → HasSummedLines chosen a t all all a t
-sums_begun chosen a t all = record { done = []; parts = refl; adds = no_sums chosen a t }
+pub sums_begun : (chosen : WeighedRecord) (a : Sums) (t n : ℕ) (all : List (List ℕ)) → HasSummedLines chosen a t n all all a t n
+sums_begun chosen a t n all = record { done = []; parts = refl; adds = no_sums chosen a t; numbers = no_numbers chosen n }
 
 -- one more record
-pub sums_more : (chosen : WeighedRecord) (a b c : Sums) (t u v : ℕ) (all left later : List (List ℕ)) (line : List ℕ) → HasSummedLines chosen a t all left b u → left ≡ line ∷ later → AddsItems b u (weighed_line chosen line) c v × (unweighed_line chosen line ≡ []) → HasSummedLines chosen a t all later c v
-sums_more chosen a b c t u v all left later line so next more = record {
+pub sums_more : (chosen : WeighedRecord) (a b c : Sums) (t u v n m k : ℕ) (all left later : List (List ℕ)) (line : List ℕ) → HasSummedLines chosen a t n all left b u m → left ≡ line ∷ later → AddsItems b u (weighed_line chosen line) c v × (unweighed_line chosen line ≡ []) → IsNextCount chosen m line k → HasSummedLines chosen a t n all later c v k
+sums_more chosen a b c t u v n m k all left later line so next more is = record {
   done = so.done ++ line ∷ [];
   parts = so.parts ∙ (ap (λ l. so.done ++ l) next ∙ sym (append_assoc so.done (line ∷ []) later));
   adds = all_sums chosen a b c t u v so.done (line ∷ []) so.adds (one_sum chosen b c u v line more);
+  numbers = more_numbers chosen n m k so.done line so.numbers is;
 }
 
 -- all records
-pub sums_all : (chosen : WeighedRecord) (a b : Sums) (t u : ℕ) (all left : List (List ℕ)) → HasSummedLines chosen a t all left b u → left ≡ [] → AddsLines chosen a t all b u
-sums_all chosen a b t u all left so none = subst (λ l. AddsLines chosen a t l b u) (sym (so.parts ∙ (ap (λ l. so.done ++ l) none ∙ append-nil so.done))) so.adds
+pub sums_all : (chosen : WeighedRecord) (a b : Sums) (t u n m : ℕ) (all left : List (List ℕ)) → HasSummedLines chosen a t n all left b u m → left ≡ [] → AddsLines chosen a t all b u
+sums_all chosen a b t u n m all left so none = subst (λ l. AddsLines chosen a t l b u) (sym (so.parts ∙ (ap (λ l. so.done ++ l) none ∙ append-nil so.done))) so.adds
+
+pub sums_numbered : (chosen : WeighedRecord) (a b : Sums) (t u n m : ℕ) (all left : List (List ℕ)) → HasSummedLines chosen a t n all left b u m → left ≡ [] → GrowsBy n (lines_of (splits_by chosen.item) all) m
+sums_numbered chosen a b t u n m all left so none = subst (λ l. GrowsBy n (lines_of (splits_by chosen.item) l) m) (sym (so.parts ∙ (ap (λ l. so.done ++ l) none ∙ append-nil so.done))) so.numbers
 
 -- a failure at one more record
-pub sums_failed : (chosen : WeighedRecord) (a b : Sums) (t u : ℕ) (all left later : List (List ℕ)) (line : List ℕ) (e : Failure) → HasSummedLines chosen a t all left b u → left ≡ line ∷ later → FailsCounting u (weighed_line chosen line) (unweighed_line chosen line) e → FailsLines chosen t all e
-sums_failed chosen a b t u all left later line e so next f =
-    subst (λ l. FailsLines chosen t l e) (sym (so.parts ∙ ap (λ l. so.done ++ l) next))
-    (lines_later chosen t u so.done (line ∷ later) e so.adds.0.total_is (lines_sooner chosen u (line ∷ []) later e (one_fails chosen u line e f)))
+pub sums_failed : (chosen : WeighedRecord) (a b : Sums) (t u n m number : ℕ) (all left later : List (List ℕ)) (line : List ℕ) (e : Failure) → HasSummedLines chosen a t n all left b u m → left ≡ line ∷ later → number ≡ min (m + 1) (2 ^ 64 - 1) → FailsRecord chosen u number line e → FailsLines chosen t n all e
+sums_failed chosen a b t u n m number all left later line e so next is f =
+    subst (λ l. FailsLines chosen t n l e) (sym (so.parts ∙ ap (λ l. so.done ++ l) next))
+    (lines_later chosen t u n m so.done (line ∷ later) e so.adds.0.total_is so.adds.1 so.numbers (one_fails chosen u m number line later e is f))

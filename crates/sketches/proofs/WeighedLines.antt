@@ -1,5 +1,5 @@
 -- The weighed items of lines, one line after another.
-use Rattle.std.proofs.Common.{◌≡◌, ⊎_elim, ℕ, ◌+◌, ◌^◌, ◌<◌, Bool, true, false, cond, List, [], ◌∷◌, ◌++◌, length, map, Option, None, Some, append_assoc, append-nil, refl, sym, ◌∙◌, ap, subst, arith}
+use Rattle.std.proofs.Common.{◌≡◌, ⊎_elim, ℕ, ◌+◌, ◌-◌, ◌^◌, ◌<◌, min, Bool, true, false, cond, List, [], ◌∷◌, ◌++◌, length, map, Option, None, Some, append_assoc, append-nil, refl, sym, ◌∙◌, ap, subst, arith}
 use Rattle.std.proofs.lemmas.Bool.{cases_lt, le-ltb, lt-ltb}
 use Rattle.std.proofs.lemmas.List.{map-append}
 use Rattle.std.proofs.lemmas.List.Concat.{flat_map-append}
@@ -26,8 +26,11 @@ use Rattle.sketches.specs.Added.{Sketch, AddsLine, AddsLines, AddsStrings, AddsW
 use Rattle.sketches.specs.Failures.{FailsAdding, FailsLine, FailsLines, FailsWeighing, IsBadWeight}
 use Rattle.sketches.specs.Faults.{failure_of}
 use Rattle.sketches.specs.Items.{items_of, items_of_raw_line}
+use Rattle.sketches.specs.LineNumberLaws.{counted_append, first_here, first_later, none_counted}
+use Rattle.sketches.specs.LineNumbers.{IsFirstUnweighed, IsUnweighedAt, lines_counted}
+use Rattle.sketches.specs.Utf8Lines.{GrowsBy}
 use Rattle.sketch_text.specs.Records.{part_in, part_of}
-use Rattle.sketches.specs.Weighed.{Weighed, items_of_record, line_weight, once, records_of, total_of, unweighed_of, unweighed_of_line, weighed_of, weighed_of_line, with_weight, without_weight}
+use Rattle.sketches.specs.Weighed.{Weighed, items_of_record, line_weight, once, records_of, total_of, unweighed_of_line, weighed_of, weighed_of_line, with_weight, without_weight}
 use Rattle.sketches.specs.Weights.{counted_weight}
 use Rattle.sketches.specs.declared.weighing.WeighedRecord.{WeighedRecord}
 use Rattle.sketches.proofs.AddedItems.{step_equal}
@@ -72,13 +75,13 @@ strings_weighed old new strings s = record {
   budget = λ h k q. subst (λ (g : FrequentHistory (String Global)). KeepsTailBudget string_eq new g) (sym (once_updated h s.items)) (s.budget h k q);
 }
 
-once_fails : (old : Sketch) (strings unweighed : List (List ℕ)) (e : Failure) → FailsAdding old strings e → FailsWeighing old (once strings) unweighed e
-once_fails old strings unweighed Memory f = tt
-once_fails old strings unweighed LineTooLong f = f
-once_fails old strings unweighed TooManyItems f = omega (arith, f, total_once strings)
-once_fails old strings unweighed BadSize f = f
-once_fails old strings unweighed (failures.BadWeight found) f = absurd f
-once_fails old strings unweighed (Write error) f = f
+once_fails : (old : Sketch) (strings : List (List ℕ)) (bad : ℕ → Type 0) (e : Failure) → FailsAdding old strings e → FailsWeighing old (once strings) bad e
+once_fails old strings bad Memory f = tt
+once_fails old strings bad LineTooLong f = f
+once_fails old strings bad TooManyItems f = omega (arith, f, total_once strings)
+once_fails old strings bad BadSize f = f
+once_fails old strings bad (failures.BadWeight found) f = absurd f
+once_fails old strings bad (Write error) f = f
 
 once_each : (chosen : Selection) (all : List (List ℕ)) → flat_map (weighed_of_line (weighing.Once chosen)) all ≡ once (flat_map (items_of_raw_line chosen) all)
 once_each chosen [] = refl
@@ -96,57 +99,64 @@ once_added chosen old new bytes s = (
   none_unweighed chosen (lines bytes),
 )
 
-pub once_failed : (chosen : Selection) (old : Sketch) (bytes : List ℕ) (e : Failure) → FailsAdding old (items_of chosen bytes) e → FailsLines (weighing.Once chosen) old bytes e
-once_failed chosen old bytes e f =
-    subst (λ (l : Weighed). FailsWeighing old l (unweighed_of (weighing.Once chosen) bytes) e) (sym (once_each chosen (lines bytes)))
-    (once_fails old (items_of chosen bytes) (unweighed_of (weighing.Once chosen) bytes) e f)
+pub once_failed : (chosen : Selection) (old : Sketch) (bytes : List ℕ) (e : Failure) → FailsAdding old (items_of chosen bytes) e → (count : ℕ) → FailsLines (weighing.Once chosen) old count bytes e
+once_failed chosen old bytes e f count =
+    let bad : ℕ → Type 0 = IsFirstUnweighed (lines_counted (weighing.Once chosen)) (unweighed_of_line (weighing.Once chosen)) count (lines bytes) in
+    subst (λ (l : Weighed). FailsWeighing old l bad e) (sym (once_each chosen (lines bytes))) (once_fails old (items_of chosen bytes) bad e f)
 
 -- ---- one line after another
 
--- the items of the lines before those that are left were added, and each of these lines with an item has a weight
-pub record HasWeighedLines (chosen : Weighing) (old : Sketch) (all left : List (List ℕ)) (new : Sketch) : Type 0 where
+-- the items of the lines before those that are left were added, each of these lines with an item has a weight, and they were counted
+pub record HasWeighedLines (chosen : Weighing) (old : Sketch) (n : ℕ) (all left : List (List ℕ)) (new : Sketch) (m : ℕ) : Type 0 where
   pub done : List (List ℕ)
   pub parts : all ≡ done ++ left
   pub added : AddsWeighed old (flat_map (weighed_of_line chosen) done) new
   pub weighed : flat_map (unweighed_of_line chosen) done ≡ []
+  pub numbers : GrowsBy n (lines_counted chosen done) m
 
-pub weighed_lines_none : (chosen : Weighing) (old : Sketch) (all : List (List ℕ)) → HasWeighedLines chosen old all all old
-weighed_lines_none chosen old all = record { done = []; parts = refl; added = weighed_none old; weighed = refl }
+pub weighed_lines_none : (chosen : Weighing) (old : Sketch) (n : ℕ) (all : List (List ℕ)) → HasWeighedLines chosen old n all all old n
+weighed_lines_none chosen old n all = record { done = []; parts = refl; added = weighed_none old; weighed = refl; numbers = omega (arith, none_counted chosen) }
 
 of_more : {B : Type 0} (f : List ℕ → List B) (done : List (List ℕ)) (line : List ℕ) → flat_map f (done ++ line ∷ []) ≡ flat_map f done ++ f line
 of_more {B = B} f done line = flat_map-append f done (line ∷ []) ∙ ap (λ (l : List B). flat_map f done ++ l) (append-nil (f line))
 
 -- one more line
-pub weighed_lines_more : (chosen : Weighing) (old mid new : Sketch) (all left later : List (List ℕ)) (line : List ℕ) → HasWeighedLines chosen old all left mid → left ≡ line ∷ later → AddsLine chosen mid line new → HasWeighedLines chosen old all later new
-weighed_lines_more chosen old mid new all left later line so next (more, weighed) = record {
+pub weighed_lines_more : (chosen : Weighing) (old mid new : Sketch) (n m k : ℕ) (all left later : List (List ℕ)) (line : List ℕ) → HasWeighedLines chosen old n all left mid m → left ≡ line ∷ later → AddsLine chosen mid line new → GrowsBy m (lines_counted chosen (line ∷ [])) k → HasWeighedLines chosen old n all later new k
+weighed_lines_more chosen old mid new n m k all left later line so next (more, weighed) grows = record {
   done = so.done ++ line ∷ [];
   parts = so.parts ∙ (ap (λ (l : List (List ℕ)). so.done ++ l) next ∙ sym (append_assoc so.done (line ∷ []) later));
   added =
       subst (λ (l : Weighed). AddsWeighed old l new) (sym (of_more (weighed_of_line chosen) so.done line))
       (weighed_both old mid new (flat_map (weighed_of_line chosen) so.done) (weighed_of_line chosen line) so.added more);
   weighed = of_more (unweighed_of_line chosen) so.done line ∙ (ap (λ (l : List (List ℕ)). l ++ unweighed_of_line chosen line) so.weighed ∙ weighed);
+  numbers = omega (arith, so.numbers, grows, counted_append chosen so.done (line ∷ []));
 }
 
 -- all lines
-pub weighed_lines_all : (chosen : Weighing) (old new : Sketch) (bytes : List ℕ) (left : List (List ℕ)) → HasWeighedLines chosen old (records_of chosen bytes) left new → left ≡ [] → AddsLines chosen old bytes new
-weighed_lines_all chosen old new bytes left so none =
+pub weighed_lines_all : (chosen : Weighing) (old new : Sketch) (n m : ℕ) (bytes : List ℕ) (left : List (List ℕ)) → HasWeighedLines chosen old n (records_of chosen bytes) left new m → left ≡ [] → AddsLines chosen old bytes new
+weighed_lines_all chosen old new n m bytes left so none =
     let whole : so.done ≡ records_of chosen bytes = sym (so.parts ∙ (ap (λ (l : List (List ℕ)). so.done ++ l) none ∙ append-nil so.done)) in (
       subst (λ (l : List (List ℕ)). AddsWeighed old (flat_map (weighed_of_line chosen) l) new) whole so.added,
       ap (flat_map (unweighed_of_line chosen)) (sym whole) ∙ so.weighed,
     )
 
+pub weighed_lines_numbered : (chosen : Weighing) (old new : Sketch) (n m : ℕ) (all left : List (List ℕ)) → HasWeighedLines chosen old n all left new m → left ≡ [] → GrowsBy n (lines_counted chosen all) m
+weighed_lines_numbered chosen old new n m all left so none =
+    subst (λ (l : List (List ℕ)). GrowsBy n (lines_counted chosen l) m) (sym (so.parts ∙ (ap (λ (l : List (List ℕ)). so.done ++ l) none ∙ append-nil so.done))) so.numbers
+
 -- a failure at one more line
-pub weighed_lines_failed : (chosen : Weighing) (old mid : Sketch) (bytes : List ℕ) (left later : List (List ℕ)) (line : List ℕ) (e : Failure) → HasWeighedLines chosen old (records_of chosen bytes) left mid → left ≡ line ∷ later → FailsLine chosen mid line e → FailsLines chosen old bytes e
-weighed_lines_failed chosen old mid bytes left later line e so next f =
+pub weighed_lines_failed : (chosen : Weighing) (old mid : Sketch) (n m number : ℕ) (bytes : List ℕ) (left later : List (List ℕ)) (line : List ℕ) (e : Failure) → HasWeighedLines chosen old n (records_of chosen bytes) left mid m → left ≡ line ∷ later → number ≡ min (m + 1) (2 ^ 64 - 1) → FailsLine chosen mid number line e → FailsLines chosen old n bytes e
+weighed_lines_failed chosen old mid n m number bytes left later line e so next is f =
     let items : List ℕ → Weighed = weighed_of_line chosen in
-    let bad : List ℕ → List (List ℕ) = unweighed_of_line chosen in
+    let First : ℕ → List (List ℕ) → ℕ → Type 0 = λ count rows at. IsFirstUnweighed (lines_counted chosen) (unweighed_of_line chosen) count rows at in
     let parts : records_of chosen bytes ≡ so.done ++ line ∷ later = so.parts ∙ ap (λ (l : List (List ℕ)). so.done ++ l) next in
     let pairs : weighed_of chosen bytes ≡ flat_map items so.done ++ flat_map items (line ∷ later) = ap (flat_map items) parts ∙ flat_map-append items so.done (line ∷ later) in
-    let unweighed : unweighed_of chosen bytes ≡ flat_map bad so.done ++ flat_map bad (line ∷ later) = ap (flat_map bad) parts ∙ flat_map-append bad so.done (line ∷ later) in
-    subst (λ (l : Weighed). FailsWeighing old l (unweighed_of chosen bytes) e) (sym pairs)
-    (subst (λ (l : List (List ℕ)). FailsWeighing old (flat_map items so.done ++ flat_map items (line ∷ later)) l e) (sym unweighed)
-    (weighing_fails_after old mid (flat_map items so.done) (flat_map items (line ∷ later)) (flat_map bad so.done) (flat_map bad (line ∷ later)) e so.added
-    (weighing_fails_more mid (items line) (flat_map items later) (bad line) (flat_map bad later) e f)))
+    subst (λ (l : Weighed). FailsWeighing old l (First n (records_of chosen bytes)) e) (sym pairs)
+    (subst (λ (l : List (List ℕ)). FailsWeighing old (flat_map items so.done ++ flat_map items (line ∷ later)) (First n l) e) (sym parts)
+    (weighing_fails_after old mid (flat_map items so.done) (flat_map items (line ∷ later)) (First m (line ∷ later)) (First n (so.done ++ line ∷ later))
+    (λ at. first_later (lines_counted chosen) (unweighed_of_line chosen) (counted_append chosen) n m at so.done (line ∷ later) so.numbers so.weighed) e so.added
+    (weighing_fails_more mid (items line) (flat_map items later) (IsUnweighedAt (unweighed_of_line chosen) line number) (First m (line ∷ later))
+    (λ at. first_here (lines_counted chosen) (unweighed_of_line chosen) (none_counted chosen) m number at line later is) e f)))
 
 -- ---- one line
 
@@ -183,8 +193,8 @@ item_added old new item weight zero step stands budget = ⊎_elim
     (cases_lt 0 weight)
 
 -- it was not added
-pub item_failed : (old : Sketch) (item : List ℕ) (weight : ℕ) (unweighed : List (List ℕ)) (e : ErrorValue) → (Overflows old weight → e ≡ invalid_argument WeightOverflow) → (TotalHasRoom old weight → e ≡ no_memory) → FailsWeighing old (with_weight (item ∷ []) (Some weight)) unweighed (failure_of e.fault)
-item_failed old item weight unweighed e overflow memory = ⊎_elim
+pub item_failed : (old : Sketch) (item : List ℕ) (weight : ℕ) (bad : ℕ → Type 0) (e : ErrorValue) → (Overflows old weight → e ≡ invalid_argument WeightOverflow) → (TotalHasRoom old weight → e ≡ no_memory) → FailsWeighing old (with_weight (item ∷ []) (Some weight)) bad (failure_of e.fault)
+item_failed old item weight bad e overflow memory = ⊎_elim
     (λ room. rw (memory room) tt)
     (λ full. rw (overflow full) (omega (arith, full, total_with item weight)))
     (cases_lt (old.total + weight) (2 ^ 64))
@@ -208,8 +218,8 @@ module _ (part : WeighedPart) (line item : List ℕ) (weight : ℕ) (is : part_o
   )
 
   -- the weight was not added
-  pub line_failed : (old : Sketch) (e : ErrorValue) → (Overflows old weight → e ≡ invalid_argument WeightOverflow) → (TotalHasRoom old weight → e ≡ no_memory) → FailsLine (weighing.Field part) old line (failure_of e.fault)
-  line_failed old e overflow memory = ⊎_elim
+  pub line_failed : (old : Sketch) (number : ℕ) (e : ErrorValue) → (Overflows old weight → e ≡ invalid_argument WeightOverflow) → (TotalHasRoom old weight → e ≡ no_memory) → FailsLine (weighing.Field part) old number line (failure_of e.fault)
+  line_failed old number e overflow memory = ⊎_elim
       (λ room. rw (memory room) tt)
       (λ full. rw (overflow full) (let one : total_of (weighed_of_line (weighing.Field part) line) ≡ weight = ap total_of of_line ∙ total_with item weight in omega (arith, full, one)))
       (cases_lt (old.total + weight) (2 ^ 64))
@@ -230,17 +240,26 @@ line_without_item part old line none = (
 )
 
 -- a line has an item and no weight
-pub line_without_weight : (part : WeighedPart) (old : Sketch) (line item : List ℕ) (e : Failure) → part_of part.item (utf8_lossy line) ≡ item ∷ [] → None ≡ line_weight part line → IsBadWeight e → FailsLine (weighing.Field part) old line e
-line_without_weight part old line item Memory is none fails = tt
-line_without_weight part old line item LineTooLong is none fails = absurd fails
-line_without_weight part old line item TooManyItems is none fails = absurd fails
-line_without_weight part old line item BadSize is none fails = absurd fails
-line_without_weight part old line item (failures.BadWeight found) is none fails =
+pub line_without_weight : (part : WeighedPart) (old : Sketch) (number : ℕ) (line item : List ℕ) (e : Failure) → part_of part.item (utf8_lossy line) ≡ item ∷ [] → None ≡ line_weight part line → IsBadWeight number e → FailsLine (weighing.Field part) old number line e
+line_without_weight part old number line item Memory is none fails = tt
+line_without_weight part old number line item LineTooLong is none fails = absurd fails
+line_without_weight part old number line item TooManyItems is none fails = absurd fails
+line_without_weight part old number line item BadSize is none fails = absurd fails
+line_without_weight part old number line item (failures.BadWeight found) is none fails =
     let one : unweighed_of_line (weighing.Field part) line ≡ item ∷ [] = ap (without_weight (part_of part.item (utf8_lossy line))) (sym none) ∙ is in
-    omega (arith, ap (λ (l : List (List ℕ)). length l) one)
-line_without_weight part old line item (Write error) is none fails = absurd fails
+    (omega (arith, ap (λ (l : List (List ℕ)). length l) one), fails)
+line_without_weight part old number line item (Write error) is none fails = absurd fails
 
 -- ---- one record
+
+-- an item has a weight, and its addition fails
+none_bad : (old : Sketch) (pairs : Weighed) (bad : ℕ → Type 0) (e : Failure) → FailsWeighing old pairs (λ _. ⊥) e → FailsWeighing old pairs bad e
+none_bad old pairs bad Memory f = tt
+none_bad old pairs bad LineTooLong f = f
+none_bad old pairs bad TooManyItems f = f
+none_bad old pairs bad BadSize f = f
+none_bad old pairs bad (failures.BadWeight found) f = absurd f
+none_bad old pairs bad (Write error) f = f
 
 module _ (chosen : WeighedRecord) (row item : List ℕ) (is : part_in chosen.item row ≡ item ∷ []) where
   one_item : items_of_record chosen row ≡ utf8_lossy item ∷ []
@@ -256,21 +275,21 @@ module _ (chosen : WeighedRecord) (row item : List ℕ) (is : part_in chosen.ite
     pub row_added : (old new : Sketch) → AddsWeighed old (with_weight (utf8_lossy item ∷ []) (Some weight)) new → AddsLine (weighing.Record chosen) old row new
     row_added old new added = (subst (λ (l : Weighed). AddsWeighed old l new) (sym of_row) added, row_weighed)
 
-    pub row_failed : (old : Sketch) (e : Failure) → FailsWeighing old (with_weight (utf8_lossy item ∷ []) (Some weight)) [] e → FailsLine (weighing.Record chosen) old row e
-    row_failed old e f =
-        subst (λ (l : List (List ℕ)). FailsWeighing old (weighed_of_line (weighing.Record chosen) row) l e) (sym row_weighed)
-        (subst (λ (l : Weighed). FailsWeighing old l [] e) (sym of_row) f)
+    pub row_failed : (old : Sketch) (number : ℕ) (e : Failure) → FailsWeighing old (with_weight (utf8_lossy item ∷ []) (Some weight)) (λ _. ⊥) e → FailsLine (weighing.Record chosen) old number row e
+    row_failed old number e f =
+        subst (λ (l : Weighed). FailsWeighing old l (IsUnweighedAt (unweighed_of_line (weighing.Record chosen)) row number) e) (sym of_row)
+        (none_bad old (with_weight (utf8_lossy item ∷ []) (Some weight)) (IsUnweighedAt (unweighed_of_line (weighing.Record chosen)) row number) e f)
 
   -- a record has an item and no weight
-  pub row_without_weight : (old : Sketch) (e : Failure) → None ≡ counted_weight chosen row → IsBadWeight e → FailsLine (weighing.Record chosen) old row e
-  row_without_weight old Memory none fails = tt
-  row_without_weight old LineTooLong none fails = absurd fails
-  row_without_weight old TooManyItems none fails = absurd fails
-  row_without_weight old BadSize none fails = absurd fails
-  row_without_weight old (failures.BadWeight found) none fails =
+  pub row_without_weight : (old : Sketch) (number : ℕ) (e : Failure) → None ≡ counted_weight chosen row → IsBadWeight number e → FailsLine (weighing.Record chosen) old number row e
+  row_without_weight old number Memory none fails = tt
+  row_without_weight old number LineTooLong none fails = absurd fails
+  row_without_weight old number TooManyItems none fails = absurd fails
+  row_without_weight old number BadSize none fails = absurd fails
+  row_without_weight old number (failures.BadWeight found) none fails =
       let one : unweighed_of_line (weighing.Record chosen) row ≡ utf8_lossy item ∷ [] = ap (without_weight (items_of_record chosen row)) (sym none) ∙ one_item in
-      omega (arith, ap (λ (l : List (List ℕ)). length l) one)
-  row_without_weight old (Write error) none fails = absurd fails
+      (omega (arith, ap (λ (l : List (List ℕ)). length l) one), fails)
+  row_without_weight old number (Write error) none fails = absurd fails
 
 -- a record has no item
 pub row_without_item : (chosen : WeighedRecord) (old : Sketch) (row : List ℕ) → part_in chosen.item row ≡ [] → AddsLine (weighing.Record chosen) old row old

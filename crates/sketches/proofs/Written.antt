@@ -10,7 +10,8 @@ use Rattle.sketch_bloom.specs.State.{FilterState, all_inserted, contains_item, i
 use Rattle.sketch_bloom.proofs.SetAlgebra.{inserted_is_contained, union_keeps}
 use Rattle.sketch_frequencies.proofs.KeyedBatches.{all_zip_push}
 use Rattle.sketches.specs.Failures.{FailsWriting, FailsWrittenLines}
-use Rattle.sketches.specs.Inputs.{FailsAmong, FailsInputs, HaveLongRecord, TakesEach, TakesFirst, TakesInputs}
+use Rattle.sketches.specs.Inputs.{FailsAmong, FailsBegun, FailsInputs, HaveLongRecord, TakesBegun, TakesEach, TakesFirst, TakesInputs}
+use Rattle.sketches.proofs.Begun.{Unchanged, unchanged_failed, unchanged_taken}
 use Rattle.sketches.specs.Outputs.{WritesFront}
 use Rattle.sketches.specs.Reading.{AreFirstRecords}
 use Rattle.sketches.specs.RecordParts.{raws_by}
@@ -94,10 +95,10 @@ module _ {W : Type 0} (contents : W → Option (List ℕ)) where
       (part ∙ same_part, repeated ∙ same_repeated)
 
   pub written : (header : List ℕ) (held : Option (List ℕ)) (was : Option (List (List ℕ))) (fails : List Bool) (complete : Bool) (old new : UnseenLines × W)
-      → Appends held (contents old.1) header → TakesInputs (splits_by old.0.part) Chooses was fails complete old new
+      → Appends held (contents old.1) header → TakesInputs (splits_by old.0.part) (TakesBegun Unchanged Chooses) was fails complete old new
       → IfSome was (λ inputs. WritesUnseen old.0.written.form old.0.repeated old.0.part header old.0.filter new.0.filter inputs fails held (contents new.1))
   written header held None fails complete old new begins taken = tt
-  written header held (Some inputs) fails complete old new begins (is, (read, are, each)) = record {
+  written header held (Some inputs) fails complete old new begins taken = let (is, (read, are, each)) = unchanged_taken Chooses (splits_by old.0.part) (Some inputs) fails complete old new taken in record {
     read = read;
     are = are;
     written =
@@ -163,12 +164,12 @@ module _ {W : Type 0} (contents : W → Option (List ℕ)) where
       }
 
   pub some_written : (write_error : W → Option Error) (limit : ℕ) (header : List ℕ) (held : Option (List ℕ)) (was : Option (List (List ℕ))) (old new : UnseenLines × W) (e : Failure) → Appends held (contents old.1) header
-      → FailsInputs (splits_by old.0.part) Chooses (FailsChoosing write_error) limit was old new e → IfSome was (SomeUnseen header held old new)
+      → FailsInputs (splits_by old.0.part) (TakesBegun Unchanged Chooses) (FailsChoosing write_error) (FailsBegun Unchanged (FailsChoosing write_error)) limit was old new e → IfSome was (SomeUnseen header held old new)
   some_written write_error limit header held None old new e begins failed = tt
   some_written write_error limit header held (Some inputs) old new e begins failed = ⊎_elim
       (λ stops. stopped header held old new inputs begins stops.1)
       (λ taking. failed_among write_error header held old new inputs e begins taking.known)
-      failed
+      (unchanged_failed Chooses (FailsChoosing write_error) (splits_by old.0.part) limit (Some inputs) old new e failed)
 
 -- the header alone, or nothing
 pub header_written : (form : RecordForm) (repeated : Bool) (part : RecordPart) (header : List ℕ) (filter : FilterState) (was : Option (List (List ℕ))) (held holds : Option (List ℕ)) → WritesFront held holds header → IfSome was (λ inputs. WritesSomeUnseen form repeated part header filter inputs held holds)
@@ -189,7 +190,7 @@ pub lines_failed : (part : RecordPart) (limit : ℕ) (was : Option (List (List �
 lines_failed part limit was write_error e stops = ⊎_elim (λ memory. rw memory tt) (λ long. rw long.0 long.1) stops
 
 module _ {W : Type 0} (contents : W → Option (List ℕ)) (write_error : W → Option Error) where
-  pub unseen_failed : (limit : ℕ) (was : Option (List (List ℕ))) (old new : UnseenLines × W) (e : Failure) → FailsInputs (splits_by old.0.part) (Chooses contents) (FailsChoosing contents write_error) limit was old new e → FailsWrittenLines old.0.part limit was (write_error new.1) e
+  pub unseen_failed : (limit : ℕ) (was : Option (List (List ℕ))) (old new : UnseenLines × W) (e : Failure) → FailsInputs (splits_by old.0.part) (TakesBegun Unchanged (Chooses contents)) (FailsChoosing contents write_error) (FailsBegun Unchanged (FailsChoosing contents write_error)) limit was old new e → FailsWrittenLines old.0.part limit was (write_error new.1) e
   unseen_failed limit was old new e failed = ⊎_elim
       (λ stops. lines_failed old.0.part limit was (write_error new.1) e stops.0)
       (λ taking. writing_failed old.0.part limit was (write_error new.1) e taking.some.2.0)

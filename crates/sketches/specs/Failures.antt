@@ -7,7 +7,8 @@ use Rattle.sketch_frequencies.specs.Sizes.{size_fault}
 use Rattle.sketches.specs.Added.{Sketch}
 use Rattle.sketches.specs.Inputs.{HaveLongRecord}
 use Rattle.sketch_text.specs.Records.{splits_by}
-use Rattle.sketches.specs.Weighed.{Weighed, splits_of, total_of, unweighed_of, unweighed_of_line, weighed_of, weighed_of_line}
+use Rattle.sketches.specs.LineNumbers.{HaveUnweighed, IsFirstUnweighed, IsUnweighedAt, lines_counted}
+use Rattle.sketches.specs.Weighed.{Weighed, records_of, splits_of, total_of, unweighed_of_line, weighed_of, weighed_of_line}
 use Rattle.sketches.specs.declared.failure.Failure.{Failure}
 use Rattle.sketches.specs.declared.failure.Failure.TheVariants.{Memory, LineTooLong, TooManyItems, BadSize, BadWeight, Write}
 use Rattle.sketches.specs.declared.filter_size.FilterSize.{FilterSize}
@@ -29,33 +30,35 @@ FailsAdding old strings Memory = Unit {0}
 FailsAdding old strings TooManyItems = 2 ^ 64 ≤ old.total + length strings
 FailsAdding old strings _ = ⊥
 
--- while items are added with their weights, the memory is exhausted, the total would exceed `u64::MAX`, or an item has no weight
-abbrev pub FailsWeighing : Sketch → Weighed → (unweighed : List (List ℕ)) → Failure → Type 0
-FailsWeighing old pairs unweighed Memory = Unit {0}
-FailsWeighing old pairs unweighed TooManyItems = 2 ^ 64 ≤ old.total + total_of pairs
-FailsWeighing old pairs unweighed (BadWeight found) = 0 < length unweighed
-FailsWeighing old pairs unweighed _ = ⊥
+-- while items are added with their weights, the memory is exhausted, the total would exceed `u64::MAX`, or an item has no weight. `bad` holds
+-- of the number of its line
+abbrev pub FailsWeighing : Sketch → Weighed → (bad : ℕ → Type 0) → Failure → Type 0
+FailsWeighing old pairs bad Memory = Unit {0}
+FailsWeighing old pairs bad TooManyItems = 2 ^ 64 ≤ old.total + total_of pairs
+FailsWeighing old pairs bad (BadWeight found) = bad found.line
+FailsWeighing old pairs bad _ = ⊥
 
--- the memory is exhausted, or an item has no weight
-abbrev pub IsBadWeight : Failure → Type 0
-IsBadWeight Memory = Unit {0}
-IsBadWeight (BadWeight found) = Unit {0}
-IsBadWeight _ = ⊥
+-- the memory is exhausted, or an item has no weight, and its line has this number
+abbrev pub IsBadWeight : (number : ℕ) → Failure → Type 0
+IsBadWeight number Memory = Unit {0}
+IsBadWeight number (BadWeight found) = found.line ≡ number
+IsBadWeight number _ = ⊥
 
--- why the items of lines are not added, and those of one line
-abbrev pub FailsLines : Weighing → Sketch → List ℕ → Failure → Type 0
-FailsLines chosen old bytes failure = FailsWeighing old (weighed_of chosen bytes) (unweighed_of chosen bytes) failure
+-- why the items of lines are not added, which come after `count` lines of their input, and those of one line, which has the number `number`
+abbrev pub FailsLines : Weighing → Sketch → (count : ℕ) → List ℕ → Failure → Type 0
+FailsLines chosen old count bytes failure = FailsWeighing old (weighed_of chosen bytes) (IsFirstUnweighed (lines_counted chosen) (unweighed_of_line chosen) count (records_of chosen bytes)) failure
 
-abbrev pub FailsLine : Weighing → Sketch → List ℕ → Failure → Type 0
-FailsLine chosen old line failure = FailsWeighing old (weighed_of_line chosen line) (unweighed_of_line chosen line) failure
+abbrev pub FailsLine : Weighing → Sketch → (number : ℕ) → List ℕ → Failure → Type 0
+FailsLine chosen old number line failure = FailsWeighing old (weighed_of_line chosen line) (IsUnweighedAt (unweighed_of_line chosen) line number) failure
 
 -- A report is not written, or not whole. Memory may be exhausted at any time. `output` holds of the error of the output.
 -- Otherwise a line has more bytes than the limit, the weights of all items are at least 2^64, a line with an item has no weight, or the size is not allowed.
+-- The error of a line without a weight has the number of this line.
 abbrev pub FailsTop : Options → Option (List (List ℕ)) → (output : Error → Type 0) → Failure → Type 0
 FailsTop options was output Memory = Unit {0}
 FailsTop options was output LineTooLong = IfSome was (HaveLongRecord (splits_of options.weighing) (options.max_line + 1))
 FailsTop options was output TooManyItems = IfSome was (λ inputs. 2 ^ 64 ≤ total_of (flat_map (weighed_of options.weighing) inputs))
-FailsTop options was output (BadWeight found) = IfSome was (λ inputs. 0 < length (flat_map (unweighed_of options.weighing) inputs))
+FailsTop options was output (BadWeight found) = IfSome was (λ inputs. HaveUnweighed (splits_of options.weighing) (unweighed_of_line options.weighing) inputs found.line)
 FailsTop options was output BadSize = IsSome (size_fault options.size)
 FailsTop options was output (Write error) = output error
 

@@ -30,6 +30,16 @@ pub record HaveLongRecord (records : Records) (limit : ℕ) (inputs : List (List
   pub parts : inputs ≡ earlier ++ input ∷ later
   pub long : HasLongRecord records limit input
 
+-- `begins old new`: a sink begins with the records of an input
+module _ {S O : Type 0} (begins : S → S → Type 0) where
+  -- the records of an input were taken by a sink that began with it
+  abbrev pub TakesBegun : (takes : S × O → List ℕ → S × O → Type 0) → S × O → List ℕ → S × O → Type 0
+  TakesBegun takes old bytes new = (begun : S) × begins old.0 begun × takes (begun, old.1) bytes new
+
+  -- the failure may come while they are taken
+  abbrev pub FailsBegun : (fails : S × O → List ℕ → S × O → Failure → Type 0) → S × O → List ℕ → S × O → Failure → Type 0
+  FailsBegun fails old bytes new failure = (begun : S) × begins old.0 begun × fails (begun, old.1) bytes new failure
+
 module _ {S : Type 0} (takes : S → List ℕ → S → Type 0) where
   -- the records of each list were taken, in order
   abbrev pub TakesEach : S → List (List ℕ) → S → Type 0
@@ -70,10 +80,12 @@ module _ (records : Records) {S : Type 0} (takes : S → List ℕ → S → Type
       pub taken : TakesEach takes old read mid
       pub reason : fails mid input new failure
 
+  -- the same of records of any input (`may`), and of whole inputs
+  module _ (may fails : S → List ℕ → S → Failure → Type 0) where
     -- the failure may come while records are taken, and while those of these inputs are, if they are known
     pub record FailsTakingInputs (was : Option (List (List ℕ))) (old new : S) (failure : Failure) : Type 0 where
-      pub some : (s : S) × (bytes : List ℕ) × fails s bytes new failure
-      pub known : IfSome was (λ inputs. FailsAmong inputs old new failure)
+      pub some : (s : S) × (bytes : List ℕ) × may s bytes new failure
+      pub known : IfSome was (λ inputs. FailsAmong fails inputs old new failure)
 
     -- no memory, a record of at least `limit` bytes, or a failure while records are taken
     abbrev pub FailsInputs : ℕ → Option (List (List ℕ)) → (old new : S) → Failure → Type 0

@@ -8,7 +8,8 @@ use Rattle.std.specs.declared.io.Error.{Error}
 use Rattle.std.specs.declared.vec.Vec.{Vec}
 use Rattle.sketch_text.specs.Records.{records_by, splits_by}
 use Rattle.sketches.specs.Inputs.{AreRead, HaveLongRecord}
-use Rattle.sketches.specs.KeyWeights.{Row, parts_in, row_line, total_line, unweighed_in, unweighed_lines, weighed_in, weighed_lines}
+use Rattle.sketches.specs.KeyWeights.{Row, parts_in, row_line, total_line, unweighed_in, unweighed_line, unweighed_lines, weighed_in, weighed_lines}
+use Rattle.sketches.specs.LineNumbers.{HaveUnweighed}
 use Rattle.sketches.specs.Outputs.{WritesFront}
 use Rattle.sketches.specs.Reading.{HasLongRecord}
 use Rattle.sketches.specs.Skipped.{skipped_rows}
@@ -77,12 +78,13 @@ FailsFileKeys options limit keys fails (Keys failure) = FailsKeys options limit 
 FailsFileKeys options limit keys fails (Weights failure) = ⊥
 
 -- While the inputs are read and lines are written, memory may be exhausted, or a write has failed with this error. Otherwise a record of an input has
--- more bytes than the limit, the total of the inputs is at least 2^64, or a record of an input with an item has no weight that counts.
+-- more bytes than the limit, the total of the inputs is at least 2^64, or a record of an input with an item has no weight that counts. The
+-- error of such a record has the number of its first line.
 abbrev pub FailsSums : WeighedRecord → (limit : ℕ) → Option (List (List ℕ)) → (write_error : Option Error) → Failure → Type 0
 FailsSums chosen limit was write_error Memory = Unit {0}
 FailsSums chosen limit was write_error LineTooLong = IfSome was (HaveLongRecord (splits_by chosen.item) limit)
 FailsSums chosen limit was write_error TooManyItems = IfSome was (λ inputs. 2 ^ 64 ≤ total_of (weighed_in chosen inputs))
-FailsSums chosen limit was write_error (BadWeight found) = IfSome was (λ inputs. 0 < length (unweighed_in chosen inputs))
+FailsSums chosen limit was write_error (BadWeight found) = IfSome was (λ inputs. HaveUnweighed (splits_by chosen.item) (unweighed_line chosen) inputs found.line)
 FailsSums chosen limit was write_error BadSize = ⊥
 FailsSums chosen limit was write_error (Write error) = write_error ≡ Some error
 

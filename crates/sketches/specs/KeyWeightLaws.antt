@@ -1,5 +1,5 @@
 -- The laws of items with weights that are added one after another, and of estimates that are written.
-use Rattle.std.proofs.Common.{◌≡◌, ℕ, ◌+◌, List, [], ◌∷◌, ◌++◌, map, Option, Some, ℤ, append_assoc, append-nil, refl, sym, ◌∙◌, ap, subst, arith, length-append}
+use Rattle.std.proofs.Common.{◌≡◌, ℕ, ◌+◌, ◌-◌, ◌^◌, List, [], ◌∷◌, ◌++◌, map, min, Option, Some, ℤ, append_assoc, append-nil, refl, sym, ◌∙◌, ap, subst, arith}
 use Rattle.std.proofs.lemmas.List.{map-append}
 use Rattle.std.proofs.lemmas.List.Concat.{flat_map-append}
 use Rattle.std.proofs.lemmas.List.Elements.{All-append, All-nil}
@@ -12,12 +12,15 @@ use Rattle.sketch_countmin.specs.Stands.{StandsFor}
 use Rattle.sketch_countmin.specs.State.{CountState, IsMinCell}
 use Rattle.sketches.specs.AddingLaws.{no_records, records_both}
 use Rattle.sketches.specs.KeyWeights.{CountsLines, CountsWeighed, Row, WritesEstimates, WritesSomeEstimates, counted, parts_in, row_line, unweighed_line, unweighed_lines, weighed_line, weighed_lines}
+use Rattle.sketches.specs.LineNumberLaws.{first_here, first_later, first_sooner, lines_append}
+use Rattle.sketches.specs.LineNumbers.{IsFirstUnweighed, IsUnweighedAt, lines_of}
 use Rattle.sketches.specs.Outputs.{WritesFront}
 use Rattle.sketches.specs.Reading.{AreWholeRecords}
 use Rattle.sketch_text.specs.Records.{part_in, records_by, splits_by}
 use Rattle.sketches.specs.Unseen.{hashed}
 use Rattle.sketches.specs.Appending.{appends_none, appends_both, front_after, front_all, front_none}
-use Rattle.sketches.specs.WeighFailures.{FailsCounting, FailsLines}
+use Rattle.sketches.specs.Utf8Lines.{GrowsBy}
+use Rattle.sketches.specs.WeighFailures.{FailsCounting, FailsLines, FailsRecord}
 use Rattle.sketches.specs.Weighed.{Weighed, total_of}
 use Rattle.sketches.specs.WeighingLaws.{total_both}
 use Rattle.sketches.specs.declared.failure.Failure.{Failure}
@@ -42,22 +45,22 @@ weighed_both a b c xs ys s t = record {
 }
 
 -- a failure may come if more items follow
-fails_more : (a : ℕ) (xs ys : Weighed) (us vs : List (List ℕ)) (e : Failure) → FailsCounting a xs us e → FailsCounting a (xs ++ ys) (us ++ vs) e
-fails_more a xs ys us vs Memory f = tt
-fails_more a xs ys us vs LineTooLong f = f
-fails_more a xs ys us vs TooManyItems f = omega (arith, f, total_both xs ys)
-fails_more a xs ys us vs BadSize f = f
-fails_more a xs ys us vs (BadWeight found) f = omega (arith, f, length-append us vs)
-fails_more a xs ys us vs (Write error) f = f
+fails_more : (a : ℕ) (xs ys : Weighed) (bad worse : ℕ → Type 0) → ((line : ℕ) → bad line → worse line) → (e : Failure) → FailsCounting a xs bad e → FailsCounting a (xs ++ ys) worse e
+fails_more a xs ys bad worse more Memory f = tt
+fails_more a xs ys bad worse more LineTooLong f = f
+fails_more a xs ys bad worse more TooManyItems f = omega (arith, f, total_both xs ys)
+fails_more a xs ys bad worse more BadSize f = f
+fails_more a xs ys bad worse more (BadWeight found) f = more found.line f
+fails_more a xs ys bad worse more (Write error) f = f
 
 -- a failure may come if more items are added before
-fails_after : (a b : ℕ) (xs ys : Weighed) (us vs : List (List ℕ)) (e : Failure) → b ≡ a + total_of xs → FailsCounting b ys vs e → FailsCounting a (xs ++ ys) (us ++ vs) e
-fails_after a b xs ys us vs Memory s f = tt
-fails_after a b xs ys us vs LineTooLong s f = f
-fails_after a b xs ys us vs TooManyItems s f = omega (arith, f, s, total_both xs ys)
-fails_after a b xs ys us vs BadSize s f = f
-fails_after a b xs ys us vs (BadWeight found) s f = omega (arith, f, length-append us vs)
-fails_after a b xs ys us vs (Write error) s f = f
+fails_after : (a b : ℕ) (xs ys : Weighed) (bad worse : ℕ → Type 0) → ((line : ℕ) → bad line → worse line) → (e : Failure) → b ≡ a + total_of xs → FailsCounting b ys bad e → FailsCounting a (xs ++ ys) worse e
+fails_after a b xs ys bad worse more Memory s f = tt
+fails_after a b xs ys bad worse more LineTooLong s f = f
+fails_after a b xs ys bad worse more TooManyItems s f = omega (arith, f, s, total_both xs ys)
+fails_after a b xs ys bad worse more BadSize s f = f
+fails_after a b xs ys bad worse more (BadWeight found) s f = more found.line f
+fails_after a b xs ys bad worse more (Write error) s f = f
 
 -- ---- the items of records
 
@@ -83,14 +86,24 @@ module _ (p : WeighedRecord) where
     unweighed_append xs ys ∙ (ap (λ l. l ++ unweighed_lines p ys) each ∙ each'),
   )
 
-  pub one_fails : (a : ℕ) (line : List ℕ) (e : Failure) → FailsCounting a (weighed_line p line) (unweighed_line p line) e → FailsLines p a (line ∷ []) e
-  one_fails a line e f = fails_more a (weighed_line p line) [] (unweighed_line p line) [] e f
+  -- the first record without a weight
+  abbrev IsFirst : (count : ℕ) → List (List ℕ) → (line : ℕ) → Type 0
+  IsFirst count rows line = IsFirstUnweighed (lines_of (splits_by p.item)) (unweighed_line p) count rows line
 
-  pub lines_sooner : (a : ℕ) (xs ys : List (List ℕ)) (e : Failure) → FailsLines p a xs e → FailsLines p a (xs ++ ys) e
-  lines_sooner a xs ys e f = rw (weighed_append xs ys, unweighed_append xs ys) (fails_more a (weighed_lines p xs) (weighed_lines p ys) (unweighed_lines p xs) (unweighed_lines p ys) e f)
+  -- a failure at the first of records
+  pub one_fails : (a n number : ℕ) (row : List ℕ) (later : List (List ℕ)) (e : Failure) → number ≡ min (n + 1) (2 ^ 64 - 1) → FailsRecord p a number row e → FailsLines p a n (row ∷ later) e
+  one_fails a n number row later e is f =
+      fails_more a (weighed_line p row) (weighed_lines p later) (IsUnweighedAt (unweighed_line p) row number) (IsFirst n (row ∷ later))
+      (λ line. first_here (lines_of (splits_by p.item)) (unweighed_line p) refl n number line row later is) e f
 
-  pub lines_later : (a b : ℕ) (xs ys : List (List ℕ)) (e : Failure) → b ≡ a + total_of (weighed_lines p xs) → FailsLines p b ys e → FailsLines p a (xs ++ ys) e
-  lines_later a b xs ys e adds f = rw (weighed_append xs ys, unweighed_append xs ys) (fails_after a b (weighed_lines p xs) (weighed_lines p ys) (unweighed_lines p xs) (unweighed_lines p ys) e adds f)
+  pub lines_sooner : (a n : ℕ) (xs ys : List (List ℕ)) (e : Failure) → FailsLines p a n xs e → FailsLines p a n (xs ++ ys) e
+  lines_sooner a n xs ys e f = rw (weighed_append xs ys)
+      (fails_more a (weighed_lines p xs) (weighed_lines p ys) (IsFirst n xs) (IsFirst n (xs ++ ys)) (λ line. first_sooner (lines_of (splits_by p.item)) (unweighed_line p) n line xs ys) e f)
+
+  pub lines_later : (a b n m : ℕ) (xs ys : List (List ℕ)) (e : Failure) → b ≡ a + total_of (weighed_lines p xs) → unweighed_lines p xs ≡ [] → GrowsBy n (lines_of (splits_by p.item) xs) m → FailsLines p b m ys e → FailsLines p a n (xs ++ ys) e
+  lines_later a b n m xs ys e adds weighed grows f = rw (weighed_append xs ys)
+      (fails_after a b (weighed_lines p xs) (weighed_lines p ys) (IsFirst m ys) (IsFirst n (xs ++ ys))
+      (λ line. first_later (lines_of (splits_by p.item)) (unweighed_line p) (lines_append (splits_by p.item)) n m line xs ys grows weighed) e adds f)
 
 -- ---- the records of bytes
 
@@ -111,12 +124,13 @@ module _ (p : WeighedRecord) (xs ys : List ℕ) (whole : AreWholeRecords (splits
     same' ∙ same,
   )
 
-  pub counts_sooner : (a : ℕ) (e : Failure) → FailsLines p a (records_by p.item xs) e → FailsLines p a (records_by p.item (xs ++ ys)) e
-  counts_sooner a e f = subst (λ l. FailsLines p a l e) (sym both_records) (lines_sooner p a (records_by p.item xs) (records_by p.item ys) e f)
+  pub counts_sooner : (a n : ℕ) (e : Failure) → FailsLines p a n (records_by p.item xs) e → FailsLines p a n (records_by p.item (xs ++ ys)) e
+  counts_sooner a n e f = subst (λ l. FailsLines p a n l e) (sym both_records) (lines_sooner p a n (records_by p.item xs) (records_by p.item ys) e f)
 
-  pub counts_later : (a b : ℕ) (q : WeighedRecord) (e : Failure) → b ≡ a + total_of (weighed_lines p (records_by p.item xs)) → q ≡ p → FailsLines q b (records_by q.item ys) e → FailsLines p a (records_by p.item (xs ++ ys)) e
-  counts_later a b q e first same f =
-      subst (λ l. FailsLines p a l e) (sym both_records) (lines_later p a b (records_by p.item xs) (records_by p.item ys) e first (subst (λ (s : WeighedRecord). FailsLines s b (records_by s.item ys) e) same f))
+  pub counts_later : (a b n m : ℕ) (q : WeighedRecord) (e : Failure) → b ≡ a + total_of (weighed_lines p (records_by p.item xs)) → unweighed_lines p (records_by p.item xs) ≡ [] → q ≡ p → GrowsBy n (lines_of (splits_by p.item) (records_by p.item xs)) m → FailsLines q b m (records_by q.item ys) e → FailsLines p a n (records_by p.item (xs ++ ys)) e
+  counts_later a b n m q e first weighed same grows f =
+      subst (λ l. FailsLines p a n l e) (sym both_records)
+      (lines_later p a b n m (records_by p.item xs) (records_by p.item ys) e first weighed grows (subst (λ (s : WeighedRecord). FailsLines s b m (records_by s.item ys) e) same f))
 
 -- the parts of whole records and of the bytes after them
 pub parts_append : (part : RecordPart) (read more : List ℕ) → AreWholeRecords (splits_by part) read → parts_in part (read ++ more) ≡ parts_in part read ++ parts_in part more

@@ -22,6 +22,8 @@ pub mod KeySums
 pub mod KeyWeightLaws
 pub mod KeyWeights
 pub mod Keys
+pub mod LineNumberLaws
+pub mod LineNumbers
 pub mod Outputs
 pub mod RawLines
 pub mod Reading

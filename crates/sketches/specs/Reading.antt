@@ -94,9 +94,11 @@ module _ (records : Records) {S : Type 0} (fails : S → List ℕ → S → Fail
     pub whole : AreWholeRecords records taken
     pub reason : fails old taken new failure
 
+-- the same of records of any input (`may`), and of a whole input
+module _ {S : Type 0} (may fails : S → List ℕ → S → Failure → Type 0) where
   -- the failure may come while records are taken, and while those of this input are, if it is known
   pub record FailsTaking (input : Option (List ℕ)) (old new : S) (failure : Failure) : Type 0 where
-    pub some : (s : S) × (bytes : List ℕ) × fails s bytes new failure
+    pub some : (s : S) × (bytes : List ℕ) × may s bytes new failure
     pub known : IfSome input (λ bytes. fails old bytes new failure)
 
 module _ (records : Records) {S : Type 0} (takes : S → List ℕ → S → Type 0) where
@@ -107,5 +109,5 @@ module _ (records : Records) {S : Type 0} (takes : S → List ℕ → S → Type
       × IfSome input (λ bytes. (read : List ℕ) × AreFirstRecords records bytes read × takes old read new)
 
   -- this, or a failure while records are taken
-  abbrev pub FailsInput : (fails : S → List ℕ → S → Failure → Type 0) → ℕ → Option (List ℕ) → (old new : S) → Failure → Type 0
-  FailsInput fails limit input old new failure = StopsInput limit input old new failure ⊎ FailsTaking records fails input old new failure
+  abbrev pub FailsInput : (may fails : S → List ℕ → S → Failure → Type 0) → ℕ → Option (List ℕ) → (old new : S) → Failure → Type 0
+  FailsInput may fails limit input old new failure = StopsInput limit input old new failure ⊎ FailsTaking may fails input old new failure

@@ -1,5 +1,5 @@
 -- The laws of weights that are added one after another, and of the weighed items of lines.
-use Rattle.std.proofs.Common.{◌≡◌, ℕ, ◌+◌, List, [], ◌∷◌, ◌++◌, map, refl, sym, ◌∙◌, ap, subst, arith, length-append}
+use Rattle.std.proofs.Common.{◌≡◌, ℕ, ◌+◌, List, [], ◌∷◌, ◌++◌, map, refl, sym, ◌∙◌, ap, subst, arith}
 use Rattle.std.proofs.lemmas.List.{map-append}
 use Rattle.std.proofs.lemmas.List.Concat.{flat_map-append}
 use Rattle.std.proofs.lemmas.List.Sums.{sum_by-append}
@@ -15,7 +15,10 @@ use Rattle.sketches.specs.Added.{Sketch, AddsLines, AddsWeighed}
 use Rattle.sketch_text.specs.Records.{splits_by}
 use Rattle.sketches.specs.AddingLaws.{no_records, records_both}
 use Rattle.sketches.specs.Failures.{FailsLines, FailsWeighing}
+use Rattle.sketches.specs.LineNumberLaws.{counted_append, first_later, first_sooner}
+use Rattle.sketches.specs.LineNumbers.{IsFirstUnweighed, lines_counted}
 use Rattle.sketches.specs.Reading.{AreWholeRecords}
+use Rattle.sketches.specs.Utf8Lines.{GrowsBy}
 use Rattle.sketches.specs.Weighed.{Weighed, records_of, splits_of, total_of, unweighed_of, unweighed_of_line, weighed_of, weighed_of_line}
 use Rattle.sketches.specs.declared.failure.Failure.{Failure}
 use Rattle.sketches.specs.declared.failure.Failure.TheVariants.{Memory, LineTooLong, TooManyItems, BadSize, BadWeight, Write}
@@ -54,22 +57,22 @@ weighed_both a b c xs ys s t = record {
 }
 
 -- a failure may come if more items follow
-pub weighing_fails_more : (a : Sketch) (xs ys : Weighed) (us vs : List (List ℕ)) (e : Failure) → FailsWeighing a xs us e → FailsWeighing a (xs ++ ys) (us ++ vs) e
-weighing_fails_more a xs ys us vs Memory f = tt
-weighing_fails_more a xs ys us vs LineTooLong f = f
-weighing_fails_more a xs ys us vs TooManyItems f = omega (arith, f, total_both xs ys)
-weighing_fails_more a xs ys us vs BadSize f = f
-weighing_fails_more a xs ys us vs (BadWeight found) f = omega (arith, f, length-append us vs)
-weighing_fails_more a xs ys us vs (Write error) f = f
+pub weighing_fails_more : (a : Sketch) (xs ys : Weighed) (bad worse : ℕ → Type 0) → ((line : ℕ) → bad line → worse line) → (e : Failure) → FailsWeighing a xs bad e → FailsWeighing a (xs ++ ys) worse e
+weighing_fails_more a xs ys bad worse more Memory f = tt
+weighing_fails_more a xs ys bad worse more LineTooLong f = f
+weighing_fails_more a xs ys bad worse more TooManyItems f = omega (arith, f, total_both xs ys)
+weighing_fails_more a xs ys bad worse more BadSize f = f
+weighing_fails_more a xs ys bad worse more (BadWeight found) f = more found.line f
+weighing_fails_more a xs ys bad worse more (Write error) f = f
 
 -- a failure may come if more items are added before
-pub weighing_fails_after : (a b : Sketch) (xs ys : Weighed) (us vs : List (List ℕ)) (e : Failure) → AddsWeighed a xs b → FailsWeighing b ys vs e → FailsWeighing a (xs ++ ys) (us ++ vs) e
-weighing_fails_after a b xs ys us vs Memory s f = tt
-weighing_fails_after a b xs ys us vs LineTooLong s f = f
-weighing_fails_after a b xs ys us vs TooManyItems s f = omega (arith, f, s.total, total_both xs ys)
-weighing_fails_after a b xs ys us vs BadSize s f = f
-weighing_fails_after a b xs ys us vs (BadWeight found) s f = omega (arith, f, length-append us vs)
-weighing_fails_after a b xs ys us vs (Write error) s f = f
+pub weighing_fails_after : (a b : Sketch) (xs ys : Weighed) (bad worse : ℕ → Type 0) → ((line : ℕ) → bad line → worse line) → (e : Failure) → AddsWeighed a xs b → FailsWeighing b ys bad e → FailsWeighing a (xs ++ ys) worse e
+weighing_fails_after a b xs ys bad worse more Memory s f = tt
+weighing_fails_after a b xs ys bad worse more LineTooLong s f = f
+weighing_fails_after a b xs ys bad worse more TooManyItems s f = omega (arith, f, s.total, total_both xs ys)
+weighing_fails_after a b xs ys bad worse more BadSize s f = f
+weighing_fails_after a b xs ys bad worse more (BadWeight found) s f = more found.line f
+weighing_fails_after a b xs ys bad worse more (Write error) s f = f
 
 -- ---- the items of records
 
@@ -97,15 +100,24 @@ module _ (p : Weighing) (xs ys : List ℕ) (whole : AreWholeRecords (splits_of p
         same' ∙ same,
       )
 
-  both_lists : (a : Sketch) (e : Failure) → FailsWeighing a (weighed_of p xs ++ weighed_of p ys) (unweighed_of p xs ++ unweighed_of p ys) e → FailsLines p a (xs ++ ys) e
-  both_lists a e f =
-      subst (λ (l : Weighed). FailsWeighing a l (unweighed_of p (xs ++ ys)) e) (sym (weighed_append p xs ys whole))
-      (subst (λ (l : List (List ℕ)). FailsWeighing a (weighed_of p xs ++ weighed_of p ys) l e) (sym (unweighed_append p xs ys whole)) f)
+  -- the first record without a weight, among these records
+  abbrev IsFirst : (count : ℕ) → List (List ℕ) → (line : ℕ) → Type 0
+  IsFirst count rows line = IsFirstUnweighed (lines_counted p) (unweighed_of_line p) count rows line
 
-  pub lines_fail_sooner : (a : Sketch) (e : Failure) → FailsLines p a xs e → FailsLines p a (xs ++ ys) e
-  lines_fail_sooner a e f = both_lists a e (weighing_fails_more a (weighed_of p xs) (weighed_of p ys) (unweighed_of p xs) (unweighed_of p ys) e f)
+  both_lists : (a : Sketch) (n : ℕ) (e : Failure) → FailsWeighing a (weighed_of p xs ++ weighed_of p ys) (IsFirst n (records_of p xs ++ records_of p ys)) e → FailsLines p a n (xs ++ ys) e
+  both_lists a n e f =
+      subst (λ (l : Weighed). FailsWeighing a l (IsFirst n (records_of p (xs ++ ys))) e) (sym (weighed_append p xs ys whole))
+      (subst (λ (l : List (List ℕ)). FailsWeighing a (weighed_of p xs ++ weighed_of p ys) (IsFirst n l) e) (sym (records_both (splits_of p) xs ys whole)) f)
 
-  pub lines_fail_later : (a b : Sketch) (q : Weighing) (e : Failure) → AddsLines p a xs b × (q ≡ p) → FailsLines q b ys e → FailsLines p a (xs ++ ys) e
-  lines_fail_later a b q e (first, same) f =
-      both_lists a e
-      (weighing_fails_after a b (weighed_of p xs) (weighed_of p ys) (unweighed_of p xs) (unweighed_of p ys) e first.0 (subst (λ (s : Weighing). FailsLines s b ys e) same f))
+  pub lines_fail_sooner : (a : Sketch) (n : ℕ) (e : Failure) → FailsLines p a n xs e → FailsLines p a n (xs ++ ys) e
+  lines_fail_sooner a n e f =
+      both_lists a n e
+      (weighing_fails_more a (weighed_of p xs) (weighed_of p ys) (IsFirst n (records_of p xs)) (IsFirst n (records_of p xs ++ records_of p ys))
+      (λ line. first_sooner (lines_counted p) (unweighed_of_line p) n line (records_of p xs) (records_of p ys)) e f)
+
+  pub lines_fail_later : (a b : Sketch) (n m : ℕ) (q : Weighing) (e : Failure) → AddsLines p a xs b × (q ≡ p) → GrowsBy n (lines_counted p (records_of p xs)) m → FailsLines q b m ys e → FailsLines p a n (xs ++ ys) e
+  lines_fail_later a b n m q e (first, same) grows f =
+      both_lists a n e
+      (weighing_fails_after a b (weighed_of p xs) (weighed_of p ys) (IsFirst m (records_of p ys)) (IsFirst n (records_of p xs ++ records_of p ys))
+      (λ line. first_later (lines_counted p) (unweighed_of_line p) (counted_append p) n m line (records_of p xs) (records_of p ys) grows first.1) e first.0
+      (subst (λ (s : Weighing). FailsLines s b m ys e) same f))

@@ -1,11 +1,12 @@
 //! Counts the items of records.
-ghost use Rattle.std.specs.Prelude.{◌≡◌, refl, [], ◌∷◌, IfErr, OnOk};
+ghost use Rattle.std.specs.Prelude.{◌≡◌, ℕ, refl, [], ◌∷◌, IfErr, OnOk};
 ghost use Rattle.std.specs.Str.{IsUtf8};
 ghost use Rattle.std.specs.Str.Lines.{lines};
 ghost use Rattle.sketch_base.specs.Split.{words_of};
 ghost use Rattle.sketches.specs.Added.{AddsLines, AddsStrings};
 ghost use Rattle.sketches.specs.Failures.{FailsAdding, FailsLines};
 ghost use Rattle.sketches.specs.Items.{items_of, items_of_line, items_of_raw_line};
+ghost use Rattle.sketches.specs.LineNumbers.{lines_counted};
 ghost use Rattle.sketches.specs.Skipped.{skipped_in};
 ghost use Rattle.sketches.specs.Utf8Lines.{GrowsBy, not_utf8_in};
 
@@ -52,6 +53,7 @@ impl ItemCounter {
 
 impl LineSink<()> for ItemCounter {
     ghost use Rattle.sketches.specs.WeighingLaws.{lines_added_none, lines_added_both, lines_fail_sooner, lines_fail_later};
+    ghost use Rattle.sketches.specs.LineNumberLaws.{numbers_both, numbers_none};
     ghost use Rattle.sketches.specs.SkippedLaws.{skips_no_records, skips_both};
     ghost use Rattle.sketches.specs.Utf8LineLaws.{grows_no_records, grows_both};
     ghost use Rattle.sketches.specs.Weighed.{records_of, splits_of};
@@ -59,27 +61,31 @@ impl LineSink<()> for ItemCounter {
 
     ghost splits = { λ s. splits_of s.weighing };
 
+    ghost begins = { λ old new. new ≡ record { sketch = old.sketch; weighing = old.weighing; count = 0; not_utf8 = old.not_utf8; unweighed = old.unweighed } };
+
     ghost takes = { λ old bytes new. (AddsLines old.0.weighing old.0.sketch bytes new.0.sketch
         × (new.0.weighing ≡ old.0.weighing)) × GrowsBy old.0.not_utf8 (not_utf8_in old.0.weighing (records_of old.0.weighing bytes)) new.0.not_utf8
-        × GrowsBy old.0.unweighed (skipped_in old.0.weighing (records_of old.0.weighing bytes)) new.0.unweighed };
+        × GrowsBy old.0.unweighed (skipped_in old.0.weighing (records_of old.0.weighing bytes)) new.0.unweighed
+        × GrowsBy old.0.count (lines_counted old.0.weighing (records_of old.0.weighing bytes)) new.0.count };
 
-    ghost fails = { λ old bytes new failure. FailsLines old.0.weighing old.0.sketch bytes failure };
+    ghost fails = { λ old bytes new failure. FailsLines old.0.weighing old.0.sketch old.0.count bytes failure };
 
     ghost takes_same = { λ r s xs taken. ap splits_of taken.0.1 };
 
-    ghost takes_none = { λ s. ((lines_added_none s.0.weighing s.0.sketch, refl), grows_no_records s.0.weighing s.0.not_utf8, skips_no_records s.0.weighing s.0.unweighed) };
+    ghost takes_none = { λ s. ((lines_added_none s.0.weighing s.0.sketch, refl), grows_no_records s.0.weighing s.0.not_utf8, skips_no_records s.0.weighing s.0.unweighed, numbers_none s.0.weighing s.0.count) };
 
     ghost takes_both = { λ r s t xs ys whole first second. (
       lines_added_both r.0.weighing xs ys whole
           r.0.sketch s.0.sketch t.0.sketch s.0.weighing t.0.weighing first.0 second.0,
       grows_both r.0.weighing xs ys whole r.0.not_utf8 s.0.not_utf8 t.0.not_utf8 s.0.weighing first.0.1 first.1 second.1,
       skips_both r.0.weighing xs ys whole r.0.unweighed s.0.unweighed t.0.unweighed s.0.weighing first.0.1 first.2 second.2,
+      numbers_both r.0.weighing xs ys whole r.0.count s.0.count t.0.count s.0.weighing first.0.1 first.3 second.3,
     ) };
 
-    ghost fails_sooner = { λ r t xs ys e whole. lines_fail_sooner r.0.weighing xs ys whole r.0.sketch e };
+    ghost fails_sooner = { λ r t xs ys e whole. lines_fail_sooner r.0.weighing xs ys whole r.0.sketch r.0.count e };
 
     ghost fails_later = { λ r s t xs ys e whole first. lines_fail_later r.0.weighing xs ys whole
-        r.0.sketch s.0.sketch s.0.weighing e first.0 };
+        r.0.sketch s.0.sketch r.0.count s.0.count s.0.weighing e first.0 first.3 };
 
     fn records(&self) -> Records {
         self.weighing.records()
@@ -129,7 +135,7 @@ fn add_once(
     not_utf8: &mut u64,
 ) -> Result<(), Failure>
     ensures added { OnOk result (AddsLines (Weighing.Once selection) sketch.old bytes.now sketch.new) }
-    ensures failed { IfErr result (FailsLines (Weighing.Once selection) sketch.old bytes.now) }
+    ensures failed { IfErr result (λ failure. (count : ℕ) → FailsLines (Weighing.Once selection) sketch.old count bytes.now failure) }
     ensures counted { OnOk result (GrowsBy not_utf8.old (not_utf8_in (Weighing.Once selection) (lines bytes.now)) not_utf8.new) }
 {
     add_items(alloc, sketch, selection, bytes, not_utf8)

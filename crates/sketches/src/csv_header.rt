@@ -1,4 +1,7 @@
 //! The header of a file of CSV.
+ghost use Rattle.std.specs.Prelude.{◌≡◌};
+ghost use Rattle.sketches.specs.LineNumbers.{feeds_in};
+
 use crate::files::Input;
 use sketch_text::{
     Place, append_csv_text, finished_csv_records, next_csv_record, nth_csv_field, plain_csv_text,
@@ -138,7 +141,9 @@ fn after(bytes: &[u8], at: usize) -> &[u8] {
 }
 
 /// Returns the number of line feeds in bytes.
-pub fn line_feeds(bytes: &[u8]) -> u64 {
+pub fn line_feeds(bytes: &[u8]) -> u64
+    ensures { result ≡ feeds_in bytes.now }
+{
     bytes.iter().filter(|byte| **byte == b'\n').count() as u64
 }
 

@@ -56,6 +56,8 @@ impl LineSink<()> for FileKeys {
         self.part.records()
     }
 
+    fn begin(&mut self) {}
+
     fn take(&mut self, alloc: Global, _output: &mut (), bytes: &[u8]) -> Result<(), Failure> {
         add_keys(
             alloc,

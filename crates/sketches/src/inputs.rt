@@ -1,6 +1,6 @@
 //! Reads the records of inputs that are opened one after another.
 ghost use Rattle.std.specs.Prelude.{◌≡◌, ◌&&◌, ℕ, Bool, not, List, [], Option, None, is_some, IfErr, IfOk, IfSome, OnOk};
-ghost use Rattle.sketches.specs.Inputs.{FailsInputs, HaveLongRecord, OpensNext, TakesInputs};
+ghost use Rattle.sketches.specs.Inputs.{FailsBegun, FailsInputs, HaveLongRecord, OpensNext, TakesBegun, TakesInputs};
 ghost use Rattle.sketches.specs.Reading.{FailsInput, HasLongRecord, TakesInput};
 
 use crate::failure::Failure;
@@ -46,9 +46,9 @@ pub fn read_inputs<I: Inputs, O, S: LineSink<O>>(
     limit: usize,
 ) -> Result<bool, Failure>
     ensures taken { IfOk result (λ complete.
-        TakesInputs (S.splits sink.old) S.takes (I.inputs inputs.old) (I.fails inputs.old) complete (sink.old, output.old) (sink.new, output.new)) }
+        TakesInputs (S.splits sink.old) (TakesBegun S.begins S.takes) (I.inputs inputs.old) (I.fails inputs.old) complete (sink.old, output.old) (sink.new, output.new)) }
     ensures fits { OnOk result (IfSome (I.inputs inputs.old) (λ all. HaveLongRecord (S.splits sink.old) limit all → ⊥)) }
-    ensures failed { IfErr result (FailsInputs (S.splits sink.old) S.takes S.fails limit (I.inputs inputs.old) (sink.old, output.old) (sink.new, output.new)) }
+    ensures failed { IfErr result (FailsInputs (S.splits sink.old) (TakesBegun S.begins S.takes) S.fails (FailsBegun S.begins S.fails) limit (I.inputs inputs.old) (sink.old, output.old) (sink.new, output.new)) }
 {
     let mut complete = true;
     'each: for _ in 0..u64::MAX {
@@ -71,10 +71,10 @@ fn read_input<R: LineSource, O, S: LineSink<O>>(
     limit: usize,
 ) -> Result<Option<io::Error>, Failure>
     ensures taken { IfOk result (λ failure.
-        TakesInput (S.splits sink.old) S.takes (R.remaining reader.old) (R.fails reader.old) failure (sink.old, output.old) (sink.new, output.new)) }
+        TakesInput (S.splits sink.old) (TakesBegun S.begins S.takes) (R.remaining reader.old) (R.fails reader.old) failure (sink.old, output.old) (sink.new, output.new)) }
     ensures fits { OnOk result (IfSome (R.remaining reader.old) (λ bytes. HasLongRecord (S.splits sink.old) limit bytes → ⊥)) }
     ensures same { OnOk result (S.splits sink.new ≡ S.splits sink.old) }
-    ensures failed { IfErr result (FailsInput (S.splits sink.old) S.takes S.fails limit (R.remaining reader.old) (sink.old, output.old) (sink.new, output.new)) }
+    ensures failed { IfErr result (FailsInput (S.splits sink.old) (TakesBegun S.begins S.takes) S.fails (FailsBegun S.begins S.fails) limit (R.remaining reader.old) (sink.old, output.old) (sink.new, output.new)) }
 {
     sink.begin();
     read_lines(alloc, sink, output, reader, buffer, limit)

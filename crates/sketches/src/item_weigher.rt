@@ -1,11 +1,12 @@
 //! Adds the items of records with their weights to a Count-Min sketch.
-ghost use Rattle.std.specs.Prelude.{◌≡◌, [], ◌∷◌, IfErr, IfOk, OnOk};
+ghost use Rattle.std.specs.Prelude.{◌≡◌, ◌-◌, ◌^◌, [], ◌∷◌, min, IfErr, IfOk, OnOk};
 ghost use Rattle.sketches.specs.KeyWeights.{CountsLines, CountsWeighed, unweighed_line, weighed_line};
-ghost use Rattle.sketch_text.specs.Records.{records_by};
+ghost use Rattle.sketch_text.specs.Records.{records_by, splits_by};
 ghost use Rattle.sketches.specs.Failures.{IsBadWeight};
+ghost use Rattle.sketches.specs.LineNumbers.{lines_of, lines_of_row};
 ghost use Rattle.sketches.specs.Skipped.{skipped_rows, skips, skips_row};
 ghost use Rattle.sketches.specs.Utf8Lines.{GrowsBy};
-ghost use Rattle.sketches.specs.WeighFailures.{FailsCounting, FailsLines};
+ghost use Rattle.sketches.specs.WeighFailures.{FailsCounting, FailsLines, FailsRecord};
 ghost use Rattle.sketches.specs.Weights.{counted_weight, weight_on};
 
 use crate::csv_header::line_feeds;
@@ -42,30 +43,35 @@ impl ItemWeigher {
 
 impl LineSink<()> for ItemWeigher {
     ghost use Rattle.std.proofs.Common.{ap};
-    ghost use Rattle.sketch_text.specs.Records.{splits_by};
     ghost use Rattle.sketches.specs.declared.weighing.WeighedRecord.{WeighedRecord};
     ghost use Rattle.sketches.specs.KeyWeightLaws.{counts_none, counts_both, counts_sooner, counts_later};
+    ghost use Rattle.sketches.specs.LineNumberLaws.{row_numbers_both, row_numbers_none};
     ghost use Rattle.sketches.specs.SkippedLaws.{rows_both, rows_none};
 
     ghost splits = { λ s. splits_by s.chosen.item };
 
-    ghost takes = { λ old bytes new. (CountsLines old.0.chosen old.0.sketch (records_by old.0.chosen.item bytes) new.0.sketch
-        × (new.0.chosen ≡ old.0.chosen)) × GrowsBy old.0.unweighed (skipped_rows old.0.chosen (records_by old.0.chosen.item bytes)) new.0.unweighed };
+    ghost begins = { λ old new. new ≡ record { sketch = old.sketch; chosen = old.chosen; count = 0; unweighed = old.unweighed } };
 
-    ghost fails = { λ old bytes new failure. FailsLines old.0.chosen old.0.sketch.total (records_by old.0.chosen.item bytes) failure };
+    ghost takes = { λ old bytes new. (CountsLines old.0.chosen old.0.sketch (records_by old.0.chosen.item bytes) new.0.sketch
+        × (new.0.chosen ≡ old.0.chosen)) × GrowsBy old.0.unweighed (skipped_rows old.0.chosen (records_by old.0.chosen.item bytes)) new.0.unweighed
+        × GrowsBy old.0.count (lines_of (splits_by old.0.chosen.item) (records_by old.0.chosen.item bytes)) new.0.count };
+
+    ghost fails = { λ old bytes new failure. FailsLines old.0.chosen old.0.sketch.total old.0.count (records_by old.0.chosen.item bytes) failure };
 
     ghost takes_same = { λ r s xs taken. ap (λ (p : WeighedRecord). splits_by p.item) taken.0.1 };
 
-    ghost takes_none = { λ s. (counts_none s.0.chosen s.0.sketch, rows_none s.0.chosen s.0.unweighed) };
+    ghost takes_none = { λ s. (counts_none s.0.chosen s.0.sketch, rows_none s.0.chosen s.0.unweighed, row_numbers_none s.0.chosen s.0.count) };
 
     ghost takes_both = { λ r s t xs ys whole first second. (
       counts_both r.0.chosen xs ys whole r.0.sketch s.0.sketch t.0.sketch s.0.chosen t.0.chosen first.0 second.0,
       rows_both r.0.chosen xs ys whole r.0.unweighed s.0.unweighed t.0.unweighed s.0.chosen first.0.1 first.1 second.1,
+      row_numbers_both r.0.chosen xs ys whole r.0.count s.0.count t.0.count s.0.chosen first.0.1 first.2 second.2,
     ) };
 
-    ghost fails_sooner = { λ r t xs ys e whole. counts_sooner r.0.chosen xs ys whole r.0.sketch.total e };
+    ghost fails_sooner = { λ r t xs ys e whole. counts_sooner r.0.chosen xs ys whole r.0.sketch.total r.0.count e };
 
-    ghost fails_later = { λ r s t xs ys e whole takes. counts_later r.0.chosen xs ys whole r.0.sketch.total s.0.sketch.total s.0.chosen e takes.0.0.0.total takes.0.1 };
+    ghost fails_later = { λ r s t xs ys e whole takes. counts_later r.0.chosen xs ys whole r.0.sketch.total s.0.sketch.total r.0.count s.0.count
+        s.0.chosen e takes.0.0.0.total takes.0.0.1 takes.0.1 takes.2 };
 
     fn records(&self) -> Records {
         self.chosen.item.records()
@@ -93,7 +99,7 @@ impl LineSink<()> for ItemWeigher {
 /// # Errors
 ///
 /// Returns `BadWeight` at the first record with an item and without a weight, if this is an error. It has the number of the record's first
-/// line. Returns `TooManyItems` if the total would exceed `u64::MAX`, and `Memory` if an allocation fails.
+/// line, if `count` lines come before `bytes`. Returns `TooManyItems` if the total would exceed `u64::MAX`, and `Memory` if an allocation fails.
 fn add_lines(
     alloc: Global,
     sketch: &mut CountMinSketch<u64>,
@@ -103,7 +109,8 @@ fn add_lines(
     bad: &mut u64,
 ) -> Result<(), Failure>
     ensures added { OnOk result (CountsLines chosen sketch.old (records_by chosen.item bytes.now) sketch.new) }
-    ensures failed { IfErr result (FailsLines chosen sketch.old.total (records_by chosen.item bytes.now)) }
+    ensures failed { IfErr result (FailsLines chosen sketch.old.total count.old (records_by chosen.item bytes.now)) }
+    ensures numbered { OnOk result (GrowsBy count.old (lines_of (splits_by chosen.item) (records_by chosen.item bytes.now)) count.new) }
     ensures skipped { OnOk result (GrowsBy bad.old (skipped_rows chosen (records_by chosen.item bytes.now)) bad.new) }
 {
     let mut rest = bytes;
@@ -112,23 +119,22 @@ fn add_lines(
             return Ok(());
         };
         add_line(alloc, sketch, chosen, row, count.saturating_add(1), bad)?;
-        *count = count.saturating_add(lines_between(chosen.item, rest, after));
+        *count = count.saturating_add(lines_of_row(chosen.item, row));
         rest = after;
     }
 }
 
-/// Returns the number of lines of the first record of bytes, of which others are left after it.
-pub fn lines_between(part: RecordPart, bytes: &[u8], after: &[u8]) -> u64 {
+/// Returns the number of lines of a record, at most `u64::MAX`. A record of CSV has one more than it has line feeds.
+pub fn lines_of_row(part: RecordPart, row: &[u8]) -> u64
+    ensures { result ≡ min (lines_of_row (splits_by part) row.now) (2 ^ 64 - 1) }
+{
     match part.records() {
         Records::Lines => 1,
-        Records::Csv(_) => {
-            let len = bytes.len().saturating_sub(after.len());
-            line_feeds(bytes.get(..len).unwrap_or(bytes))
-        }
+        Records::Csv(_) => line_feeds(row).saturating_add(1),
     }
 }
 
-/// Adds the item of a record with the weight of the record.
+/// Adds the item of a record with the weight of the record. The first line of the record has the number `number`.
 #[inline(always)]
 fn add_line(
     alloc: Global,
@@ -139,7 +145,7 @@ fn add_line(
     bad: &mut u64,
 ) -> Result<(), Failure>
     ensures added { OnOk result (CountsWeighed sketch.old (weighed_line chosen row.now) sketch.new × (unweighed_line chosen row.now ≡ [])) }
-    ensures failed { IfErr result (FailsCounting sketch.old.total (weighed_line chosen row.now) (unweighed_line chosen row.now)) }
+    ensures failed { IfErr result (FailsRecord chosen sketch.old.total number row.now) }
     ensures skipped { OnOk result (GrowsBy bad.old (skips_row chosen row.now) bad.new) }
 {
     let mut text = Vec::new(alloc);
@@ -186,9 +192,9 @@ fn weight_of(alloc: Global, part: Option<RecordPart>, row: &[u8]) -> Result<Opti
     }
 }
 
-/// Returns the error of a record that has no weight in a part.
+/// Returns the error of a record that has no weight in a part, and whose first line has the number `number`.
 pub fn bad_weight(alloc: Global, part: Option<RecordPart>, row: &[u8], number: u64) -> Failure
-    ensures { IsBadWeight result }
+    ensures { IsBadWeight number result }
 {
     let Some(part) = part else {
         return bad_field(alloc, b"".as_slice(), number);
@@ -204,7 +210,7 @@ pub fn bad_weight(alloc: Global, part: Option<RecordPart>, row: &[u8], number: u
 #[inline(always)]
 fn add_item(sketch: &mut CountMinSketch<u64>, item: &[u8], weight: u64) -> Result<(), Failure>
     ensures added { OnOk result (CountsWeighed sketch.old ((item.now, weight) ∷ []) sketch.new) }
-    ensures failed { IfErr result (FailsCounting sketch.old.total ((item.now, weight) ∷ []) []) }
+    ensures failed { IfErr result (FailsCounting sketch.old.total ((item.now, weight) ∷ []) (λ _. ⊥)) }
 {
     match from_utf8(item) {
         Ok(text) => sketch.update_item_with_weight(text, weight)?,

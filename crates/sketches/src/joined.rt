@@ -65,6 +65,8 @@ impl<W: Output> LineSink<W> for JoinedLines {
         self.part.records()
     }
 
+    fn begin(&mut self) {}
+
     fn take(&mut self, alloc: Global, output: &mut W, bytes: &[u8]) -> Result<(), Failure> {
         self.written.bytes.clear();
         let part = self.part;

@@ -46,6 +46,8 @@ impl LineSink<()> for KeyLines {
         self.part.records()
     }
 
+    fn begin(&mut self) {}
+
     fn take(&mut self, alloc: Global, _output: &mut (), bytes: &[u8]) -> Result<(), Failure> {
         let part = self.part;
         take_batches(alloc, self, part, bytes)

@@ -62,6 +62,8 @@ impl<W: Output> LineSink<W> for KeyWeights {
         self.part.records()
     }
 
+    fn begin(&mut self) {}
+
     fn take(&mut self, alloc: Global, output: &mut W, bytes: &[u8]) -> Result<(), Failure> {
         self.written.clear();
         append_lines(

@@ -47,6 +47,8 @@ impl LineSink<()> for LineCount {
         self.part.records()
     }
 
+    fn begin(&mut self) {}
+
     fn take(&mut self, _alloc: Global, _output: &mut (), bytes: &[u8]) -> Result<(), Failure> {
         match self
             .lines

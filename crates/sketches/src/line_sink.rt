@@ -13,20 +13,23 @@ pub trait LineSink<O> {
     // How inputs are split into records.
     ghost splits: { Self → Records };
 
-    // These bytes of records were taken: the sink and the output before, and after.
+    // The sink began with the records of an input: before, and after. Nothing changes, unless a sink defines it.
+    ghost begins: { Self → Self → Type 0 } = { λ old new. new ≡ old };
+
+    // These bytes of records of an input were taken: the sink and the output before, and after.
     ghost takes: { Self × O → List ℕ → Self × O → Type 0 };
 
-    // The failure may come while these bytes of records are taken: the sink and the output before, and after.
+    // The failure may come while these bytes of records of an input are taken: the sink and the output before, and after.
     ghost fails: { Self × O → List ℕ → Self × O → Failure → Type 0 };
 
     /// Returns how inputs are split into records.
     fn records(&self) -> Records
         ensures { result ≡ splits self.now };
 
-    /// Begins with the records of an input. Changes nothing that later records depend on.
+    /// Begins with the records of an input.
     fn begin(&mut self)
-        ensures { (o : O) → takes (self.old, o) [] (self.new, o) }
-    {}
+        ensures began { begins self.old self.new }
+        ensures same { splits self.new ≡ splits self.old };
 
     /// Takes whole records, or records of which the last ends with its input.
     fn take(&mut self, alloc: Global, output: &mut O, bytes: &[u8]) -> Result<(), Failure>

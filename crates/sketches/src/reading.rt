@@ -38,7 +38,7 @@ pub fn read_lines<R: LineSource, O, S: LineSink<O>>(
         TakesInput (S.splits sink.old) S.takes (R.remaining reader.old) (R.fails reader.old) failure (sink.old, output.old) (sink.new, output.new)) }
     ensures fits { OnOk result (IfSome (R.remaining reader.old) (λ bytes. HasLongRecord (S.splits sink.old) limit bytes → ⊥)) }
     ensures same { OnOk result (S.splits sink.new ≡ S.splits sink.old) }
-    ensures failed { IfErr result (FailsInput (S.splits sink.old) S.takes S.fails limit (R.remaining reader.old) (sink.old, output.old) (sink.new, output.new)) }
+    ensures failed { IfErr result (FailsInput (S.splits sink.old) S.takes S.fails S.fails limit (R.remaining reader.old) (sink.old, output.old) (sink.new, output.new)) }
 {
     let records = sink.records();
     buffer.truncate(limit);

@@ -1,15 +1,16 @@
 //! Adds the items of records with their weights.
 ghost use Rattle.std.specs.Prelude.{◌≡◌, [], ◌∷◌, Some, IfErr, OnOk};
 ghost use Rattle.std.specs.Str.Lossy.{utf8_lossy};
-ghost use Rattle.sketch_text.specs.Records.{records_by};
+ghost use Rattle.sketch_text.specs.Records.{records_by, splits_by};
 ghost use Rattle.sketches.specs.Added.{AddsLine, AddsLines, AddsWeighed};
 ghost use Rattle.sketches.specs.Failures.{FailsLine, FailsLines, FailsWeighing};
+ghost use Rattle.sketches.specs.LineNumbers.{lines_of};
 ghost use Rattle.sketches.specs.Skipped.{skipped_rows, skips_row};
 ghost use Rattle.sketches.specs.Utf8Lines.{GrowsBy, not_utf8_in, not_utf8_of};
 ghost use Rattle.sketches.specs.Weighed.{with_weight};
 
 use crate::failure::Failure;
-use crate::item_weigher::{bad_weight, counted_weight, lines_between};
+use crate::item_weigher::{bad_weight, counted_weight, lines_of_row};
 use crate::utf8_lines::count_item;
 use crate::weighing::{WeighedRecord, Weighing};
 use sketch_base::from_utf8;
@@ -35,9 +36,10 @@ pub fn add_records(
     bad: &mut u64,
 ) -> Result<(), Failure>
     ensures added { OnOk result (AddsLines (Weighing.Record chosen) sketch.old bytes.now sketch.new) }
-    ensures failed { IfErr result (FailsLines (Weighing.Record chosen) sketch.old bytes.now) }
+    ensures failed { IfErr result (FailsLines (Weighing.Record chosen) sketch.old count.old bytes.now) }
     ensures counted { OnOk result (GrowsBy not_utf8.old (not_utf8_in (Weighing.Record chosen) (records_by chosen.item bytes.now)) not_utf8.new) }
     ensures skipped { OnOk result (GrowsBy bad.old (skipped_rows chosen (records_by chosen.item bytes.now)) bad.new) }
+    ensures numbered { OnOk result (GrowsBy count.old (lines_of (splits_by chosen.item) (records_by chosen.item bytes.now)) count.new) }
 {
     let mut text = Vec::new(alloc);
     let mut rest = bytes;
@@ -48,7 +50,7 @@ pub fn add_records(
         let number = count.saturating_add(1);
         text.clear();
         add_record(alloc, sketch, chosen, row, &mut text, number, not_utf8, bad)?;
-        *count = count.saturating_add(lines_between(chosen.item, rest, after));
+        *count = count.saturating_add(lines_of_row(chosen.item, row));
         rest = after;
     }
 }
@@ -67,7 +69,7 @@ fn add_record(
 ) -> Result<(), Failure>
     requires { text.old.items ≡ [] }
     ensures added { OnOk result (AddsLine (Weighing.Record chosen) sketch.old row.now sketch.new) }
-    ensures failed { IfErr result (FailsLine (Weighing.Record chosen) sketch.old row.now) }
+    ensures failed { IfErr result (FailsLine (Weighing.Record chosen) sketch.old number row.now) }
     ensures counted { OnOk result (GrowsBy not_utf8.old (not_utf8_in (Weighing.Record chosen) (row.now ∷ [])) not_utf8.new) }
     ensures skipped { OnOk result (GrowsBy bad.old (skips_row chosen row.now) bad.new) }
 {
@@ -90,7 +92,7 @@ fn add_text(
     not_utf8: &mut u64,
 ) -> Result<(), Failure>
     ensures added { OnOk result (AddsWeighed sketch.old (with_weight (utf8_lossy bytes.now ∷ []) (Some weight)) sketch.new) }
-    ensures failed { IfErr result (FailsWeighing sketch.old (with_weight (utf8_lossy bytes.now ∷ []) (Some weight)) []) }
+    ensures failed { IfErr result (FailsWeighing sketch.old (with_weight (utf8_lossy bytes.now ∷ []) (Some weight)) (λ _. ⊥)) }
     ensures counted { GrowsBy not_utf8.old (not_utf8_of bytes.now) not_utf8.new }
 {
     count_item(bytes, not_utf8);
@@ -111,7 +113,7 @@ fn add_string(
     weight: u64,
 ) -> Result<(), Failure>
     ensures added { OnOk result (AddsWeighed sketch.old (with_weight (text.now ∷ []) (Some weight)) sketch.new) }
-    ensures failed { IfErr result (FailsWeighing sketch.old (with_weight (text.now ∷ []) (Some weight)) []) }
+    ensures failed { IfErr result (FailsWeighing sketch.old (with_weight (text.now ∷ []) (Some weight)) (λ _. ⊥)) }
 {
     sketch.update_item_with_count(text, weight)?;
     Ok(())

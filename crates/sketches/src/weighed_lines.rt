@@ -4,6 +4,7 @@ ghost use Rattle.std.specs.Str.Lines.{lines};
 ghost use Rattle.std.specs.Str.Lossy.{utf8_lossy};
 ghost use Rattle.sketches.specs.Added.{AddsLine, AddsLines};
 ghost use Rattle.sketches.specs.Failures.{FailsLine, FailsLines, IsBadWeight};
+ghost use Rattle.sketches.specs.LineNumbers.{lines_counted};
 ghost use Rattle.sketches.specs.Skipped.{skipped_in, skips, skips_line};
 ghost use Rattle.sketches.specs.Utf8Lines.{GrowsBy, not_utf8_in};
 ghost use Rattle.sketches.specs.Weighed.{line_weight};
@@ -26,8 +27,9 @@ const SHOWN: usize = 40;
 ///
 /// # Errors
 ///
-/// Returns `BadWeight` at the first line with an item and without a weight, if this is an error. It has the number `count`. Returns `TooManyItems`
-/// if the total would exceed `u64::MAX`, and `Memory` if an allocation fails.
+/// Returns `BadWeight` at the first line with an item and without a weight, if this is an error. It has the number of
+/// this line, if `count` lines come before `bytes`. Returns `TooManyItems` if the total would exceed `u64::MAX`, and `Memory` if an
+/// allocation fails.
 #[inline(never)]
 pub fn add_weighed_lines(
     alloc: Global,
@@ -39,9 +41,10 @@ pub fn add_weighed_lines(
     bad: &mut u64,
 ) -> Result<(), Failure>
     ensures added { OnOk result (AddsLines (Weighing.Field part) sketch.old bytes.now sketch.new) }
-    ensures failed { IfErr result (FailsLines (Weighing.Field part) sketch.old bytes.now) }
+    ensures failed { IfErr result (FailsLines (Weighing.Field part) sketch.old count.old bytes.now) }
     ensures counted { OnOk result (GrowsBy not_utf8.old (not_utf8_in (Weighing.Field part) (lines bytes.now)) not_utf8.new) }
     ensures skipped { OnOk result (GrowsBy bad.old (skipped_in (Weighing.Field part) (lines bytes.now)) bad.new) }
+    ensures numbered { OnOk result (GrowsBy count.old (lines_counted (Weighing.Field part) (lines bytes.now)) count.new) }
 {
     let mut rest = bytes;
     'each: loop {
@@ -66,7 +69,7 @@ fn add_raw_line(
     bad: &mut u64,
 ) -> Result<(), Failure>
     ensures added { OnOk result (AddsLine (Weighing.Field part) sketch.old line.now sketch.new) }
-    ensures failed { IfErr result (FailsLine (Weighing.Field part) sketch.old line.now) }
+    ensures failed { IfErr result (FailsLine (Weighing.Field part) sketch.old number line.now) }
     ensures counted { GrowsBy not_utf8.old (not_utf8_in (Weighing.Field part) (line.now ∷ [])) not_utf8.new }
     ensures skipped { OnOk result (GrowsBy bad.old (skips_line part line.now) bad.new) }
 {
@@ -92,7 +95,7 @@ fn add_line(
 ) -> Result<(), Failure>
     requires { text.now ≡ utf8_lossy line.now }
     ensures added { OnOk result (AddsLine (Weighing.Field part) sketch.old line.now sketch.new) }
-    ensures failed { IfErr result (FailsLine (Weighing.Field part) sketch.old line.now) }
+    ensures failed { IfErr result (FailsLine (Weighing.Field part) sketch.old number line.now) }
     ensures skipped { OnOk result (GrowsBy bad.old (skips_line part line.now) bad.new) }
 {
     let Some(item) = part_of(part.item, text) else {
@@ -119,7 +122,7 @@ fn line_weight(part: WeighedPart, line: &[u8], bad: &mut u64) -> Option<u64>
 
 /// Returns the error of a line that has no weight in a part.
 pub fn bad_weight(alloc: Global, part: Part, line: &[u8], number: u64) -> Failure
-    ensures { IsBadWeight result }
+    ensures { IsBadWeight number result }
 {
     bad_field(
         alloc,
@@ -130,7 +133,7 @@ pub fn bad_weight(alloc: Global, part: Part, line: &[u8], number: u64) -> Failur
 
 /// Returns the error of a line whose weight should be this field.
 pub fn bad_field(alloc: Global, field: &[u8], number: u64) -> Failure
-    ensures { IsBadWeight result }
+    ensures { IsBadWeight number result }
 {
     match shown(alloc, field) {
         Ok(text) => Failure::BadWeight(BadWeight { line: number, text }),

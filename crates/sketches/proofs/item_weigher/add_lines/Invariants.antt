@@ -7,7 +7,7 @@ use Rattle.sketches.proofs.item_weigher.add_lines.Given as goal
 
 abbrev pub invariant-each : goal.invariant-each
 invariant-each l =
-    HasCountedLines l.chosen l.fn.sketch (records_by l.chosen.item l.bytes) (records_by l.chosen.item l.rest) l.sketch
+    HasCountedLines l.chosen l.fn.sketch l.fn.count (records_by l.chosen.item l.bytes) (records_by l.chosen.item l.rest) l.sketch l.count
     × HasSkipped (skips_row l.chosen) l.fn.bad (records_by l.chosen.item l.bytes) (records_by l.chosen.item l.rest) l.bad
 
 abbrev pub decreases-each : goal.decreases-each

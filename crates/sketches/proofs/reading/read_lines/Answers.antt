@@ -44,9 +44,9 @@ returns-in_err-take-clause-failed g c =
     let same = f.1 ∙ c.in_ok-make_room.ensures.kept in
     let all = taken_more c.records-records.result c.args.limit g.S.LineSink.takes _ _ _ _ _ _ _ _ c.reads.invariant.4 got.1 (filled c.reads.held c.in-Some.count _ _ c.reads.invariant.0 same) in
     rw (e.1, e.2)
-    (inr (rw (← c.records-records.ensures)
+    (inr
     (fails_last c.records-records.result c.args.limit g.S.LineSink.takes (λ s. g.S.LineSink.splits s.0) g.S.LineSink.fails g.met.S.LineSink.fails_later _ _ (g.R.LineSource.fails c.reads.reader) false _ (c.reads.sink, c.reads.output) _ _ (take c.reads.held c.fill.new.buffer.items) _ (sym c.records-records.ensures) all
-    (none_more c.reads.held c.in-Some.count _ c.if-count-eq0.true) (got.2 c.if-count-eq0.true) (rw c.deref.ensures.value at c.in_err-take.ensures.failed))))
+    (none_more c.reads.held c.in-Some.count _ c.if-count-eq0.true) (got.2 c.if-count-eq0.true) (rw c.deref.ensures.value at c.in_err-take.ensures.failed)))
 
 pub returns-in_err-kept-clause-failed : goal.returns-in_err-kept-clause-failed
 returns-in_err-kept-clause-failed g c =
@@ -56,8 +56,8 @@ returns-in_err-kept-clause-failed g c =
     let same = f.1 ∙ c.in_ok-make_room.ensures.kept in
     let all = taken_more c.records-records.result c.args.limit g.S.LineSink.takes _ _ _ _ _ _ _ _ c.reads.invariant.4 got.1 (filled c.reads.held c.in-Some.count _ _ c.reads.invariant.0 same) in
     rw (e.1, e.2)
-    (inr (rw (← c.records-records.ensures)
-    (fails_lines c.records-records.result c.args.limit g.S.LineSink.takes (λ s. g.S.LineSink.splits s.0) g.S.LineSink.fails g.met.S.LineSink.fails_later g.met.S.LineSink.fails_sooner _ _ _ (c.reads.sink, c.reads.output) _ _ _ (sym c.records-records.ensures) c.reads.invariant.3 all c.in_err-kept.ensures.failed)))
+    (inr
+    (fails_lines c.records-records.result c.args.limit g.S.LineSink.takes (λ s. g.S.LineSink.splits s.0) g.S.LineSink.fails g.met.S.LineSink.fails_later g.met.S.LineSink.fails_sooner _ _ _ (c.reads.sink, c.reads.output) _ _ _ (sym c.records-records.ensures) c.reads.invariant.3 all c.in_err-kept.ensures.failed))
 
 pub returns-then-count-eq0 : goal.returns-then-count-eq0
 returns-then-count-eq0 g c =

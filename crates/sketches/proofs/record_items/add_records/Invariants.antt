@@ -9,7 +9,7 @@ use Rattle.sketches.proofs.record_items.add_records.Given as goal
 
 abbrev pub invariant-each : goal.invariant-each
 invariant-each l =
-    HasWeighedLines (Record l.chosen) l.fn.sketch (records_by l.chosen.item l.bytes) (records_by l.chosen.item l.rest) l.sketch
+    HasWeighedLines (Record l.chosen) l.fn.sketch l.fn.count (records_by l.chosen.item l.bytes) (records_by l.chosen.item l.rest) l.sketch l.count
     × HasGrown (Record l.chosen) l.fn.not_utf8 (records_by l.chosen.item l.bytes) (records_by l.chosen.item l.rest) l.not_utf8
     × HasSkipped (skips_row l.chosen) l.fn.bad (records_by l.chosen.item l.bytes) (records_by l.chosen.item l.rest) l.bad
 

@@ -14,4 +14,4 @@ returns-in_err-update_item_with_count-clause-failed c =
     let e = err_from_is_err_and c.from_residual.result c.from_residual.ensures.1 in
     let failed = c.in_err-update_item_with_count.ensures in
     rw (e.1, e.2) (line_failed c.args.part c.args.line.now c.in-Some.item.now c.in-Some-line_weight.weight (rw c.requires at c.in-Some.ensures) (sym c.in-Some-line_weight.ensures.weight)
-    c.args.sketch.now c.in_err-update_item_with_count.field-0.0 (λ full. search (rules, failed.overflow full)) (λ room. search (rules, failed.memory room)))
+    c.args.sketch.now c.args.number c.in_err-update_item_with_count.field-0.0 (λ full. search (rules, failed.overflow full)) (λ room. search (rules, failed.memory room)))

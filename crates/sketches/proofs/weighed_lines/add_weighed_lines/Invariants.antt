@@ -9,7 +9,7 @@ use Rattle.sketches.proofs.weighed_lines.add_weighed_lines.Given as goal
 
 abbrev pub invariant-each : goal.invariant-each
 invariant-each l =
-    HasWeighedLines (Field l.part) l.fn.sketch (lines l.bytes) (lines l.rest) l.sketch
+    HasWeighedLines (Field l.part) l.fn.sketch l.fn.count (lines l.bytes) (lines l.rest) l.sketch l.count
     × HasGrown (Field l.part) l.fn.not_utf8 (lines l.bytes) (lines l.rest) l.not_utf8
     × HasSkipped (skips_line l.part) l.fn.bad (lines l.bytes) (lines l.rest) l.bad
 
