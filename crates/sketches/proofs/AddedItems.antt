@@ -24,7 +24,7 @@ use Rattle.sketches.specs.Failures.{FailsAdding}
 use Rattle.sketches.specs.Faults.{failure_of}
 use Rattle.sketches.specs.Items.{items_of_raw_line}
 use Rattle.sketches.specs.declared.failure.Failure.{Failure}
-use Rattle.sketches.specs.declared.selection.Selection.{Selection}
+use Rattle.sketches.specs.declared.item.selection.Selection.{Selection}
 
 -- ---- one string, and many in one call
 

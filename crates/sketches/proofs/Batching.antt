@@ -11,7 +11,7 @@ use Rattle.sketches.specs.RecordParts.{raws_by}
 use Rattle.sketch_text.specs.Records.{part_in, records_by}
 use Rattle.sketches.specs.Unseen.{AreNextLines, hashed, is_seen, item_of, unseen_lines, with_items, with_lines, written_by, written_of}
 use Rattle.sketches.specs.UnseenLaws.{items_both}
-use Rattle.sketches.specs.declared.ended_text.RecordForm.{RecordForm}
+use Rattle.sketches.specs.declared.print.ended_text.RecordForm.{RecordForm}
 use Rattle.sketch_text.specs.declared.record_part.RecordPart.{RecordPart}
 
 -- the item of a record with its end is that of the record without it

@@ -14,14 +14,14 @@ use Rattle.sketches.specs.Utf8LineLaws.{grows_none, not_utf8_append}
 use Rattle.sketches.specs.Utf8Lines.{GrowsBy, not_utf8_in}
 use Rattle.sketches.specs.Weighed.{records_of, splits_of, total_of, unweighed_of, unweighed_of_line, weighed_of}
 use Rattle.sketches.specs.WeighingLaws.{total_both, weighed_none, weighed_both, weighed_append}
-use Rattle.sketches.specs.declared.counting.ItemCounter.{ItemCounter}
+use Rattle.sketches.specs.declared.count.counting.ItemCounter.{ItemCounter}
 use Rattle.sketches.specs.declared.failure.BadWeight.{BadWeight}
 use Rattle.sketches.specs.declared.failure.Failure.{Failure}
 use Rattle.sketches.specs.declared.failure.Failure.TheVariants as failures
 use Rattle.sketches.specs.declared.failure.Failure.TheVariants.{Memory, LineTooLong, TooManyItems, BadSize, Write}
-use Rattle.sketches.specs.declared.top.Options.{Options}
-use Rattle.sketches.specs.declared.weighing.Weighing.{Weighing}
-use Rattle.sketches.specs.declared.weighing.Weighing.TheVariants as weighing
+use Rattle.sketches.specs.declared.count.top.Options.{Options}
+use Rattle.sketches.specs.declared.item.weighing.Weighing.{Weighing}
+use Rattle.sketches.specs.declared.item.weighing.Weighing.TheVariants as weighing
 
 abbrev Counter : Type 0
 Counter = ItemCounter × Unit {0}

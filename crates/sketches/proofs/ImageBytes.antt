@@ -7,8 +7,8 @@ use Rattle.sketch_base.specs.Errors.{ErrorValue}
 use Rattle.sketch_base.specs.declared.fault.Fault.{Fault}
 use Rattle.sketch_base.specs.declared.fault.Fault.TheVariants.{NoMemory}
 use Rattle.sketches.specs.ImageFailures.{IsBadImage, fault_within}
-use Rattle.sketches.specs.declared.images.ImageFailure.{ImageFailure}
-use Rattle.sketches.specs.declared.images.ImageFailure.TheVariants.{Memory, Rejected}
+use Rattle.sketches.specs.declared.image.images.ImageFailure.{ImageFailure}
+use Rattle.sketches.specs.declared.image.images.ImageFailure.TheVariants.{Memory, Rejected}
 
 -- fewer bytes than may be read are all bytes
 pub read_whole : (known : Option (List ℕ)) (cut : ℕ) (old new : List ℕ) → IfSome (option_map (take cut) known) (λ front. new ≡ old ++ front) → old ≡ [] → length new < cut → IfSome known (λ image. new ≡ image)

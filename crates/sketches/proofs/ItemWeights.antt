@@ -25,8 +25,8 @@ use Rattle.sketches.specs.Unseen.{hashed}
 use Rattle.sketches.specs.Utf8Lines.{GrowsBy}
 use Rattle.sketches.specs.WeighFailures.{FailsLines, FailsRecord, FailsTable}
 use Rattle.sketches.specs.declared.failure.Failure.{Failure}
-use Rattle.sketches.specs.declared.weighing.WeighedRecord.{WeighedRecord}
-use Rattle.sketches.specs.declared.layout.Style.{Style}
+use Rattle.sketches.specs.declared.item.weighing.WeighedRecord.{WeighedRecord}
+use Rattle.sketches.specs.declared.print.layout.Style.{Style}
 use Rattle.sketch_text.specs.declared.record_part.RecordPart.{RecordPart}
 
 -- ---- the items of records

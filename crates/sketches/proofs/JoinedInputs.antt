@@ -19,8 +19,8 @@ use Rattle.sketches.specs.Unseen.{item_of, with_items, written_of}
 use Rattle.sketches.specs.Appending.{appends_both, front_after, front_all, front_more, front_same}
 use Rattle.sketches.specs.EndedText.{Prints, form_after_all, prints_none, prints_both, text_both, text_of}
 use Rattle.sketches.specs.declared.failure.Failure.{Failure}
-use Rattle.sketches.specs.declared.joined.JoinedLines.{JoinedLines}
-use Rattle.sketches.specs.declared.ended_text.RecordForm.{RecordForm}
+use Rattle.sketches.specs.declared.filter.joined.JoinedLines.{JoinedLines}
+use Rattle.sketches.specs.declared.print.ended_text.RecordForm.{RecordForm}
 use Rattle.sketch_text.specs.declared.record_part.RecordPart.{RecordPart}
 use Rattle.sketches.proofs.Written.{inserted_is_seen, lines_failed, raws_more, seen_at, writing_failed}
 

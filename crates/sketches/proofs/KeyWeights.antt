@@ -37,13 +37,13 @@ use Rattle.sketches.specs.WeighingLaws.{total_both}
 use Rattle.sketches.specs.declared.failure.BadWeight.{BadWeight as BadWeightValue}
 use Rattle.sketches.specs.declared.failure.Failure.{Failure}
 use Rattle.sketches.specs.declared.failure.Failure.TheVariants.{Memory, LineTooLong, TooManyItems, BadSize, BadWeight, Write}
-use Rattle.sketches.specs.declared.item_weigher.ItemWeigher.{ItemWeigher}
-use Rattle.sketches.specs.declared.weighing.WeighedRecord.{WeighedRecord}
-use Rattle.sketches.specs.declared.weighing.Weighing.TheVariants.{Record}
-use Rattle.sketches.specs.declared.key_weights.KeyWeights.{KeyWeights}
-use Rattle.sketches.specs.declared.layout.Style.{Style}
+use Rattle.sketches.specs.declared.weight.item_weigher.ItemWeigher.{ItemWeigher}
+use Rattle.sketches.specs.declared.item.weighing.WeighedRecord.{WeighedRecord}
+use Rattle.sketches.specs.declared.item.weighing.Weighing.TheVariants.{Record}
+use Rattle.sketches.specs.declared.weight.key_weights.KeyWeights.{KeyWeights}
+use Rattle.sketches.specs.declared.print.layout.Style.{Style}
 use Rattle.sketch_text.specs.declared.record_part.RecordPart.{RecordPart}
-use Rattle.sketches.specs.declared.weigh.WeighOptions.{WeighOptions}
+use Rattle.sketches.specs.declared.weight.weigh.WeighOptions.{WeighOptions}
 
 -- ---- the weight in a bucket
 

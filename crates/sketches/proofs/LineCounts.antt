@@ -5,9 +5,9 @@ use Rattle.sketch_text.specs.Records.{splits_by}
 use Rattle.sketches.specs.LineNumberLaws.{lines_append}
 use Rattle.sketches.specs.LineNumbers.{lines_counted, lines_of, lines_of_row}
 use Rattle.sketches.specs.Utf8Lines.{GrowsBy}
-use Rattle.sketches.specs.declared.weighing.WeighedPart.{WeighedPart}
-use Rattle.sketches.specs.declared.weighing.WeighedRecord.{WeighedRecord}
-use Rattle.sketches.specs.declared.weighing.Weighing.TheVariants.{Field, Record}
+use Rattle.sketches.specs.declared.item.weighing.WeighedPart.{WeighedPart}
+use Rattle.sketches.specs.declared.item.weighing.WeighedRecord.{WeighedRecord}
+use Rattle.sketches.specs.declared.item.weighing.Weighing.TheVariants.{Field, Record}
 
 module _ (chosen : WeighedRecord) where
   -- the number of lines after one more record

@@ -25,8 +25,8 @@ use Rattle.sketches.specs.Added.{Sketch}
 use Rattle.sketches.specs.ImageFailures.{EndsAdding, EndsMerge, IsBadImage, IsRejected, IsUnread, fault_within}
 use Rattle.sketches.specs.Images.{HasItems, IsImageOfItems, IsOpened, Loads, Merges, OpensImage, all_items, total_in}
 use Rattle.sketches.specs.Weighed.{Weighed, weight_of}
-use Rattle.sketches.specs.declared.images.ImageFailure.{ImageFailure}
-use Rattle.sketches.specs.declared.images.ImageFailure.TheVariants.{Memory, NoImage, Read, TooLong, Rejected, TrailingBytes, TooManyItems, Write}
+use Rattle.sketches.specs.declared.image.images.ImageFailure.{ImageFailure}
+use Rattle.sketches.specs.declared.image.images.ImageFailure.TheVariants.{Memory, NoImage, Read, TooLong, Rejected, TrailingBytes, TooManyItems, Write}
 
 -- ---- the items of a sketch
 

@@ -30,11 +30,11 @@ use Rattle.sketches.specs.Outputs.{WritesFront}
 use Rattle.sketches.specs.Reports.{Counts, Row, Encloses, HasAll, IsBefore, IsErrorOf, IsListed, IsReport, Precedes, Reports, ShowsTop, WritesReport, WritesReportFront, report_text}
 use Rattle.sketches.specs.Thresholds.{IsAbove}
 use Rattle.sketches.specs.Weighed.{Weighed, splits_of, total_of, weight_of, weighed_of}
-use Rattle.sketches.specs.declared.layout.Layout.{Layout}
-use Rattle.sketches.specs.declared.merge.MergeOptions.{MergeOptions}
-use Rattle.sketches.specs.declared.threshold.Threshold.{Threshold}
-use Rattle.sketches.specs.declared.top.Options.{Options}
-use Rattle.sketches.specs.declared.top.Summary.{Summary}
+use Rattle.sketches.specs.declared.print.layout.Layout.{Layout}
+use Rattle.sketches.specs.declared.image.merge.MergeOptions.{MergeOptions}
+use Rattle.sketches.specs.declared.print.threshold.Threshold.{Threshold}
+use Rattle.sketches.specs.declared.count.top.Options.{Options}
+use Rattle.sketches.specs.declared.count.top.Summary.{Summary}
 use Rattle.sketches.proofs.Counted.{CountsInputs, Numbers}
 
 -- ---- the weights of a history

@@ -18,8 +18,8 @@ use Rattle.sketch_frequencies.proofs.RoundTrips.{spelled_is_image}
 use Rattle.sketches.specs.Added.{Sketch}
 use Rattle.sketches.specs.Images.{WritesImage}
 use Rattle.sketches.specs.SaveFailures.{IsNotSaved}
-use Rattle.sketches.specs.declared.save.SaveFailure.{SaveFailure}
-use Rattle.sketches.specs.declared.save.SaveFailure.TheVariants.{Memory, ItemTooLong}
+use Rattle.sketches.specs.declared.image.save.SaveFailure.{SaveFailure}
+use Rattle.sketches.specs.declared.image.save.SaveFailure.TheVariants.{Memory, ItemTooLong}
 
 pub image_written : (s : Sketch) (held holds : Option (List ℕ)) (image : List ℕ) → IsSpelledFor text_codec string_bytes image s → Appends held holds image → WritesImage s held holds
 image_written s held holds image spelled wrote = record {

@@ -30,16 +30,16 @@ use Rattle.sketches.specs.Utf8Lines.{GrowsBy}
 use Rattle.sketches.specs.WeighFailures.{FailsLines}
 use Rattle.sketches.specs.Weighed.{Weighed, total_of, weight_of}
 use Rattle.sketches.specs.WeighingLaws.{total_both}
-use Rattle.sketches.specs.declared.exact_weights.ExactFailure.TheVariants.{Weights}
-use Rattle.sketches.specs.declared.exact_weights.ExactOptions.{ExactOptions}
+use Rattle.sketches.specs.declared.weight.exact_weights.ExactFailure.TheVariants.{Weights}
+use Rattle.sketches.specs.declared.weight.exact_weights.ExactOptions.{ExactOptions}
 use Rattle.sketches.specs.declared.failure.BadWeight.{BadWeight as BadWeightValue}
 use Rattle.sketches.specs.declared.failure.Failure.{Failure}
 use Rattle.sketches.specs.declared.failure.Failure.TheVariants.{Memory, LineTooLong, TooManyItems, BadSize, BadWeight, Write}
-use Rattle.sketches.specs.declared.file_keys.FileKeys.{FileKeys}
-use Rattle.sketches.specs.declared.weighing.WeighedRecord.{WeighedRecord}
-use Rattle.sketches.specs.declared.weighing.Weighing.TheVariants.{Record}
-use Rattle.sketches.specs.declared.key_sums.KeySums.{KeySums}
-use Rattle.sketches.specs.declared.layout.Style.{Style}
+use Rattle.sketches.specs.declared.weight.file_keys.FileKeys.{FileKeys}
+use Rattle.sketches.specs.declared.item.weighing.WeighedRecord.{WeighedRecord}
+use Rattle.sketches.specs.declared.item.weighing.Weighing.TheVariants.{Record}
+use Rattle.sketches.specs.declared.weight.key_sums.KeySums.{KeySums}
+use Rattle.sketches.specs.declared.print.layout.Style.{Style}
 
 -- ---- rows that are written
 

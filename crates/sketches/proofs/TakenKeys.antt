@@ -29,7 +29,7 @@ use Rattle.sketches.specs.WeighFailures.{FailsLines, FailsRecord}
 use Rattle.sketches.specs.Weighed.{Weighed, total_of, weight_of}
 use Rattle.sketches.specs.declared.failure.Failure.{Failure}
 use Rattle.sketches.specs.declared.failure.Failure.TheVariants.{BadSize}
-use Rattle.sketches.specs.declared.weighing.WeighedRecord.{WeighedRecord}
+use Rattle.sketches.specs.declared.item.weighing.WeighedRecord.{WeighedRecord}
 
 -- ---- the keys of records
 

@@ -17,10 +17,10 @@ use Rattle.sketch_text.specs.Records.{part_of}
 use Rattle.sketch_text.specs.declared.part.Part.{Part}
 use Rattle.sketch_text.specs.declared.part.Part.TheVariants as part
 use Rattle.sketches.specs.Utf8Lines.{GrowsBy, bytes_of, bytes_of_line, not_utf8_in, not_utf8_of}
-use Rattle.sketches.specs.declared.selection.Selection.{Selection}
-use Rattle.sketches.specs.declared.selection.Selection.TheVariants as selection
-use Rattle.sketches.specs.declared.weighing.Weighing.{Weighing}
-use Rattle.sketches.specs.declared.weighing.Weighing.TheVariants as weighing
+use Rattle.sketches.specs.declared.item.selection.Selection.{Selection}
+use Rattle.sketches.specs.declared.item.selection.Selection.TheVariants as selection
+use Rattle.sketches.specs.declared.item.weighing.Weighing.{Weighing}
+use Rattle.sketches.specs.declared.item.weighing.Weighing.TheVariants as weighing
 
 module _ (chosen : Weighing) where
   abbrev one : List ℕ → ℕ

@@ -32,16 +32,16 @@ use Rattle.sketches.specs.Utf8Lines.{GrowsBy}
 use Rattle.sketch_text.specs.Records.{part_in, part_of}
 use Rattle.sketches.specs.Weighed.{Weighed, items_of_record, line_weight, once, records_of, total_of, unweighed_of_line, weighed_of, weighed_of_line, with_weight, without_weight}
 use Rattle.sketches.specs.Weights.{counted_weight}
-use Rattle.sketches.specs.declared.weighing.WeighedRecord.{WeighedRecord}
+use Rattle.sketches.specs.declared.item.weighing.WeighedRecord.{WeighedRecord}
 use Rattle.sketches.proofs.AddedItems.{step_equal}
 use Rattle.sketches.specs.WeighingLaws.{weighed_none, weighed_both, weighing_fails_more, weighing_fails_after}
 use Rattle.sketches.specs.declared.failure.Failure.{Failure}
 use Rattle.sketches.specs.declared.failure.Failure.TheVariants.{Memory, LineTooLong, TooManyItems, BadSize, Write}
 use Rattle.sketches.specs.declared.failure.Failure.TheVariants as failures
-use Rattle.sketches.specs.declared.selection.Selection.{Selection}
-use Rattle.sketches.specs.declared.weighing.WeighedPart.{WeighedPart}
-use Rattle.sketches.specs.declared.weighing.Weighing.{Weighing}
-use Rattle.sketches.specs.declared.weighing.Weighing.TheVariants as weighing
+use Rattle.sketches.specs.declared.item.selection.Selection.{Selection}
+use Rattle.sketches.specs.declared.item.weighing.WeighedPart.{WeighedPart}
+use Rattle.sketches.specs.declared.item.weighing.Weighing.{Weighing}
+use Rattle.sketches.specs.declared.item.weighing.Weighing.TheVariants as weighing
 
 -- ---- items of weight 1
 

@@ -20,11 +20,11 @@ use Rattle.sketches.specs.Unseen.{AreFirst, WritesSomeUnseen, WritesUnseen, hash
 use Rattle.sketches.specs.Appending.{appends_both, front_after, front_all, front_more, front_same}
 use Rattle.sketches.specs.EndedText.{Prints, form_after_all, prints_none, prints_both, text_both, text_of}
 use Rattle.sketches.specs.UnseenLaws.{unseen_both, with_both}
-use Rattle.sketches.specs.declared.ended_text.RecordForm.{RecordForm}
+use Rattle.sketches.specs.declared.print.ended_text.RecordForm.{RecordForm}
 use Rattle.sketch_text.specs.declared.record_part.RecordPart.{RecordPart}
 use Rattle.sketches.specs.declared.failure.Failure.{Failure}
 use Rattle.sketches.specs.declared.failure.Failure.TheVariants.{Memory, LineTooLong, TooManyItems, BadSize, BadWeight, Write}
-use Rattle.sketches.specs.declared.unseen.UnseenLines.{UnseenLines}
+use Rattle.sketches.specs.declared.filter.unseen.UnseenLines.{UnseenLines}
 
 -- ---- a record whose item is not seen is the first with its item
 

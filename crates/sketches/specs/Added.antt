@@ -8,7 +8,7 @@ use Rattle.sketch_frequencies.specs.Stands.{Extends, ExtendsBudget}
 use Rattle.sketch_frequencies.specs.State.{FrequentState}
 use Rattle.sketch_frequencies.specs.WeightedBatches.{StepsEqualWeighed, all_weighed}
 use Rattle.sketches.specs.Weighed.{Weighed, total_of, unweighed_of, unweighed_of_line, weighed_of, weighed_of_line}
-use Rattle.sketches.specs.declared.weighing.Weighing.{Weighing}
+use Rattle.sketches.specs.declared.item.weighing.Weighing.{Weighing}
 
 -- a sketch of strings
 abbrev pub Sketch : Type 0

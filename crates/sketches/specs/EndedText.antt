@@ -5,8 +5,8 @@ use Rattle.std.specs.Prelude.{◌==◌, if◌then◌else◌, codes, slice_index}
 use Rattle.std.specs.Str.Lines.{strip_carriage_return}
 use Rattle.sketches.specs.Appending.{appends_none, appends_both}
 use Rattle.sketches.specs.Json.{json_lossy}
-use Rattle.sketches.specs.declared.ended_text.RecordForm.{RecordForm}
-use Rattle.sketches.specs.declared.ended_text.RecordForm.TheVariants.{Plain, AfterFeed, Json}
+use Rattle.sketches.specs.declared.print.ended_text.RecordForm.{RecordForm}
+use Rattle.sketches.specs.declared.print.ended_text.RecordForm.TheVariants.{Plain, AfterFeed, Json}
 
 -- whether a record has no line feed at its end
 abbrev pub is_unended : List ℕ → Bool

@@ -11,13 +11,13 @@ use Rattle.sketches.specs.LineNumbers.{HaveUnweighed, IsFirstUnweighed, IsUnweig
 use Rattle.sketches.specs.Weighed.{Weighed, records_of, splits_of, total_of, unweighed_of_line, weighed_of, weighed_of_line}
 use Rattle.sketches.specs.declared.failure.Failure.{Failure}
 use Rattle.sketches.specs.declared.failure.Failure.TheVariants.{Memory, LineTooLong, TooManyItems, BadSize, BadWeight, Write}
-use Rattle.sketches.specs.declared.filter_size.FilterSize.{FilterSize}
-use Rattle.sketches.specs.declared.filter_size.FilterSize.TheVariants.{Target, Shape}
+use Rattle.sketches.specs.declared.filter.filter_size.FilterSize.{FilterSize}
+use Rattle.sketches.specs.declared.filter.filter_size.FilterSize.TheVariants.{Target, Shape}
 use Rattle.sketches.specs.FilterSizes.{HasNoSize}
 use Rattle.sketch_text.specs.declared.record_part.RecordPart.{RecordPart}
-use Rattle.sketches.specs.declared.top.Options.{Options}
-use Rattle.sketches.specs.declared.uniq.UniqOptions.{UniqOptions}
-use Rattle.sketches.specs.declared.weighing.Weighing.{Weighing}
+use Rattle.sketches.specs.declared.count.top.Options.{Options}
+use Rattle.sketches.specs.declared.filter.uniq.UniqOptions.{UniqOptions}
+use Rattle.sketches.specs.declared.item.weighing.Weighing.{Weighing}
 
 -- the output could not be written
 abbrev pub IsOfOutput : Failure → Type 0

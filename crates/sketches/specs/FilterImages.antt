@@ -5,7 +5,7 @@ use Rattle.sketch_bloom.specs.Image.{IsImage, IsSpelled, prefix_bytes}
 use Rattle.sketch_bloom.specs.State.{FilterState}
 use Rattle.sketches.specs.ImageFailures.{IsUnread}
 use Rattle.sketches.specs.Shown.{IsBadFilter}
-use Rattle.sketches.specs.declared.images.ImageFailure.{ImageFailure}
+use Rattle.sketches.specs.declared.image.images.ImageFailure.{ImageFailure}
 
 -- the bytes are an image of the filter and nothing more, and its words take at most `limit` bytes
 pub record LoadsFilter (limit : ℕ) (image : List ℕ) (filter : FilterState) : Type 0 where

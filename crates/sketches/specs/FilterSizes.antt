@@ -3,9 +3,9 @@ use Rattle.std.specs.Prelude.{◌≡◌, ◌⊎◌, ◌<◌, ◌≤◌, ◌*◌,
 use Rattle.sketch_bloom.specs.Building.{words_for}
 use Rattle.sketch_bloom.specs.Sizes.{AreEnoughBits, AreEnoughBitsRounded, IsLn2TimesWithin}
 use Rattle.sketch_bloom.specs.State.{FilterState, empty_state}
-use Rattle.sketches.specs.declared.filter_size.FilterSize.{FilterSize}
-use Rattle.sketches.specs.declared.filter_size.Shape.{Shape}
-use Rattle.sketches.specs.declared.filter_size.FilterSize.TheVariants.{Target, Shape as OfShape}
+use Rattle.sketches.specs.declared.filter.filter_size.FilterSize.{FilterSize}
+use Rattle.sketches.specs.declared.filter.filter_size.Shape.{Shape}
+use Rattle.sketches.specs.declared.filter.filter_size.FilterSize.TheVariants.{Target, Shape as OfShape}
 
 -- The minimum number of bits of a filter that is made for a number of items. Two hashes modulo fewer bits repeat too often: of 64 bits
 -- there are 4096 pairs of positions, so about 1 in 2000 items meets one of two others.

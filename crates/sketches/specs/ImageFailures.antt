@@ -9,8 +9,8 @@ use Rattle.sketch_base.specs.declared.fault.Fault.{Fault}
 use Rattle.sketch_frequencies.specs.Image.{first_fault_within, prefix_bytes}
 use Rattle.sketch_frequencies.specs.Items.{text_codec}
 use Rattle.sketches.specs.Images.{total_in}
-use Rattle.sketches.specs.declared.images.ImageFailure.{ImageFailure}
-use Rattle.sketches.specs.declared.images.ImageFailure.TheVariants.{Memory, NoImage, Read, TooLong, Rejected, TrailingBytes, TooManyItems, Write}
+use Rattle.sketches.specs.declared.image.images.ImageFailure.{ImageFailure}
+use Rattle.sketches.specs.declared.image.images.ImageFailure.TheVariants.{Memory, NoImage, Read, TooLong, Rejected, TrailingBytes, TooManyItems, Write}
 
 -- the memory layout of a string
 abbrev pub string_row : RattleType

@@ -18,10 +18,10 @@ use Rattle.sketches.specs.Inputs.{AreRead}
 use Rattle.sketches.specs.Outputs.{WritesFront}
 use Rattle.sketches.specs.Reports.{Counts, Row, Reports, ShowsTop, WritesReportFront, report_text}
 use Rattle.sketches.specs.Weighed.{Weighed, splits_of, total_of, weight_of, weighed_of}
-use Rattle.sketches.specs.declared.layout.Layout.{Layout}
-use Rattle.sketches.specs.declared.merge.MergeOptions.{MergeOptions}
-use Rattle.sketches.specs.declared.threshold.Threshold.{Threshold}
-use Rattle.sketches.specs.declared.top.Options.{Options}
+use Rattle.sketches.specs.declared.print.layout.Layout.{Layout}
+use Rattle.sketches.specs.declared.image.merge.MergeOptions.{MergeOptions}
+use Rattle.sketches.specs.declared.print.threshold.Threshold.{Threshold}
+use Rattle.sketches.specs.declared.count.top.Options.{Options}
 
 -- a reader of the image, if it could be opened
 abbrev pub IsOpened : {R E : Type 0} → (R → Option (List ℕ)) → List ℕ → Result R E → Type 0

@@ -5,8 +5,8 @@ use Rattle.std.specs.Str.Lossy.{utf8_lossy}
 use Rattle.std.specs.Str.Lines.{lines}
 use Rattle.sketch_base.specs.Split.{words_of}
 use Rattle.sketch_text.specs.Records.{part_of}
-use Rattle.sketches.specs.declared.selection.Selection.{Selection}
-use Rattle.sketches.specs.declared.selection.Selection.TheVariants as selection
+use Rattle.sketches.specs.declared.item.selection.Selection.{Selection}
+use Rattle.sketches.specs.declared.item.selection.Selection.TheVariants as selection
 
 -- the items of a line
 abbrev pub items_of_line : Selection → List ℕ → List (List ℕ)

@@ -7,9 +7,9 @@ use Rattle.sketches.specs.RecordParts.{raws_by}
 use Rattle.sketch_text.specs.Records.{splits_by}
 use Rattle.sketches.specs.declared.failure.Failure.{Failure}
 use Rattle.sketches.specs.declared.failure.Failure.TheVariants.{Memory, LineTooLong, TooManyItems, BadSize}
-use Rattle.sketches.specs.declared.join.JoinFailure.{JoinFailure}
-use Rattle.sketches.specs.declared.join.JoinFailure.TheVariants.{Unread, Keys, Lines}
-use Rattle.sketches.specs.declared.join.JoinOptions.{JoinOptions}
+use Rattle.sketches.specs.declared.filter.join.JoinFailure.{JoinFailure}
+use Rattle.sketches.specs.declared.filter.join.JoinFailure.TheVariants.{Unread, Keys, Lines}
+use Rattle.sketches.specs.declared.filter.join.JoinOptions.{JoinOptions}
 use Rattle.sketch_text.specs.declared.record_part.RecordPart.{RecordPart}
 
 -- while keys are inserted, memory is exhausted, or a record of the keys has at least `limit` bytes

@@ -10,7 +10,7 @@ use Rattle.sketches.specs.Reading.{AreFirstRecords}
 use Rattle.sketches.specs.RecordParts.{raws_by}
 use Rattle.sketch_text.specs.Records.{splits_by}
 use Rattle.sketches.specs.Unseen.{is_seen, item_of, with_items, written_of}
-use Rattle.sketches.specs.declared.ended_text.RecordForm.{RecordForm}
+use Rattle.sketches.specs.declared.print.ended_text.RecordForm.{RecordForm}
 use Rattle.sketch_text.specs.declared.record_part.RecordPart.{RecordPart}
 
 -- the keys in a file of keys: the items of its records

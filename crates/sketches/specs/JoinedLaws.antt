@@ -11,7 +11,7 @@ use Rattle.sketches.specs.RecordParts.{raws_by}
 use Rattle.sketch_text.specs.Records.{splits_by}
 use Rattle.sketches.specs.Unseen.{is_seen, item_of, with_lines, written_of}
 use Rattle.sketches.specs.UnseenLaws.{raw_records_both, raws_none, with_both}
-use Rattle.sketches.specs.declared.ended_text.RecordForm.{RecordForm}
+use Rattle.sketches.specs.declared.print.ended_text.RecordForm.{RecordForm}
 use Rattle.sketch_text.specs.declared.record_part.RecordPart.{RecordPart}
 
 -- ---- keys

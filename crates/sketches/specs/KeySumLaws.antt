@@ -12,7 +12,7 @@ use Rattle.sketches.specs.Weighed.{Weighed, total_of}
 use Rattle.sketches.specs.WeighingLaws.{total_both}
 use Rattle.sketches.specs.declared.failure.Failure.{Failure}
 use Rattle.sketches.specs.declared.failure.Failure.TheVariants.{Memory, LineTooLong, TooManyItems, BadSize, BadWeight, Write}
-use Rattle.sketches.specs.declared.weighing.WeighedRecord.{WeighedRecord}
+use Rattle.sketches.specs.declared.item.weighing.WeighedRecord.{WeighedRecord}
 
 -- ---- keys
 

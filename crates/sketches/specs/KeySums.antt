@@ -15,13 +15,13 @@ use Rattle.sketches.specs.Reading.{HasLongRecord}
 use Rattle.sketches.specs.Skipped.{skipped_rows}
 use Rattle.sketches.specs.Utf8Lines.{GrowsBy}
 use Rattle.sketches.specs.Weighed.{Weighed, total_of, weight_of}
-use Rattle.sketches.specs.declared.exact_weights.ExactFailure.{ExactFailure}
-use Rattle.sketches.specs.declared.exact_weights.ExactFailure.TheVariants.{Unread, Keys, Weights}
-use Rattle.sketches.specs.declared.exact_weights.ExactOptions.{ExactOptions}
+use Rattle.sketches.specs.declared.weight.exact_weights.ExactFailure.{ExactFailure}
+use Rattle.sketches.specs.declared.weight.exact_weights.ExactFailure.TheVariants.{Unread, Keys, Weights}
+use Rattle.sketches.specs.declared.weight.exact_weights.ExactOptions.{ExactOptions}
 use Rattle.sketches.specs.declared.failure.Failure.{Failure}
 use Rattle.sketches.specs.declared.failure.Failure.TheVariants.{Memory, LineTooLong, TooManyItems, BadSize, BadWeight, Write}
-use Rattle.sketches.specs.declared.weighing.WeighedRecord.{WeighedRecord}
-use Rattle.sketches.specs.declared.layout.Style.{Style}
+use Rattle.sketches.specs.declared.item.weighing.WeighedRecord.{WeighedRecord}
+use Rattle.sketches.specs.declared.print.layout.Style.{Style}
 
 -- ---- what is printed
 

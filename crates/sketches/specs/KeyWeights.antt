@@ -20,11 +20,11 @@ use Rattle.sketches.specs.TextEscapes.{text_escaped}
 use Rattle.sketches.specs.Unseen.{hashed}
 use Rattle.sketches.specs.Weighed.{Weighed, total_of, weight_of, without_weight}
 use Rattle.sketches.specs.Weights.{counted_weight}
-use Rattle.sketches.specs.declared.weighing.WeighedRecord.{WeighedRecord}
-use Rattle.sketches.specs.declared.layout.Style.{Style}
-use Rattle.sketches.specs.declared.layout.Style.TheVariants.{Plain, Escaped, Json}
+use Rattle.sketches.specs.declared.item.weighing.WeighedRecord.{WeighedRecord}
+use Rattle.sketches.specs.declared.print.layout.Style.{Style}
+use Rattle.sketches.specs.declared.print.layout.Style.TheVariants.{Plain, Escaped, Json}
 use Rattle.sketch_text.specs.declared.record_part.RecordPart.{RecordPart}
-use Rattle.sketches.specs.declared.weigh.WeighOptions.{WeighOptions}
+use Rattle.sketches.specs.declared.weight.weigh.WeighOptions.{WeighOptions}
 
 -- the items with a weight, if there is one
 abbrev pub weigh : List (List ℕ) → Option ℕ → Weighed

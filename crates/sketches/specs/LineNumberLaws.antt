@@ -11,9 +11,9 @@ use Rattle.sketches.specs.Weighed.{records_of, splits_of}
 use Rattle.sketch_text.specs.Records.{records_by, splits_by}
 use Rattle.sketch_text.specs.declared.records.Records.{Records}
 use Rattle.sketch_text.specs.declared.records.Records.TheVariants.{Lines}
-use Rattle.sketches.specs.declared.weighing.WeighedRecord.{WeighedRecord}
-use Rattle.sketches.specs.declared.weighing.Weighing.{Weighing}
-use Rattle.sketches.specs.declared.weighing.Weighing.TheVariants as weighing
+use Rattle.sketches.specs.declared.item.weighing.WeighedRecord.{WeighedRecord}
+use Rattle.sketches.specs.declared.item.weighing.Weighing.{Weighing}
+use Rattle.sketches.specs.declared.item.weighing.Weighing.TheVariants as weighing
 
 pub lines_append : (splits : Records) (xs ys : List (List ℕ)) → lines_of splits (xs ++ ys) ≡ lines_of splits xs + lines_of splits ys
 lines_append splits xs ys = sum_by-append (lines_of_row splits) xs ys

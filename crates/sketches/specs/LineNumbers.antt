@@ -5,8 +5,8 @@ use Rattle.sketches.specs.Reading.{AreFirstRecords}
 use Rattle.sketch_text.specs.Records.{records_in, splits_by}
 use Rattle.sketch_text.specs.declared.records.Records.{Records}
 use Rattle.sketch_text.specs.declared.records.Records.TheVariants.{Lines, Csv}
-use Rattle.sketches.specs.declared.weighing.Weighing.{Weighing}
-use Rattle.sketches.specs.declared.weighing.Weighing.TheVariants as weighing
+use Rattle.sketches.specs.declared.item.weighing.Weighing.{Weighing}
+use Rattle.sketches.specs.declared.item.weighing.Weighing.TheVariants as weighing
 
 -- the number of line feeds in bytes
 abbrev pub feeds_in : List ℕ → ℕ

@@ -24,12 +24,12 @@ use Rattle.sketches.specs.Thresholds.{IsAbove}
 use Rattle.sketches.specs.Skipped.{skipped_in}
 use Rattle.sketches.specs.Utf8Lines.{not_utf8_in}
 use Rattle.sketches.specs.Weighed.{Weighed, records_of, splits_of, total_of, unweighed_of, weight_of, weighed_of}
-use Rattle.sketches.specs.declared.layout.Layout.{Layout}
-use Rattle.sketches.specs.declared.layout.Style.{Style}
-use Rattle.sketches.specs.declared.layout.Style.TheVariants.{Plain, Escaped, Json}
-use Rattle.sketches.specs.declared.threshold.Threshold.{Threshold}
-use Rattle.sketches.specs.declared.top.Options.{Options}
-use Rattle.sketches.specs.declared.top.Summary.{Summary}
+use Rattle.sketches.specs.declared.print.layout.Layout.{Layout}
+use Rattle.sketches.specs.declared.print.layout.Style.{Style}
+use Rattle.sketches.specs.declared.print.layout.Style.TheVariants.{Plain, Escaped, Json}
+use Rattle.sketches.specs.declared.print.threshold.Threshold.{Threshold}
+use Rattle.sketches.specs.declared.count.top.Options.{Options}
+use Rattle.sketches.specs.declared.count.top.Summary.{Summary}
 
 -- a row of a string
 abbrev pub Row : Type 0

@@ -2,8 +2,8 @@
 use Rattle.std.specs.Prelude.{◌^◌, ◌≤◌, length, Any}
 use Rattle.std.specs.String.{string_bytes}
 use Rattle.sketches.specs.Added.{Sketch}
-use Rattle.sketches.specs.declared.save.SaveFailure.{SaveFailure}
-use Rattle.sketches.specs.declared.save.SaveFailure.TheVariants.{Memory, ItemTooLong, Write}
+use Rattle.sketches.specs.declared.image.save.SaveFailure.{SaveFailure}
+use Rattle.sketches.specs.declared.image.save.SaveFailure.TheVariants.{Memory, ItemTooLong, Write}
 
 -- why the image of a sketch was not written. A write or an allocation can fail for any sketch
 abbrev pub IsNotSaved : Sketch → SaveFailure → Type 0

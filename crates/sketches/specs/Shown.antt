@@ -14,8 +14,8 @@ use Rattle.sketches.specs.Added.{Sketch}
 use Rattle.sketches.specs.ImageFailures.{IsBadImage, IsOfWrite, IsUnread}
 use Rattle.sketches.specs.Images.{Loads}
 use Rattle.sketches.specs.Outputs.{WritesFront}
-use Rattle.sketches.specs.declared.images.ImageFailure.{ImageFailure}
-use Rattle.sketches.specs.declared.images.ImageFailure.TheVariants.{Memory, NoImage, Read, TooLong, Rejected, TrailingBytes, TooManyItems, Write}
+use Rattle.sketches.specs.declared.image.images.ImageFailure.{ImageFailure}
+use Rattle.sketches.specs.declared.image.images.ImageFailure.TheVariants.{Memory, NoImage, Read, TooLong, Rejected, TrailingBytes, TooManyItems, Write}
 
 -- the line of a value
 abbrev pub value_line : List ℕ → ℕ → List ℕ

@@ -3,12 +3,12 @@ use Rattle.std.specs.Prelude.{ℕ, List, [], ◌∷◌, Option, None, Some, sum_
 use Rattle.std.specs.Str.Lossy.{utf8_lossy}
 use Rattle.sketch_text.specs.Records.{part_in, part_of}
 use Rattle.sketches.specs.Weights.{weight_in, weight_on}
-use Rattle.sketches.specs.declared.weighing.Unweighed.{Unweighed}
-use Rattle.sketches.specs.declared.weighing.Unweighed.TheVariants.{Fails, IsZero}
-use Rattle.sketches.specs.declared.weighing.WeighedPart.{WeighedPart}
-use Rattle.sketches.specs.declared.weighing.WeighedRecord.{WeighedRecord}
-use Rattle.sketches.specs.declared.weighing.Weighing.{Weighing}
-use Rattle.sketches.specs.declared.weighing.Weighing.TheVariants as weighing
+use Rattle.sketches.specs.declared.item.weighing.Unweighed.{Unweighed}
+use Rattle.sketches.specs.declared.item.weighing.Unweighed.TheVariants.{Fails, IsZero}
+use Rattle.sketches.specs.declared.item.weighing.WeighedPart.{WeighedPart}
+use Rattle.sketches.specs.declared.item.weighing.WeighedRecord.{WeighedRecord}
+use Rattle.sketches.specs.declared.item.weighing.Weighing.{Weighing}
+use Rattle.sketches.specs.declared.item.weighing.Weighing.TheVariants as weighing
 
 -- 1 for a record with an item if it has no weight and such a record has the weight 0, and else 0
 abbrev pub skips : Unweighed → Option ℕ → ℕ

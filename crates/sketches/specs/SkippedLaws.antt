@@ -7,9 +7,9 @@ use Rattle.sketch_text.specs.Records.{records_by, splits_by}
 use Rattle.sketches.specs.Skipped.{skipped_in, skipped_rows, skips_line, skips_row}
 use Rattle.sketches.specs.Utf8Lines.{GrowsBy}
 use Rattle.sketches.specs.Weighed.{records_of, splits_of}
-use Rattle.sketches.specs.declared.weighing.WeighedRecord.{WeighedRecord}
-use Rattle.sketches.specs.declared.weighing.Weighing.{Weighing}
-use Rattle.sketches.specs.declared.weighing.Weighing.TheVariants as weighing
+use Rattle.sketches.specs.declared.item.weighing.WeighedRecord.{WeighedRecord}
+use Rattle.sketches.specs.declared.item.weighing.Weighing.{Weighing}
+use Rattle.sketches.specs.declared.item.weighing.Weighing.TheVariants as weighing
 
 pub skipped_append : (chosen : Weighing) (xs ys : List (List ℕ)) → skipped_in chosen (xs ++ ys) ≡ skipped_in chosen xs + skipped_in chosen ys
 skipped_append (weighing.Once chosen) xs ys = refl

@@ -1,7 +1,7 @@
 -- Which rows are printed.
 use Rattle.std.specs.Prelude.{ℕ, ◌*◌, ◌^◌, ◌<◌}
-use Rattle.sketches.specs.declared.threshold.Threshold.{Threshold}
-use Rattle.sketches.specs.declared.threshold.Threshold.TheVariants as threshold
+use Rattle.sketches.specs.declared.print.threshold.Threshold.{Threshold}
+use Rattle.sketches.specs.declared.print.threshold.Threshold.TheVariants as threshold
 
 -- A number is above the threshold: above a weight, or above a percentage of the total. A percentage is in millionths, of which 100
 -- percent have 10^8.

@@ -11,7 +11,7 @@ use Rattle.sketches.specs.Outputs.{WritesFront}
 use Rattle.sketches.specs.Reading.{AreFirstRecords}
 use Rattle.sketches.specs.RecordParts.{raws_by}
 use Rattle.sketch_text.specs.Records.{part_in, records_by, splits_by}
-use Rattle.sketches.specs.declared.ended_text.RecordForm.{RecordForm}
+use Rattle.sketches.specs.declared.print.ended_text.RecordForm.{RecordForm}
 use Rattle.sketch_text.specs.declared.record_part.RecordPart.{RecordPart}
 
 -- the item of a record with its end: a part of the record without it, if the record has this part

@@ -15,7 +15,7 @@ use Rattle.sketches.specs.Reading.{AreWholeLines, AreWholeRecords}
 use Rattle.sketches.specs.RecordParts.{raw_records_in, raws_by}
 use Rattle.sketch_text.specs.Records.{splits_by}
 use Rattle.sketches.specs.Unseen.{hashed, is_seen, is_written, item_of, unseen_lines, with_items, with_lines}
-use Rattle.sketches.specs.declared.ended_text.RecordForm.{RecordForm}
+use Rattle.sketches.specs.declared.print.ended_text.RecordForm.{RecordForm}
 use Rattle.sketch_text.specs.declared.record_part.RecordPart.{RecordPart}
 use Rattle.sketch_text.specs.declared.records.Records.{Records}
 use Rattle.sketch_text.specs.declared.records.Records.TheVariants as records

@@ -8,7 +8,7 @@ use Rattle.sketches.specs.AddingLaws.{no_records, records_both}
 use Rattle.sketches.specs.Reading.{AreWholeRecords}
 use Rattle.sketches.specs.Utf8Lines.{GrowsBy, bytes_of, not_utf8_in}
 use Rattle.sketches.specs.Weighed.{records_of, splits_of}
-use Rattle.sketches.specs.declared.weighing.Weighing.{Weighing}
+use Rattle.sketches.specs.declared.item.weighing.Weighing.{Weighing}
 
 pub not_utf8_append : (chosen : Weighing) (xs ys : List (List ℕ)) → not_utf8_in chosen (xs ++ ys) ≡ not_utf8_in chosen xs + not_utf8_in chosen ys
 not_utf8_append chosen xs ys = sum_by-append (λ (row : List ℕ). cond (not (list_all is_utf8 (bytes_of chosen row))) 1 0) xs ys

@@ -3,10 +3,10 @@ use Rattle.std.specs.Prelude.{◌≡◌, ℕ, ◌+◌, ◌-◌, ◌^◌, List, [
 use Rattle.std.specs.List.{count_by, list_all}
 use Rattle.std.specs.Str.{is_utf8}
 use Rattle.sketch_text.specs.Records.{part_in, part_of}
-use Rattle.sketches.specs.declared.selection.Selection.{Selection}
-use Rattle.sketches.specs.declared.selection.Selection.TheVariants as selection
-use Rattle.sketches.specs.declared.weighing.Weighing.{Weighing}
-use Rattle.sketches.specs.declared.weighing.Weighing.TheVariants as weighing
+use Rattle.sketches.specs.declared.item.selection.Selection.{Selection}
+use Rattle.sketches.specs.declared.item.selection.Selection.TheVariants as selection
+use Rattle.sketches.specs.declared.item.weighing.Weighing.{Weighing}
+use Rattle.sketches.specs.declared.item.weighing.Weighing.TheVariants as weighing
 
 -- the bytes of a line that its items are made of: its words are made of the whole line
 abbrev pub bytes_of_line : Selection → List ℕ → List (List ℕ)

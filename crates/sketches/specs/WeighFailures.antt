@@ -10,8 +10,8 @@ use Rattle.sketches.specs.LineNumbers.{HaveUnweighed, IsFirstUnweighed, IsUnweig
 use Rattle.sketches.specs.Weighed.{Weighed, total_of}
 use Rattle.sketches.specs.declared.failure.Failure.{Failure}
 use Rattle.sketches.specs.declared.failure.Failure.TheVariants.{Memory, LineTooLong, TooManyItems, BadSize, BadWeight, Write}
-use Rattle.sketches.specs.declared.weighing.WeighedRecord.{WeighedRecord}
-use Rattle.sketches.specs.declared.weigh.WeighOptions.{WeighOptions}
+use Rattle.sketches.specs.declared.item.weighing.WeighedRecord.{WeighedRecord}
+use Rattle.sketches.specs.declared.weight.weigh.WeighOptions.{WeighOptions}
 
 -- while items are added with their weights to a total, the memory is exhausted, the total would exceed `u64::MAX`, or an item has no weight.
 -- `bad` holds of the number of its line

@@ -8,10 +8,10 @@ use Rattle.sketch_text.specs.Records.{part_in, part_of, records_in, splits_by}
 use Rattle.sketches.specs.Weights.{counted_weight, taken_weight, weight_in}
 use Rattle.sketch_text.specs.declared.records.Records.{Records}
 use Rattle.sketch_text.specs.declared.records.Records.TheVariants as records
-use Rattle.sketches.specs.declared.weighing.WeighedPart.{WeighedPart}
-use Rattle.sketches.specs.declared.weighing.WeighedRecord.{WeighedRecord}
-use Rattle.sketches.specs.declared.weighing.Weighing.{Weighing}
-use Rattle.sketches.specs.declared.weighing.Weighing.TheVariants as weighing
+use Rattle.sketches.specs.declared.item.weighing.WeighedPart.{WeighedPart}
+use Rattle.sketches.specs.declared.item.weighing.WeighedRecord.{WeighedRecord}
+use Rattle.sketches.specs.declared.item.weighing.Weighing.{Weighing}
+use Rattle.sketches.specs.declared.item.weighing.Weighing.TheVariants as weighing
 
 -- items with their weights
 abbrev pub Weighed : Type 0

@@ -22,8 +22,8 @@ use Rattle.sketches.specs.Utf8Lines.{GrowsBy}
 use Rattle.sketches.specs.Weighed.{Weighed, records_of, splits_of, total_of, unweighed_of, unweighed_of_line, weighed_of, weighed_of_line}
 use Rattle.sketches.specs.declared.failure.Failure.{Failure}
 use Rattle.sketches.specs.declared.failure.Failure.TheVariants.{Memory, LineTooLong, TooManyItems, BadSize, BadWeight, Write}
-use Rattle.sketches.specs.declared.weighing.Weighing.{Weighing}
-use Rattle.sketches.specs.declared.weighing.Weighing.TheVariants as weighing
+use Rattle.sketches.specs.declared.item.weighing.Weighing.{Weighing}
+use Rattle.sketches.specs.declared.item.weighing.Weighing.TheVariants as weighing
 
 -- ---- weights
 

@@ -6,9 +6,9 @@ use Rattle.sketch_text.specs.Decimals.{number_in}
 use Rattle.sketch_text.specs.Records.{part_in, part_of}
 use Rattle.sketch_text.specs.declared.part.Part.{Part}
 use Rattle.sketch_text.specs.declared.record_part.RecordPart.{RecordPart}
-use Rattle.sketches.specs.declared.weighing.Unweighed.{Unweighed}
-use Rattle.sketches.specs.declared.weighing.Unweighed.TheVariants.{Fails, IsZero}
-use Rattle.sketches.specs.declared.weighing.WeighedRecord.{WeighedRecord}
+use Rattle.sketches.specs.declared.item.weighing.Unweighed.{Unweighed}
+use Rattle.sketches.specs.declared.item.weighing.Unweighed.TheVariants.{Fails, IsZero}
+use Rattle.sketches.specs.declared.item.weighing.WeighedRecord.{WeighedRecord}
 
 -- the weight in a part of a line, if the line has this part and it spells one
 abbrev pub weight_in : Part → List ℕ → Option ℕ
