@@ -6,10 +6,10 @@ use Rattle.datasketches_c.specs.Estimates.{AreEstimates}
 use Rattle.datasketches_c.specs.Numbers.{ok}
 use Rattle.datasketches_c.specs.Sharing.{unreadable}
 use Rattle.datasketches_c.specs.ValidRows.{OnRows}
-use Rattle.datasketches_c.specs.declared.any_sketch.AnySketch.{AnySketch}
+use Rattle.datasketches_c.specs.declared.any_sketch.HeldSketch.{HeldSketch}
 use Rattle.datasketches_c.proofs.KindLemmas.{on_kind_said}
 
-module _ (part : AnySketch → Option CountState) (old new : Option AnySketch) (held : AnySketch) (s : CountState) (result : ℤ)
+module _ (part : HeldSketch → Option CountState) (old new : Option HeldSketch) (held : HeldSketch) (s : CountState) (result : ℤ)
     (is : old ≡ Some held) (which : part held ≡ Some s) where
   -- each item's estimate was written down at its row
   pub all_estimated : {W : Type 0} → (number : W → ℤ) (zero : W) (validity : Option (List Bool)) (items : List (List ℕ)) (by_row : List W)

@@ -7,33 +7,33 @@ use Rattle.datasketches_c.specs.Joining.{IsCombined, joined, joined_history}
 use Rattle.datasketches_c.specs.Kinds.{ChangesKind, OnKind, HoldsKind, filter_of}
 use Rattle.datasketches_c.specs.Numbers.{ok, refusal_number}
 use Rattle.datasketches_c.specs.Sharing.{reads, unchangeable, unreadable}
-use Rattle.datasketches_c.specs.declared.any_sketch.AnySketch.{AnySketch}
-use Rattle.datasketches_c.specs.declared.any_sketch.AnySketch.TheVariants.{Filter, CountI64, CountU64, FrequentI64, FrequentStrings, FrequentU64, Moved}
-use Rattle.datasketches_c.specs.declared.any_sketch.Held.TheVariants.{Own, Shared}
+use Rattle.datasketches_c.specs.declared.any_sketch.HeldSketch.{HeldSketch}
+use Rattle.datasketches_c.specs.declared.any_sketch.AnySketch.TheVariants.{Filter, CountI64, CountU64, FrequentI64, FrequentStrings, FrequentU64}
+use Rattle.datasketches_c.specs.declared.any_sketch.HeldSketch.TheVariants.{Moved, Own, Shared}
 use Rattle.datasketches_c.specs.declared.filter.SetOperation.{SetOperation}
 use Rattle.datasketches_c.proofs.KindLemmas.{on_kind_less, of_held, holds_less}
 
 -- a handle that holds a filter has it
-pub holds_filter : (new : Option AnySketch) (s : FilterState) → HoldsKind filter_of new (λ c. c ≡ s) → new ≡ Some (Filter (Own s))
-holds_filter (Some (Filter (Own c))) s is = ap (λ (t : FilterState). Some (Filter (Own t))) is
-holds_filter (Some (Filter (Shared c))) s is = absurd is
-holds_filter (Some (CountI64 c)) s is = absurd is
-holds_filter (Some (CountU64 c)) s is = absurd is
-holds_filter (Some (FrequentI64 c)) s is = absurd is
-holds_filter (Some (FrequentU64 c)) s is = absurd is
-holds_filter (Some (FrequentStrings c)) s is = absurd is
+pub holds_filter : (new : Option HeldSketch) (s : FilterState) → HoldsKind filter_of new (λ c. c ≡ s) → new ≡ Some (Own (Filter s))
+holds_filter (Some (Own (Filter c))) s is = ap (λ (t : FilterState). Some (Own (Filter t))) is
+holds_filter (Some (Own (CountI64 c))) s is = absurd is
+holds_filter (Some (Own (CountU64 c))) s is = absurd is
+holds_filter (Some (Own (FrequentI64 c))) s is = absurd is
+holds_filter (Some (Own (FrequentU64 c))) s is = absurd is
+holds_filter (Some (Own (FrequentStrings c))) s is = absurd is
+holds_filter (Some (Shared c)) s is = absurd is
 holds_filter (Some Moved) s is = absurd is
 holds_filter None s is = absurd is
 
 -- a filter of a handle that another handle's filter was set against
-pub was_set_against : (operation : SetOperation) (old new other_old other_new : Option AnySketch) (result : ℤ)
+pub was_set_against : (operation : SetOperation) (old new other_old other_new : Option HeldSketch) (result : ℤ)
     → ChangesKind filter_of old new result (λ a. OnKind (reads filter_of) other_old other_new result (λ b. HoldsKind filter_of new (λ c. IsCombined operation a b c result)))
     → ChangesKind filter_of old new result (λ a. OnKind (reads filter_of) other_old other_new result (λ b.
-    (IsCompatible a b → (result ≡ ok) × (new ≡ Some (Filter (Own (joined operation a b)))) × ExtendsBoth a b (joined operation a b) (joined_history operation)) × (¬ IsCompatible a b → result ≡ refusal_number Mismatch)))
+    (IsCompatible a b → (result ≡ ok) × (new ≡ Some (Own (Filter (joined operation a b)))) × ExtendsBoth a b (joined operation a b) (joined_history operation)) × (¬ IsCompatible a b → result ≡ refusal_number Mismatch)))
 was_set_against operation old new other_old other_new result said =
     let Combined : FilterState → FilterState → Type 0 = λ a b. HoldsKind filter_of new (λ c. IsCombined operation a b c result) in
     let Set : FilterState → FilterState → Type 0 = λ a b.
-    (IsCompatible a b → (result ≡ ok) × (new ≡ Some (Filter (Own (joined operation a b)))) × ExtendsBoth a b (joined operation a b) (joined_history operation)) × (¬ IsCompatible a b → result ≡ refusal_number Mismatch) in
+    (IsCompatible a b → (result ≡ ok) × (new ≡ Some (Own (Filter (joined operation a b)))) × ExtendsBoth a b (joined operation a b) (joined_history operation)) × (¬ IsCompatible a b → result ≡ refusal_number Mismatch) in
     let set : (a b : FilterState) → Combined a b → Set a b = λ a b held.
     let Is : FilterState → Type 0 = λ c. IsCombined operation a b c result in (
       (λ fits. (

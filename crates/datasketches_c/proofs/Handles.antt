@@ -21,14 +21,14 @@ use Rattle.std.proofs.alloc.Global.TheLaws as heap_laws
 use Rattle.std.proofs.GlobalToken.{dealloc_token-Testable}
 use Rattle.std_alloc.specs.Box.Ownership.{box_owns}
 use Rattle.datasketches_c.specs.Holding.{holds}
-use Rattle.datasketches_c.specs.declared.any_sketch.AnySketch as sketch
-use Rattle.datasketches_c.specs.contracts.any_sketch.AnySketch as any_sketch
+use Rattle.datasketches_c.specs.declared.any_sketch.HeldSketch as sketch
+use Rattle.datasketches_c.specs.contracts.any_sketch.HeldSketch as held_sketch
 use Rattle.datasketches_c.specs.contracts.handle.SketchHandle as handle
 use Rattle.datasketches_c.specs.contracts.raw_box.RawBox as raw_box
 use Rattle.datasketches_c.proofs.Words.{pair, word_out, word_in}
 
 abbrev pub Sketch : RattleType
-Sketch = any_sketch.the_row
+Sketch = held_sketch.the_row
 
 abbrev pub Heap : RattleType
 Heap = heap.the_row
@@ -43,7 +43,7 @@ abbrev pub Raw : RattleType
 Raw = raw_box.the_row Sketch Heap ghosts
 
 -- what a block owns that is the sketch's
-abbrev pub boxed : Global → Ptr → sketch.AnySketch → base.Fml.Fml
+abbrev pub boxed : Global → Ptr → sketch.HeldSketch → base.Fml.Fml
 boxed a p x = box_owns (ghosts.dealloc_token a) Sketch p x
 
 module _ {M : Type 1} {𝓤 : Ura M} {𝓛 : Logic 𝓤} {K : Type 0} {Γ : List (Item 𝓤)} {G : Goal 𝓤 𝓛.H} where
@@ -53,7 +53,7 @@ module _ {M : Type 1} {𝓤 : Ura M} {𝓛 : Logic 𝓤} {K : Type 0} {Γ : List
       → Seq K 𝓛 (‵ (Handle.own_val d vs) ∷ Γ) G
   handle_out t d vs k = fsplit t $ word_out Heap heap_row_laws ghosts t d.pointer d.alloc vs (λ h is fits. move t (1 ∷ []) $ k h is fits)
 
-  pub handle_in : K → (p : Ptr) (h : Val) (a : Global) (held : Option sketch.AnySketch)
+  pub handle_in : K → (p : Ptr) (h : Val) (a : Global) (held : Option sketch.HeldSketch)
       → Step K 𝓛 (‵ (Handle.own_val (record { pointer = p; alloc = a; value = held }) (pair (ptr_val p) h ∷ [])) ∷ Γ) G
       (‵ (holds (ghosts.dealloc_token a) Sketch p held) ∷ ‵ (Heap.own_val a (h ∷ [])) ∷ Γ) G
   handle_in t p h a held = step (λ rest. move t (1 ∷ []) $ word_in Heap heap_row_laws ghosts t p h a $ fjoin t $ rest)
@@ -67,15 +67,15 @@ module _ {M : Type 1} {𝓤 : Ura M} {𝓛 : Logic 𝓤} {K : Type 0} {Γ : List
       in_a_block t d.pointer (λ p. boxed d.alloc p d.value) (fst∗ 𝓤 (never 𝓤) (sem 𝓛 (ghosts.dealloc_token d.alloc (bare (lone Sketch.mir)) null_ptr))) (λ b o e.
       k b o h (subst (λ (p : Ptr). vs ≡ pair (ptr_val p) h ∷ []) e is) fits))
 
-  pub raw_in : K → (b o : ℕ) (h : Val) (a : Global) (x : sketch.AnySketch)
+  pub raw_in : K → (b o : ℕ) (h : Val) (a : Global) (x : sketch.HeldSketch)
       → Step K 𝓛 (‵ (Raw.own_val (record { pointer = block_ptr b o; alloc = a; value = x }) (pair (vptr b o) h ∷ [])) ∷ Γ) G
       (‵ (boxed a (block_ptr b o) x) ∷ ‵ (Heap.own_val a (h ∷ [])) ∷ Γ) G
   raw_in t b o h a x = step (λ rest. move t (1 ∷ []) $ word_in Heap heap_row_laws ghosts t (block_ptr b o) h a $ fjoin t $ rest)
 
   -- a handle is null and holds nothing, or is of a block whose pointer may be compared with null
-  pub null_or_block : K → (a : Global) (p : Ptr) (held : Option sketch.AnySketch)
+  pub null_or_block : K → (a : Global) (p : Ptr) (held : Option sketch.HeldSketch)
       → (p ≡ null_ptr → held ≡ None → Seq K 𝓛 Γ G)
-      → ((b o : ℕ) (x : sketch.AnySketch) → p ≡ block_ptr b o → held ≡ Some x → Testable (block_ptr b o)
+      → ((b o : ℕ) (x : sketch.HeldSketch) → p ≡ block_ptr b o → held ≡ Some x → Testable (block_ptr b o)
       → Seq K 𝓛 (‵ (boxed a (block_ptr b o) x) ∷ Γ) G)
       → Seq K 𝓛 (‵ (holds (ghosts.dealloc_token a) Sketch p held) ∷ Γ) G
   null_or_block t a p None null block = feq_l t (λ e. null e refl)

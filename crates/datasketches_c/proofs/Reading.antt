@@ -21,7 +21,7 @@ use Rattle.datasketches_c.specs.FrequentImages.{IsOfNumbers, RejectsItem}
 use Rattle.datasketches_c.specs.Images.{IsRefusedImage}
 use Rattle.datasketches_c.specs.Kinds.{HoldsKind}
 use Rattle.datasketches_c.specs.Numbers.{OnDone, OnRefused, ok, refusal_number}
-use Rattle.datasketches_c.specs.declared.any_sketch.AnySketch.{AnySketch}
+use Rattle.datasketches_c.specs.declared.any_sketch.HeldSketch.{HeldSketch}
 use Rattle.datasketches_c.proofs.KindLemmas.{holds_kind}
 
 -- where neither an image nor the limit has a fault, none comes before memory
@@ -100,8 +100,8 @@ module _ {T C : Type 0} (item : RattleType) (codec : Codec C) (content : T → C
       (λ s is within. none_before (frequent.early_fault image) limit _ is.no_fault within) of (if_done read (limit ≡ None) accepted)
 
 -- a handle was given the sketch of the front of an image, and what holds of it and of the number of bytes that were read
-pub holds_read : {S : Type 0} (part : AnySketch → Option S) (whole : S → AnySketch) → ((s : S) → part (whole s) ≡ Some s)
-    → (P : S × ℕ → Type 0) (read : Result (S × ℕ) ErrorValue) (used : ℕ) (new : Option AnySketch) (result : ℤ) → IfOk read P
+pub holds_read : {S : Type 0} (part : HeldSketch → Option S) (whole : S → HeldSketch) → ((s : S) → part (whole s) ≡ Some s)
+    → (P : S × ℕ → Type 0) (read : Result (S × ℕ) ErrorValue) (used : ℕ) (new : Option HeldSketch) (result : ℤ) → IfOk read P
     → OnDone result ((result ≡ ok) × ((s : S) × (read ≡ Ok (s, used)) × (new ≡ Some (whole s))))
     → OnDone result ((result ≡ ok) × HoldsKind part new (λ s. P (s, used)))
 holds_read {S} part whole back P read used new (pos n) holds (done, (s, is, now)) =

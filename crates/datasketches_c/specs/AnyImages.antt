@@ -16,47 +16,47 @@ use Rattle.datasketches_c.specs.Images.{IsRefusedImage, WritesSizedImage}
 use Rattle.datasketches_c.specs.Kinds.{HoldsKind, filter_of, count_i64_of, count_u64_of, frequent_i64_of, frequent_strings_of, frequent_u64_of}
 use Rattle.datasketches_c.specs.Numbers.{max_i64, max_u64, min_i64, no_sketch, ok, wrong_kind}
 use Rattle.datasketches_c.specs.Sharing.{unshared}
-use Rattle.datasketches_c.specs.declared.any_sketch.AnySketch.{AnySketch}
-use Rattle.datasketches_c.specs.declared.any_sketch.Held.TheVariants.{Own}
-use Rattle.datasketches_c.specs.declared.any_sketch.AnySketch.TheVariants as held
+use Rattle.datasketches_c.specs.declared.any_sketch.HeldSketch.{HeldSketch}
+use Rattle.datasketches_c.specs.declared.any_sketch.HeldSketch.TheVariants.{Own}
+use Rattle.datasketches_c.specs.declared.any_sketch.AnySketch.TheVariants as any
 use Rattle.datasketches_c.specs.declared.sketch_kind.SketchKind.{SketchKind}
 use Rattle.datasketches_c.specs.declared.sketch_kind.SketchKind.TheVariants.{Filter, CountU64, CountI64, FrequentU64, FrequentI64, FrequentStrings}
 
 -- the image of a sketch that is not shared was written to the front of the buffer, or was refused
-abbrev pub WritesImageOf : AnySketch → (old new : List ℕ) → ℕ → ℤ → Type 0
-WritesImageOf (held.Filter (Own s)) old new written result =
+abbrev pub WritesImageOf : HeldSketch → (old new : List ℕ) → ℕ → ℤ → Type 0
+WritesImageOf (Own (any.Filter s)) old new written result =
     WritesSizedImage (λ image. filters.IsSpelled image s) (filters.image_bytes s) old new written result
-WritesImageOf (held.CountI64 (Own s)) old new written result =
+WritesImageOf (Own (any.CountI64 s)) old new written result =
     WritesSizedImage (λ image. counts.IsSpelled min_i64 max_i64 image s) (counts.image_bytes s) old new written result
-WritesImageOf (held.CountU64 (Own s)) old new written result =
+WritesImageOf (Own (any.CountU64 s)) old new written result =
     WritesSizedImage (λ image. counts.IsSpelled (pos 0) max_u64 image s) (counts.image_bytes s) old new written result
-WritesImageOf (held.FrequentI64 (Own s)) old new written result = WritesNumbers i64_codec (λ n. n) s old new written result
-WritesImageOf (held.FrequentU64 (Own s)) old new written result = WritesNumbers u64_codec (λ n. n) s old new written result
-WritesImageOf (held.FrequentStrings (Own s)) old new written result = WritesFrequentStrings s old new written result
+WritesImageOf (Own (any.FrequentI64 s)) old new written result = WritesNumbers i64_codec (λ n. n) s old new written result
+WritesImageOf (Own (any.FrequentU64 s)) old new written result = WritesNumbers u64_codec (λ n. n) s old new written result
+WritesImageOf (Own (any.FrequentStrings s)) old new written result = WritesFrequentStrings s old new written result
 WritesImageOf _ old new written result = result ≡ wrong_kind
 
 -- the same of a handle's sketch, which may be shared
-abbrev pub WritesImageIn : Option AnySketch → (old new : List ℕ) → ℕ → ℤ → Type 0
+abbrev pub WritesImageIn : Option HeldSketch → (old new : List ℕ) → ℕ → ℤ → Type 0
 WritesImageIn None old new written result = result ≡ no_sketch
 WritesImageIn (Some sketch) old new written result = WritesImageOf (unshared sketch) old new written result
 
 -- the length of the image of a sketch that is not shared was written
-abbrev pub TellsLengthOf : AnySketch → ℕ → ℤ → Type 0
-TellsLengthOf (held.Filter (Own s)) bytes result = (result ≡ ok) × (bytes ≡ filters.image_bytes s)
-TellsLengthOf (held.CountI64 (Own s)) bytes result = (result ≡ ok) × (bytes ≡ counts.image_bytes s)
-TellsLengthOf (held.CountU64 (Own s)) bytes result = (result ≡ ok) × (bytes ≡ counts.image_bytes s)
-TellsLengthOf (held.FrequentI64 (Own s)) bytes result = TellsNumbersLength i64_codec (λ n. n) s bytes result
-TellsLengthOf (held.FrequentU64 (Own s)) bytes result = TellsNumbersLength u64_codec (λ n. n) s bytes result
-TellsLengthOf (held.FrequentStrings (Own s)) bytes result = TellsStringsLength s bytes result
+abbrev pub TellsLengthOf : HeldSketch → ℕ → ℤ → Type 0
+TellsLengthOf (Own (any.Filter s)) bytes result = (result ≡ ok) × (bytes ≡ filters.image_bytes s)
+TellsLengthOf (Own (any.CountI64 s)) bytes result = (result ≡ ok) × (bytes ≡ counts.image_bytes s)
+TellsLengthOf (Own (any.CountU64 s)) bytes result = (result ≡ ok) × (bytes ≡ counts.image_bytes s)
+TellsLengthOf (Own (any.FrequentI64 s)) bytes result = TellsNumbersLength i64_codec (λ n. n) s bytes result
+TellsLengthOf (Own (any.FrequentU64 s)) bytes result = TellsNumbersLength u64_codec (λ n. n) s bytes result
+TellsLengthOf (Own (any.FrequentStrings s)) bytes result = TellsStringsLength s bytes result
 TellsLengthOf _ bytes result = result ≡ wrong_kind
 
-abbrev pub TellsLengthIn : Option AnySketch → ℕ → ℤ → Type 0
+abbrev pub TellsLengthIn : Option HeldSketch → ℕ → ℤ → Type 0
 TellsLengthIn None bytes result = result ≡ no_sketch
 TellsLengthIn (Some sketch) bytes result = TellsLengthOf (unshared sketch) bytes result
 
 -- the handle holds the sketch of this kind that was read from the front of the image, of which it took `used` bytes
 abbrev pub HoldsRead :
-    Option SketchKind → (image : List ℕ) → (max_bytes seed : ℕ) → TableKey → (used : ℕ) → Option AnySketch → Type 0
+    Option SketchKind → (image : List ℕ) → (max_bytes seed : ℕ) → TableKey → (used : ℕ) → Option HeldSketch → Type 0
 HoldsRead (Some Filter) image max_bytes seed key used held =
     HoldsKind filter_of held (λ s. restored_filters.IsRestored image max_bytes s × filters.ReadsFront image s used)
     × (used ≡ filters.prefix_bytes image) × (used ≤ length image)

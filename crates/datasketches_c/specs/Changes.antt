@@ -18,9 +18,9 @@ use Rattle.datasketches_c.specs.FrequentStrings.{strings_eq}
 use Rattle.datasketches_c.specs.Kinds.{HoldsKind, filter_of, count_i64_of, count_u64_of, frequent_i64_of, frequent_u64_of, frequent_strings_of}
 use Rattle.datasketches_c.specs.Numbers.{no_sketch, ok}
 use Rattle.datasketches_c.specs.Sharing.{unchangeable}
-use Rattle.datasketches_c.specs.declared.any_sketch.AnySketch.{AnySketch}
-use Rattle.datasketches_c.specs.declared.any_sketch.Held.TheVariants.{Own}
-use Rattle.datasketches_c.specs.declared.any_sketch.AnySketch.TheVariants as held
+use Rattle.datasketches_c.specs.declared.any_sketch.HeldSketch.{HeldSketch}
+use Rattle.datasketches_c.specs.declared.any_sketch.HeldSketch.TheVariants.{Own}
+use Rattle.datasketches_c.specs.declared.any_sketch.AnySketch.TheVariants as any
 use Rattle.datasketches_c.specs.declared.sketch_kind.SketchKind.{SketchKind}
 use Rattle.datasketches_c.specs.declared.sketch_kind.SketchKind.TheVariants.{FrequentU64, FrequentI64, FrequentStrings}
 
@@ -31,7 +31,7 @@ pub record IsNew {T : Type 0} (eq : T → T → Bool) (max_size sample_size : �
   pub budget : KeepsTailBudget eq s (New max_size sample_size)
 
 -- the handle holds a new sketch of frequent items of this kind
-abbrev pub HoldsNew : Option SketchKind → (max_size sample_size : ℕ) → TableKey → Option AnySketch → Type 0
+abbrev pub HoldsNew : Option SketchKind → (max_size sample_size : ℕ) → TableKey → Option HeldSketch → Type 0
 HoldsNew (Some FrequentU64) max_size sample_size key new = HoldsKind frequent_u64_of new (IsNew nat_eq max_size sample_size key)
 HoldsNew (Some FrequentI64) max_size sample_size key new = HoldsKind frequent_i64_of new (IsNew int_eq max_size sample_size key)
 HoldsNew (Some FrequentStrings) max_size sample_size key new =
@@ -53,29 +53,29 @@ pub record Restarts (old new : counts_state.CountState) (result : ℤ) : Type 0 
   pub renewed : counts_stand.StandsFor new (counts.CountHistory.New old.hashes old.buckets old.seed)
 
 -- the sketch was emptied. A shared one is not changed
-abbrev pub Resets : (old new : AnySketch) → ℤ → Type 0
-Resets (held.Filter (Own s)) new result = HoldsKind filter_of (Some new) (λ t. Clears s t result)
-Resets (held.CountI64 (Own s)) new result = HoldsKind count_i64_of (Some new) (λ t. Restarts s t result)
-Resets (held.CountU64 (Own s)) new result = HoldsKind count_u64_of (Some new) (λ t. Restarts s t result)
-Resets (held.FrequentI64 (Own s)) new result = (result ≡ ok) × HoldsKind frequent_i64_of (Some new) (Empties int_eq s)
-Resets (held.FrequentU64 (Own s)) new result = (result ≡ ok) × HoldsKind frequent_u64_of (Some new) (Empties nat_eq s)
-Resets (held.FrequentStrings (Own s)) new result = (result ≡ ok) × HoldsKind frequent_strings_of (Some new) (Empties strings_eq s)
+abbrev pub Resets : (old new : HeldSketch) → ℤ → Type 0
+Resets (Own (any.Filter s)) new result = HoldsKind filter_of (Some new) (λ t. Clears s t result)
+Resets (Own (any.CountI64 s)) new result = HoldsKind count_i64_of (Some new) (λ t. Restarts s t result)
+Resets (Own (any.CountU64 s)) new result = HoldsKind count_u64_of (Some new) (λ t. Restarts s t result)
+Resets (Own (any.FrequentI64 s)) new result = (result ≡ ok) × HoldsKind frequent_i64_of (Some new) (Empties int_eq s)
+Resets (Own (any.FrequentU64 s)) new result = (result ≡ ok) × HoldsKind frequent_u64_of (Some new) (Empties nat_eq s)
+Resets (Own (any.FrequentStrings s)) new result = (result ≡ ok) × HoldsKind frequent_strings_of (Some new) (Empties strings_eq s)
 Resets old new result = (result ≡ unchangeable old) × (new ≡ old)
 
 -- the same of a handle's sketch
-abbrev pub ResetsAny : (old new : Option AnySketch) → ℤ → Type 0
+abbrev pub ResetsAny : (old new : Option HeldSketch) → ℤ → Type 0
 ResetsAny (Some old) (Some new) result = Resets old new result
 ResetsAny None new result = (result ≡ no_sketch) × (new ≡ None)
 ResetsAny (Some old) None result = ⊥
 
 -- the number of counters that purges of the sketch sample was changed, or it was refused. A shared sketch is not changed
-abbrev pub Resampled : (old : AnySketch) → ℕ → (new : AnySketch) → ℤ → Type 0
-Resampled (held.FrequentI64 (Own s)) n new result = HoldsKind frequent_i64_of (Some new) (λ t. Resamples int_eq s n t result)
-Resampled (held.FrequentU64 (Own s)) n new result = HoldsKind frequent_u64_of (Some new) (λ t. Resamples nat_eq s n t result)
-Resampled (held.FrequentStrings (Own s)) n new result = HoldsKind frequent_strings_of (Some new) (λ t. Resamples strings_eq s n t result)
+abbrev pub Resampled : (old : HeldSketch) → ℕ → (new : HeldSketch) → ℤ → Type 0
+Resampled (Own (any.FrequentI64 s)) n new result = HoldsKind frequent_i64_of (Some new) (λ t. Resamples int_eq s n t result)
+Resampled (Own (any.FrequentU64 s)) n new result = HoldsKind frequent_u64_of (Some new) (λ t. Resamples nat_eq s n t result)
+Resampled (Own (any.FrequentStrings s)) n new result = HoldsKind frequent_strings_of (Some new) (λ t. Resamples strings_eq s n t result)
 Resampled old n new result = (result ≡ unchangeable old) × (new ≡ old)
 
-abbrev pub ResamplesAny : (old : Option AnySketch) → ℕ → (new : Option AnySketch) → ℤ → Type 0
+abbrev pub ResamplesAny : (old : Option HeldSketch) → ℕ → (new : Option HeldSketch) → ℤ → Type 0
 ResamplesAny (Some old) n (Some new) result = Resampled old n new result
 ResamplesAny None n new result = (result ≡ no_sketch) × (new ≡ None)
 ResamplesAny (Some old) n None result = ⊥

@@ -8,16 +8,16 @@ use Rattle.datasketches_c.specs.Estimates.{IsEstimate, AreEstimates}
 use Rattle.datasketches_c.specs.Kinds.{ChangesKind, OnKind, HoldsKind}
 use Rattle.datasketches_c.specs.Numbers.{OnRefused, ok, refusal_number}
 use Rattle.datasketches_c.specs.ValidRows.{OnRows}
-use Rattle.datasketches_c.specs.declared.any_sketch.AnySketch.{AnySketch}
+use Rattle.datasketches_c.specs.declared.any_sketch.HeldSketch.{HeldSketch}
 
 -- the call wrote the sketch's estimate of the item's weight
 abbrev pub Estimates :
-    (part : AnySketch → Option CountState) → (old new : Option AnySketch) → ℤ → (bytes : List ℕ) → (estimate : ℤ) → Type 0
+    (part : HeldSketch → Option CountState) → (old new : Option HeldSketch) → ℤ → (bytes : List ℕ) → (estimate : ℤ) → Type 0
 Estimates part old new result bytes estimate = OnKind part old new result (λ s. (result ≡ ok) × IsEstimate s bytes estimate)
 
 -- the call wrote each item's estimate at the item's row
 abbrev pub EstimatesAll :
-    {W : Type 0} → (number : W → ℤ) → (zero : W) → (part : AnySketch → Option CountState) → (old new : Option AnySketch) → ℤ →
+    {W : Type 0} → (number : W → ℤ) → (zero : W) → (part : HeldSketch → Option CountState) → (old new : Option HeldSketch) → ℤ →
     Option (List Bool) → (items : List (List ℕ)) → (by_row : List W) → Type 0
 EstimatesAll number zero part old new result validity items by_row =
     OnKind part old new result (λ s.
@@ -44,14 +44,14 @@ pub record AddsWeights
       greatest < old.total + sum_by (λ weight. unsigned_abs (number weight)) weights → result ≡ refusal_number WeightOverflow
   pub refused : OnRefused result (new ≡ old)
 
-module _ (part : AnySketch → Option CountState) (greatest : ℕ) where
+module _ (part : HeldSketch → Option CountState) (greatest : ℕ) where
   -- the weight was added to the item's, or the result is `WeightOverflow` if the total has no room for it
-  abbrev pub AddsWeight : (old new : Option AnySketch) → ℤ → (bytes : List ℕ) → (weight : ℤ) → Type 0
+  abbrev pub AddsWeight : (old new : Option HeldSketch) → ℤ → (bytes : List ℕ) → (weight : ℤ) → Type 0
   AddsWeight old new result bytes weight =
       ChangesKind part old new result (λ s.
       (s.total + unsigned_abs weight ≤ greatest → (result ≡ ok) × HoldsKind part new (Weighs s bytes weight))
       × (greatest < s.total + unsigned_abs weight → result ≡ refusal_number WeightOverflow))
 
   -- the call wrote the upper bound of the item's weight in the handle's sketch
-  abbrev pub Bounds : (old new : Option AnySketch) → ℤ → (bytes : List ℕ) → (bound : ℤ) → Type 0
+  abbrev pub Bounds : (old new : Option HeldSketch) → ℤ → (bytes : List ℕ) → (bound : ℤ) → Type 0
   Bounds old new result bytes bound = OnKind part old new result (λ s. (result ≡ ok) × IsBound greatest bytes bound s)

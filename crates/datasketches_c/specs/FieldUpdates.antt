@@ -19,9 +19,9 @@ use Rattle.datasketches_c.specs.ManyItems.{ManyItems}
 use Rattle.datasketches_c.specs.ManyItems.Rows.{strings}
 use Rattle.datasketches_c.specs.Numbers.{bad_argument, max_i64, no_sketch, refusal_number}
 use Rattle.datasketches_c.specs.Sharing.{unchangeable}
-use Rattle.datasketches_c.specs.declared.any_sketch.AnySketch.{AnySketch}
+use Rattle.datasketches_c.specs.declared.any_sketch.HeldSketch.{HeldSketch}
 use Rattle.datasketches_c.specs.declared.any_sketch.AnySketch.TheVariants.{CountI64, CountU64, Filter, FrequentStrings}
-use Rattle.datasketches_c.specs.declared.any_sketch.Held.TheVariants.{Own}
+use Rattle.datasketches_c.specs.declared.any_sketch.HeldSketch.TheVariants.{Own}
 use Rattle.datasketches_c.specs.declared.fields_argument.FieldsArgument.{FieldsArgument}
 use Rattle.datasketches_c.specs.declared.fields_argument.FieldsRead.{FieldsRead}
 
@@ -100,24 +100,24 @@ fed_strings items = map (fed_bytes fed.str) items
 
 -- The items of records were added to the sketch of a handle with their weights, in order. Weights have a sign if those of the sketch do.
 -- Without a sketch, or with one that is shared or takes no strings with weights, nothing is read and nothing is written.
-abbrev pub UpdatesFields : WeighedRecord → List ℕ → (old new : Option AnySketch) → (read_old read_new : FieldsRead) → ℤ → Type 0
+abbrev pub UpdatesFields : WeighedRecord → List ℕ → (old new : Option HeldSketch) → (read_old read_new : FieldsRead) → ℤ → Type 0
 UpdatesFields chosen bytes None new a b result = (result ≡ no_sketch) × (new ≡ None) × (b ≡ a)
-UpdatesFields chosen bytes (Some (CountI64 (Own s))) new a b result =
-    OnRead signed_in (pos 1) chosen bytes result a b (new ≡ Some (CountI64 (Own s))) (λ found.
+UpdatesFields chosen bytes (Some (Own (CountI64 s))) new a b result =
+    OnRead signed_in (pos 1) chosen bytes result a b (new ≡ Some (Own (CountI64 s))) (λ found.
     HoldsKind count_i64_of new (λ t. AddsWeights max_i64 (λ weight. weight) s (fed_strings found.items) found.weights t result))
-UpdatesFields chosen bytes (Some (CountU64 (Own s))) new a b result =
-    OnRead number_in 1 chosen bytes result a b (new ≡ Some (CountU64 (Own s))) (λ found.
-    WeighsAny (Some (CountU64 (Own s))) new (all_strings found.items) found.weights result)
-UpdatesFields chosen bytes (Some (FrequentStrings (Own s))) new a b result =
-    OnRead number_in 1 chosen bytes result a b (new ≡ Some (FrequentStrings (Own s))) (λ found.
-    WeighsAny (Some (FrequentStrings (Own s))) new (all_strings found.items) found.weights result)
+UpdatesFields chosen bytes (Some (Own (CountU64 s))) new a b result =
+    OnRead number_in 1 chosen bytes result a b (new ≡ Some (Own (CountU64 s))) (λ found.
+    WeighsAny (Some (Own (CountU64 s))) new (all_strings found.items) found.weights result)
+UpdatesFields chosen bytes (Some (Own (FrequentStrings s))) new a b result =
+    OnRead number_in 1 chosen bytes result a b (new ≡ Some (Own (FrequentStrings s))) (λ found.
+    WeighsAny (Some (Own (FrequentStrings s))) new (all_strings found.items) found.weights result)
 UpdatesFields chosen bytes (Some old) new a b result = (result ≡ unchangeable old) × (new ≡ Some old) × (b ≡ a)
 
 -- The items of records were inserted into the handle's filter, one after another. Without a filter, or with a shared one, nothing is read
 -- and nothing is written.
-abbrev pub InsertsFields : WeighedRecord → List ℕ → (old new : Option AnySketch) → (read_old read_new : FieldsRead) → ℤ → Type 0
+abbrev pub InsertsFields : WeighedRecord → List ℕ → (old new : Option HeldSketch) → (read_old read_new : FieldsRead) → ℤ → Type 0
 InsertsFields chosen bytes None new a b result = (result ≡ no_sketch) × (new ≡ None) × (b ≡ a)
-InsertsFields chosen bytes (Some (Filter (Own s))) new a b result =
-    OnRead number_in 1 chosen bytes result a b (new ≡ Some (Filter (Own s))) (λ found.
-    InsertsAll (Some (Filter (Own s))) new result (fed_strings found.items))
+InsertsFields chosen bytes (Some (Own (Filter s))) new a b result =
+    OnRead number_in 1 chosen bytes result a b (new ≡ Some (Own (Filter s))) (λ found.
+    InsertsAll (Some (Own (Filter s))) new result (fed_strings found.items))
 InsertsFields chosen bytes (Some old) new a b result = (result ≡ unchangeable old) × (new ≡ Some old) × (b ≡ a)

@@ -7,8 +7,8 @@ use Rattle.sketch_bloom.specs.State.{FilterState, all_inserted, answers_in_turn,
 use Rattle.datasketches_c.specs.Kinds.{ChangesFilter}
 use Rattle.datasketches_c.specs.Numbers.{no, ok, yes}
 use Rattle.datasketches_c.specs.ValidRows.{OnRows}
-use Rattle.datasketches_c.specs.declared.any_sketch.AnySketch.{AnySketch}
-use Rattle.datasketches_c.specs.declared.any_sketch.Held.TheVariants.{Own}
+use Rattle.datasketches_c.specs.declared.any_sketch.HeldSketch.{HeldSketch}
+use Rattle.datasketches_c.specs.declared.any_sketch.HeldSketch.TheVariants.{Own}
 use Rattle.datasketches_c.specs.declared.any_sketch.AnySketch.TheVariants.{Filter}
 
 -- the items were inserted into the filter, one after another
@@ -16,21 +16,21 @@ abbrev pub InsertsInto : (old new : FilterState) → List (List ℕ) → ℤ →
 InsertsInto s t items result = (result ≡ ok) × (t ≡ all_inserted s items) × Extends s t (λ h. all_inserted_after h items)
 
 -- the items were inserted into the handle's filter, one after another
-abbrev pub InsertsAll : (old new : Option AnySketch) → ℤ → List (List ℕ) → Type 0
+abbrev pub InsertsAll : (old new : Option HeldSketch) → ℤ → List (List ℕ) → Type 0
 InsertsAll old new result items =
     ChangesFilter old new result (λ s.
-    (result ≡ ok) × (new ≡ Some (Filter (Own (all_inserted s items)))) × Extends s (all_inserted s items) (λ h. all_inserted_after h items))
+    (result ≡ ok) × (new ≡ Some (Own (Filter (all_inserted s items)))) × Extends s (all_inserted s items) (λ h. all_inserted_after h items))
 
 -- the item was inserted into the handle's filter, and the result tells whether it was there
-abbrev pub TellsAndInserts : (old new : Option AnySketch) → ℤ → List ℕ → Type 0
+abbrev pub TellsAndInserts : (old new : Option HeldSketch) → ℤ → List ℕ → Type 0
 TellsAndInserts old new result bytes =
     ChangesFilter old new result (λ s.
-    (result ≡ (if contains_item s bytes then yes else no)) × (new ≡ Some (Filter (Own (inserted s bytes))))
+    (result ≡ (if contains_item s bytes then yes else no)) × (new ≡ Some (Own (Filter (inserted s bytes))))
     × Extends s (inserted s bytes) (λ h. Insert h bytes))
 
 -- the items were inserted into the handle's filter in turn, and the answers of their rows tell for each whether it was there in its turn
-abbrev pub TellsAndInsertsAll : (old new : Option AnySketch) → ℤ → Option (List Bool) → List (List ℕ) → (by_row : List Bool) → Type 0
+abbrev pub TellsAndInsertsAll : (old new : Option HeldSketch) → ℤ → Option (List Bool) → List (List ℕ) → (by_row : List Bool) → Type 0
 TellsAndInsertsAll old new result validity items by_row =
     ChangesFilter old new result (λ s.
-    (result ≡ ok) × OnRows validity false by_row (λ answers. answers ≡ answers_in_turn s items) × (new ≡ Some (Filter (Own (all_inserted s items))))
+    (result ≡ ok) × OnRows validity false by_row (λ answers. answers ≡ answers_in_turn s items) × (new ≡ Some (Own (Filter (all_inserted s items))))
     × Extends s (all_inserted s items) (λ h. all_inserted_after h items))

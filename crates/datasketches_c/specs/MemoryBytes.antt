@@ -7,8 +7,8 @@ use Rattle.sketch_frequencies.specs.Items.{i64_codec, text_codec, u64_codec}
 use Rattle.sketch_frequencies.specs.Memory.{memory_bytes, owned_by}
 use Rattle.datasketches_c.specs.Numbers.{no_sketch, ok}
 use Rattle.datasketches_c.specs.Sharing.{unshared}
-use Rattle.datasketches_c.specs.declared.any_sketch.AnySketch.{AnySketch}
-use Rattle.datasketches_c.specs.declared.any_sketch.Held.TheVariants.{Own}
+use Rattle.datasketches_c.specs.declared.any_sketch.HeldSketch.{HeldSketch}
+use Rattle.datasketches_c.specs.declared.any_sketch.HeldSketch.TheVariants.{Own}
 use Rattle.datasketches_c.specs.declared.any_sketch.AnySketch.TheVariants.{Filter, CountI64, CountU64, FrequentI64, FrequentStrings, FrequentU64}
 
 -- the bytes of a table of numbers: 28 for each slot, since an `Option` of a number takes 16
@@ -21,17 +21,17 @@ string_slots size = slots_bytes 32 size
 
 -- 8 for each word of a filter, and for each cell and each row of a Count-Min sketch. For frequent items, the bytes of the table
 -- and those that the items own
-abbrev pub bytes_of : AnySketch → ℕ
-bytes_of (Filter (Own s)) = 8 * s.num_words
-bytes_of (CountI64 (Own s)) = grid_bytes 8 s.hashes s.buckets
-bytes_of (CountU64 (Own s)) = grid_bytes 8 s.hashes s.buckets
-bytes_of (FrequentI64 (Own s)) = memory_bytes (number_slots s.size) (owned_by i64_codec (λ n. n) s.counters)
-bytes_of (FrequentU64 (Own s)) = memory_bytes (number_slots s.size) (owned_by u64_codec (λ n. n) s.counters)
-bytes_of (FrequentStrings (Own s)) =
+abbrev pub bytes_of : HeldSketch → ℕ
+bytes_of (Own (Filter s)) = 8 * s.num_words
+bytes_of (Own (CountI64 s)) = grid_bytes 8 s.hashes s.buckets
+bytes_of (Own (CountU64 s)) = grid_bytes 8 s.hashes s.buckets
+bytes_of (Own (FrequentI64 s)) = memory_bytes (number_slots s.size) (owned_by i64_codec (λ n. n) s.counters)
+bytes_of (Own (FrequentU64 s)) = memory_bytes (number_slots s.size) (owned_by u64_codec (λ n. n) s.counters)
+bytes_of (Own (FrequentStrings s)) =
     memory_bytes (string_slots s.size) (owned_by text_codec (λ item. string_bytes item) s.counters)
 bytes_of held = 0
 
 -- the call wrote the number of bytes that the handle's sketch takes, or the result is `no_sketch` and nothing was written
-abbrev pub Measures : Option AnySketch → ℤ → (bytes_old bytes_new : ℕ) → Type 0
+abbrev pub Measures : Option HeldSketch → ℤ → (bytes_old bytes_new : ℕ) → Type 0
 Measures None result bytes_old bytes_new = (result ≡ no_sketch) × (bytes_new ≡ bytes_old)
 Measures (Some sketch) result bytes_old bytes_new = (result ≡ ok) × (bytes_new ≡ bytes_of (unshared sketch))

@@ -1,14 +1,23 @@
 -- The kinds of sketches and their numbers in C, and what a handle holds of a kind that a number selects.
 use Rattle.std.specs.Ordering.{int_eq}
-use Rattle.std.specs.Prelude.{◌≡◌, ℤ, pos, Option, Some, None, if◌then◌else◌}
+use Rattle.std.specs.Prelude.{◌≡◌, ℕ, ℤ, pos, Option, Some, None, if◌then◌else◌}
 use Rattle.sketch_countmin.specs.State.{CountState}
 use Rattle.datasketches_c.specs.Kinds.{HoldsKind, count_i64_of, count_u64_of}
 use Rattle.datasketches_c.specs.Numbers.{wrong_kind}
-use Rattle.datasketches_c.specs.declared.any_sketch.AnySketch.{AnySketch}
+use Rattle.datasketches_c.specs.declared.any_sketch.HeldSketch.{HeldSketch}
 use Rattle.datasketches_c.specs.declared.sketch_kind.SketchKind.{SketchKind}
 use Rattle.datasketches_c.specs.declared.sketch_kind.SketchKind.TheVariants.{Filter, CountU64, CountI64, FrequentU64, FrequentI64, FrequentStrings}
 
--- the kind of a number of C's `DS_BLOOM` .., if it is one
+-- the number of a kind: C's `DS_BLOOM` ..
+abbrev pub number_of : SketchKind → ℕ
+number_of Filter = 1
+number_of CountU64 = 2
+number_of CountI64 = 3
+number_of FrequentU64 = 4
+number_of FrequentI64 = 5
+number_of FrequentStrings = 6
+
+-- the kind of such a number, if it is one
 abbrev pub kind_numbered : ℤ → Option SketchKind
 kind_numbered number =
     if int_eq number (pos 1) then Some Filter else if int_eq number (pos 2) then Some CountU64
@@ -16,7 +25,7 @@ kind_numbered number =
     else if int_eq number (pos 5) then Some FrequentI64 else if int_eq number (pos 6) then Some FrequentStrings else None
 
 -- the handle holds a Count-Min sketch of this kind, and the statement holds of it
-abbrev pub HoldsCount : Option SketchKind → Option AnySketch → (CountState → Type 0) → Type 0
+abbrev pub HoldsCount : Option SketchKind → Option HeldSketch → (CountState → Type 0) → Type 0
 HoldsCount (Some CountU64) held said = HoldsKind count_u64_of held said
 HoldsCount (Some CountI64) held said = HoldsKind count_i64_of held said
 HoldsCount kind held said = ⊥

@@ -6,9 +6,11 @@ use Rattle.sketch_frequencies.specs.State.{FrequentState, capacity}
 use Rattle.sketch_countmin.specs.State.{CountState}
 use Rattle.datasketches_c.specs.Numbers.{no_sketch, ok}
 use Rattle.datasketches_c.specs.Sharing.{unshared}
-use Rattle.datasketches_c.specs.declared.any_sketch.AnySketch.{AnySketch}
-use Rattle.datasketches_c.specs.declared.any_sketch.Held.TheVariants.{Own}
+use Rattle.datasketches_c.specs.SketchKinds.{number_of}
+use Rattle.datasketches_c.specs.declared.any_sketch.HeldSketch.{HeldSketch}
+use Rattle.datasketches_c.specs.declared.any_sketch.HeldSketch.TheVariants.{Own}
 use Rattle.datasketches_c.specs.declared.any_sketch.AnySketch.TheVariants.{Filter, CountI64, CountU64, FrequentI64, FrequentU64, FrequentStrings}
+use Rattle.datasketches_c.specs.declared.sketch_kind.SketchKind.TheVariants as kind
 use Rattle.datasketches_c.specs.declared.status.Status.{Status}
 
 -- the numbers that are 0 for each kind that has none such
@@ -47,17 +49,17 @@ frequent_numbers kind s = record (no_numbers kind) {
 }
 
 -- the numbers of a sketch that is not shared
-abbrev pub numbers_of : AnySketch → Status
-numbers_of (Filter (Own s)) =
-    record (no_numbers 1) { seed = s.seed; num_bits = capacity_of s; bits_used = set.len s.set; num_hashes = s.num_hashes }
-numbers_of (CountU64 (Own s)) = count_numbers 2 s
-numbers_of (CountI64 (Own s)) = count_numbers 3 s
-numbers_of (FrequentU64 (Own s)) = frequent_numbers 4 s
-numbers_of (FrequentI64 (Own s)) = frequent_numbers 5 s
-numbers_of (FrequentStrings (Own s)) = frequent_numbers 6 s
+abbrev pub numbers_of : HeldSketch → Status
+numbers_of (Own (Filter s)) =
+    record (no_numbers (number_of kind.Filter)) { seed = s.seed; num_bits = capacity_of s; bits_used = set.len s.set; num_hashes = s.num_hashes }
+numbers_of (Own (CountU64 s)) = count_numbers (number_of kind.CountU64) s
+numbers_of (Own (CountI64 s)) = count_numbers (number_of kind.CountI64) s
+numbers_of (Own (FrequentU64 s)) = frequent_numbers (number_of kind.FrequentU64) s
+numbers_of (Own (FrequentI64 s)) = frequent_numbers (number_of kind.FrequentI64) s
+numbers_of (Own (FrequentStrings s)) = frequent_numbers (number_of kind.FrequentStrings) s
 numbers_of _ = no_numbers 0
 
 -- the numbers of the handle's sketch were written, or there is none and nothing was written
-abbrev pub Describes : Option AnySketch → ℤ → (status_old status_new : Status) → Type 0
+abbrev pub Describes : Option HeldSketch → ℤ → (status_old status_new : Status) → Type 0
 Describes None result status_old status_new = (result ≡ no_sketch) × (status_new ≡ status_old)
 Describes (Some sketch) result status_old status_new = (result ≡ ok) × (status_new ≡ numbers_of (unshared sketch))

@@ -19,7 +19,7 @@ ghost use Rattle.datasketches_c.specs.Numbers.{OnDone, OnRefused, no_room, ok};
 ghost use Rattle.datasketches_c.specs.Sharing.{unshared};
 ghost use Rattle.datasketches_c.specs.SketchKinds.{kind_numbered};
 
-use crate::any_sketch::AnySketch;
+use crate::any_sketch::{AnySketch, HeldSketch};
 use crate::handle::SketchHandle;
 use crate::images::HasImage;
 use crate::kind::Kind;
@@ -32,19 +32,19 @@ use sketch_frequencies::{FrequentItemsImageOptions, FrequentItemsSketch, HashKey
 use std::alloc::Global;
 
 /// Writes a sketch's image to the front of the caller's buffer. Returns the result's number.
-fn write_image(sketch: &AnySketch, out: &mut [u8], written: &mut usize) -> i32
+fn write_image(sketch: &HeldSketch, out: &mut [u8], written: &mut usize) -> i32
     ensures image { WritesImageOf (unshared sketch.now) out.old out.new written.new result }
     ensures untouched { OnRefused result (out.new ≡ out.old) }
     ensures uncounted { result ≢ ok → result ≢ no_room → written.new ≡ written.old }
 {
-    match sketch {
-        AnySketch::FrequentStrings(held) => held.get().write_to(out, written),
-        AnySketch::FrequentI64(held) => held.get().write_to(out, written),
-        AnySketch::FrequentU64(held) => held.get().write_to(out, written),
-        AnySketch::CountI64(held) => held.get().write_to(out, written),
-        AnySketch::CountU64(held) => held.get().write_to(out, written),
-        AnySketch::Filter(held) => held.get().write_to(out, written),
-        AnySketch::Moved => WRONG_KIND,
+    match sketch.get() {
+        Some(AnySketch::FrequentStrings(sketch)) => sketch.write_to(out, written),
+        Some(AnySketch::FrequentI64(sketch)) => sketch.write_to(out, written),
+        Some(AnySketch::FrequentU64(sketch)) => sketch.write_to(out, written),
+        Some(AnySketch::CountI64(sketch)) => sketch.write_to(out, written),
+        Some(AnySketch::CountU64(sketch)) => sketch.write_to(out, written),
+        Some(AnySketch::Filter(sketch)) => sketch.write_to(out, written),
+        None => WRONG_KIND,
     }
 }
 
@@ -78,18 +78,18 @@ pub extern "C" fn ds_serialize(
 }
 
 /// Writes the length of a sketch's image. Returns the result's number.
-fn measure_image(sketch: &AnySketch, bytes: &mut usize) -> i32
+fn measure_image(sketch: &HeldSketch, bytes: &mut usize) -> i32
     ensures length { TellsLengthOf (unshared sketch.now) bytes.new result }
     ensures untouched { OnRefused result (bytes.new ≡ bytes.old) }
 {
-    match sketch {
-        AnySketch::FrequentStrings(held) => held.get().length_to(bytes),
-        AnySketch::FrequentI64(held) => held.get().length_to(bytes),
-        AnySketch::FrequentU64(held) => held.get().length_to(bytes),
-        AnySketch::CountI64(held) => held.get().length_to(bytes),
-        AnySketch::CountU64(held) => held.get().length_to(bytes),
-        AnySketch::Filter(held) => held.get().length_to(bytes),
-        AnySketch::Moved => WRONG_KIND,
+    match sketch.get() {
+        Some(AnySketch::FrequentStrings(sketch)) => sketch.length_to(bytes),
+        Some(AnySketch::FrequentI64(sketch)) => sketch.length_to(bytes),
+        Some(AnySketch::FrequentU64(sketch)) => sketch.length_to(bytes),
+        Some(AnySketch::CountI64(sketch)) => sketch.length_to(bytes),
+        Some(AnySketch::CountU64(sketch)) => sketch.length_to(bytes),
+        Some(AnySketch::Filter(sketch)) => sketch.length_to(bytes),
+        None => WRONG_KIND,
     }
 }
 

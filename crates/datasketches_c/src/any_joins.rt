@@ -4,7 +4,7 @@ ghost use Rattle.datasketches_c.specs.AnyJoins.{ComparesAny, ComparesWith, Merge
 ghost use Rattle.datasketches_c.specs.Numbers.{OnRefused};
 ghost use Rattle.datasketches_c.specs.Sharing.{unshared};
 
-use crate::any_sketch::{AnySketch, Held};
+use crate::any_sketch::{AnySketch, HeldSketch};
 use crate::equality::equal_to;
 use crate::filter::SetOperation;
 use crate::handle::SketchHandle;
@@ -14,18 +14,18 @@ use crate::status_code::{NO_SKETCH, WRONG_KIND};
 use std::alloc::Global;
 
 /// Merges the sketch of a handle, which keeps it, into a sketch. Returns the result's number.
-fn merge_with(alloc: Global, sketch: &mut AnySketch, other: &mut SketchHandle) -> i32
+fn merge_with(alloc: Global, sketch: &mut HeldSketch, other: &mut SketchHandle) -> i32
     ensures kept { other.new.value ≡ other.old.value }
     ensures call { MergesWith sketch.old sketch.new result other.old.value other.new.value }
     ensures refused { OnRefused result (sketch.new ≡ sketch.old) }
 {
     match sketch {
-        AnySketch::FrequentStrings(Held::Own(sketch)) => join_into(alloc, sketch, other, ()),
-        AnySketch::FrequentI64(Held::Own(sketch)) => join_into(alloc, sketch, other, ()),
-        AnySketch::FrequentU64(Held::Own(sketch)) => join_into(alloc, sketch, other, ()),
-        AnySketch::CountI64(Held::Own(sketch)) => join_into(alloc, sketch, other, ()),
-        AnySketch::CountU64(Held::Own(sketch)) => join_into(alloc, sketch, other, ()),
-        AnySketch::Filter(Held::Own(sketch)) => join_into(
+        HeldSketch::Own(AnySketch::FrequentStrings(sketch)) => join_into(alloc, sketch, other, ()),
+        HeldSketch::Own(AnySketch::FrequentI64(sketch)) => join_into(alloc, sketch, other, ()),
+        HeldSketch::Own(AnySketch::FrequentU64(sketch)) => join_into(alloc, sketch, other, ()),
+        HeldSketch::Own(AnySketch::CountI64(sketch)) => join_into(alloc, sketch, other, ()),
+        HeldSketch::Own(AnySketch::CountU64(sketch)) => join_into(alloc, sketch, other, ()),
+        HeldSketch::Own(AnySketch::Filter(sketch)) => join_into(
             alloc,
             sketch,
             other,
@@ -64,18 +64,20 @@ pub extern "C" fn ds_merge(
 }
 
 /// Merges the sketches of handles, which keep them, into a sketch. Returns the result's number.
-fn merge_with_all(alloc: Global, sketch: &mut AnySketch, others: &mut [SketchHandle]) -> i32
+fn merge_with_all(alloc: Global, sketch: &mut HeldSketch, others: &mut [SketchHandle]) -> i32
     ensures kept { map (λ other. other.value) others.new ≡ map (λ other. other.value) others.old }
     ensures call { MergesWithAll sketch.old sketch.new result (map (λ other. other.value) others.old) }
     ensures refused { OnRefused result (sketch.new ≡ sketch.old) }
 {
     match sketch {
-        AnySketch::FrequentStrings(Held::Own(sketch)) => join_many_into(alloc, sketch, others),
-        AnySketch::FrequentI64(Held::Own(sketch)) => join_many_into(alloc, sketch, others),
-        AnySketch::FrequentU64(Held::Own(sketch)) => join_many_into(alloc, sketch, others),
-        AnySketch::CountI64(Held::Own(sketch)) => join_many_into(alloc, sketch, others),
-        AnySketch::CountU64(Held::Own(sketch)) => join_many_into(alloc, sketch, others),
-        AnySketch::Filter(Held::Own(sketch)) => join_many_into(alloc, sketch, others),
+        HeldSketch::Own(AnySketch::FrequentStrings(sketch)) => join_many_into(
+            alloc, sketch, others,
+        ),
+        HeldSketch::Own(AnySketch::FrequentI64(sketch)) => join_many_into(alloc, sketch, others),
+        HeldSketch::Own(AnySketch::FrequentU64(sketch)) => join_many_into(alloc, sketch, others),
+        HeldSketch::Own(AnySketch::CountI64(sketch)) => join_many_into(alloc, sketch, others),
+        HeldSketch::Own(AnySketch::CountU64(sketch)) => join_many_into(alloc, sketch, others),
+        HeldSketch::Own(AnySketch::Filter(sketch)) => join_many_into(alloc, sketch, others),
         _ => sketch.refusal_of_change(),
     }
 }
@@ -110,14 +112,14 @@ pub extern "C" fn ds_merge_all(
 }
 
 /// Compares a sketch with that of a handle, which keeps it. Returns the result's number.
-fn compare_with(alloc: Global, sketch: &AnySketch, other: &mut SketchHandle) -> i32
+fn compare_with(alloc: Global, sketch: &HeldSketch, other: &mut SketchHandle) -> i32
     ensures kept { other.new.value ≡ other.old.value }
     ensures call { ComparesWith (unshared sketch.now) result other.old.value other.new.value }
 {
-    match sketch {
-        AnySketch::CountI64(held) => equal_to(alloc, held.get(), other),
-        AnySketch::CountU64(held) => equal_to(alloc, held.get(), other),
-        AnySketch::Filter(held) => equal_to(alloc, held.get(), other),
+    match sketch.get() {
+        Some(AnySketch::CountI64(sketch)) => equal_to(alloc, sketch, other),
+        Some(AnySketch::CountU64(sketch)) => equal_to(alloc, sketch, other),
+        Some(AnySketch::Filter(sketch)) => equal_to(alloc, sketch, other),
         _ => WRONG_KIND,
     }
 }

@@ -1,6 +1,7 @@
-//! Sketches of any kind, alone or shared.
-ghost use Rattle.std.specs.Prelude.{◌≡◌};
-ghost use Rattle.datasketches_c.specs.Sharing.{unchangeable, value_in};
+//! Sketches of any kind, and what a handle holds of one.
+ghost use Rattle.std.specs.Prelude.{◌≡◌, MatchOption};
+ghost use Rattle.datasketches_c.specs.Sharing.{unchangeable, unshared};
+ghost use Rattle.datasketches_c.specs.declared.any_sketch.HeldSketch.TheVariants.{Moved, Own};
 
 use crate::status_code::{SHARED, WRONG_KIND};
 use sketch_bloom::BloomFilter;
@@ -8,51 +9,46 @@ use sketch_countmin::CountMinSketch;
 use sketch_frequencies::FrequentItemsSketch;
 use std::sync::Arc;
 
-/// A sketch that a handle holds alone, or shares with other handles. No call changes a shared one.
-#[derive(Drop)]
-pub enum Held<K> {
-    Own(K),
-    Shared(Arc<K>),
-}
-
-impl<K> Held<K> {
-    /// Returns the sketch for reading.
-    #[inline(always)]
-    pub(crate) fn get(&self) -> &K
-        ensures { result.now ≡ value_in self.now }
-    {
-        match self {
-            Held::Own(sketch) => sketch,
-            Held::Shared(shared) => &**shared,
-        }
-    }
-}
-
-/// A sketch of one of the kinds that calls from C use. `Moved` stands in a handle only while a call moves its sketch.
+/// A sketch of one of the kinds that calls from C use.
 #[derive(Drop)]
 pub enum AnySketch {
-    FrequentStrings(Held<FrequentItemsSketch<String>>),
-    FrequentI64(Held<FrequentItemsSketch<i64>>),
-    FrequentU64(Held<FrequentItemsSketch<u64>>),
-    CountI64(Held<CountMinSketch<i64>>),
-    CountU64(Held<CountMinSketch<u64>>),
-    Filter(Held<BloomFilter>),
+    FrequentStrings(FrequentItemsSketch<String>),
+    FrequentI64(FrequentItemsSketch<i64>),
+    FrequentU64(FrequentItemsSketch<u64>),
+    CountI64(CountMinSketch<i64>),
+    CountU64(CountMinSketch<u64>),
+    Filter(BloomFilter),
+}
+
+/// A sketch that a handle holds alone, or shares with other handles. No call changes a shared one. `Moved` stands in a handle only while
+/// a call moves its sketch.
+#[derive(Drop)]
+pub enum HeldSketch {
+    Own(AnySketch),
+    Shared(Arc<AnySketch>),
     Moved,
 }
 
-impl AnySketch {
+impl HeldSketch {
+    /// Returns the sketch for reading, shared or not.
+    #[inline(always)]
+    pub(crate) fn get(&self) -> Option<&AnySketch>
+        ensures { MatchOption result (unshared self.now ≡ Moved) (λ sketch. unshared self.now ≡ Own sketch.now) }
+    {
+        match self {
+            HeldSketch::Own(sketch) => Some(sketch),
+            HeldSketch::Shared(shared) => Some(&**shared),
+            HeldSketch::Moved => None,
+        }
+    }
+
     /// Returns the error of a call that cannot change the sketch: `SHARED` if it is shared, and `WRONG_KIND` otherwise.
     #[cold]
     pub(crate) fn refusal_of_change(&self) -> i32
         ensures { result ≡ unchangeable self.now }
     {
         match self {
-            AnySketch::FrequentStrings(Held::Shared(_)) => SHARED,
-            AnySketch::FrequentI64(Held::Shared(_)) => SHARED,
-            AnySketch::FrequentU64(Held::Shared(_)) => SHARED,
-            AnySketch::CountI64(Held::Shared(_)) => SHARED,
-            AnySketch::CountU64(Held::Shared(_)) => SHARED,
-            AnySketch::Filter(Held::Shared(_)) => SHARED,
+            HeldSketch::Shared(_) => SHARED,
             _ => WRONG_KIND,
         }
     }

@@ -6,7 +6,7 @@ ghost use Rattle.datasketches_c.specs.Numbers.{OnRefused, no_room};
 ghost use Rattle.datasketches_c.specs.Sharing.{unshared};
 ghost use Rattle.datasketches_c.specs.ValidRows.{OnWeights};
 
-use crate::any_sketch::{AnySketch, Held};
+use crate::any_sketch::{AnySketch, HeldSketch};
 use crate::count_items::{add_given, add_given_weighted};
 use crate::frequent_batches::{
     add_i64s, add_i64s_weighted, add_strings, add_strings_weighted, add_u64s, add_u64s_weighted,
@@ -20,15 +20,15 @@ use sketch_frequencies::ItemBounds;
 use std::alloc::Global;
 
 /// Adds 1 to the weight of each given item in a sketch, in order. Returns the result's number.
-fn update_with(sketch: &mut AnySketch, items: GivenItems<'_>) -> i32
+fn update_with(sketch: &mut HeldSketch, items: GivenItems<'_>) -> i32
     ensures { UpdatesWith sketch.old sketch.new (many items.entry) result }
 {
     match sketch {
-        AnySketch::FrequentStrings(Held::Own(sketch)) => add_strings(sketch, items),
-        AnySketch::FrequentI64(Held::Own(sketch)) => add_i64s(sketch, items),
-        AnySketch::FrequentU64(Held::Own(sketch)) => add_u64s(sketch, items),
-        AnySketch::CountI64(Held::Own(sketch)) => add_given(sketch, items),
-        AnySketch::CountU64(Held::Own(sketch)) => add_given(sketch, items),
+        HeldSketch::Own(AnySketch::FrequentStrings(sketch)) => add_strings(sketch, items),
+        HeldSketch::Own(AnySketch::FrequentI64(sketch)) => add_i64s(sketch, items),
+        HeldSketch::Own(AnySketch::FrequentU64(sketch)) => add_u64s(sketch, items),
+        HeldSketch::Own(AnySketch::CountI64(sketch)) => add_given(sketch, items),
+        HeldSketch::Own(AnySketch::CountU64(sketch)) => add_given(sketch, items),
         _ => sketch.refusal_of_change(),
     }
 }
@@ -74,7 +74,7 @@ pub extern "C" fn ds_update_all(
 
 /// Adds a weight to each given item's in a sketch, in order. Returns the result's number.
 pub(crate) fn update_weighted_with(
-    sketch: &mut AnySketch,
+    sketch: &mut HeldSketch,
     items: GivenItems<'_>,
     weights: &[u64],
 ) -> i32
@@ -82,12 +82,16 @@ pub(crate) fn update_weighted_with(
     ensures { WeighsWith sketch.old sketch.new (many items.entry) weights.now result }
 {
     match sketch {
-        AnySketch::FrequentStrings(Held::Own(sketch)) => add_strings_weighted(
+        HeldSketch::Own(AnySketch::FrequentStrings(sketch)) => add_strings_weighted(
             sketch, items, weights,
         ),
-        AnySketch::FrequentI64(Held::Own(sketch)) => add_i64s_weighted(sketch, items, weights),
-        AnySketch::FrequentU64(Held::Own(sketch)) => add_u64s_weighted(sketch, items, weights),
-        AnySketch::CountU64(Held::Own(sketch)) => add_given_weighted(sketch, items, weights),
+        HeldSketch::Own(AnySketch::FrequentI64(sketch)) => add_i64s_weighted(
+            sketch, items, weights,
+        ),
+        HeldSketch::Own(AnySketch::FrequentU64(sketch)) => add_u64s_weighted(
+            sketch, items, weights,
+        ),
+        HeldSketch::Own(AnySketch::CountU64(sketch)) => add_given_weighted(sketch, items, weights),
         _ => sketch.refusal_of_change(),
     }
 }
@@ -163,15 +167,15 @@ pub extern "C" fn ds_update_all_weighted(
 }
 
 /// Writes a sketch's bounds and estimate of each given item's weight. Returns the result's number.
-fn bounds_with(sketch: &AnySketch, items: GivenItems<'_>, bounds: &mut [ItemBounds]) -> i32
+fn bounds_with(sketch: &HeldSketch, items: GivenItems<'_>, bounds: &mut [ItemBounds]) -> i32
     requires { length bounds.old ≡ num_rows (many items).rows }
     ensures bounds { BoundsWith (unshared sketch.now) (many items.entry) bounds.old bounds.new result }
     ensures untouched { OnRefused result (bounds.new ≡ bounds.old) }
 {
-    match sketch {
-        AnySketch::FrequentStrings(held) => bounds_of_strings(held.get(), items, bounds),
-        AnySketch::FrequentI64(held) => bounds_of_i64s(held.get(), items, bounds),
-        AnySketch::FrequentU64(held) => bounds_of_u64s(held.get(), items, bounds),
+    match sketch.get() {
+        Some(AnySketch::FrequentStrings(sketch)) => bounds_of_strings(sketch, items, bounds),
+        Some(AnySketch::FrequentI64(sketch)) => bounds_of_i64s(sketch, items, bounds),
+        Some(AnySketch::FrequentU64(sketch)) => bounds_of_u64s(sketch, items, bounds),
         _ => WRONG_KIND,
     }
 }

@@ -13,7 +13,7 @@ ghost use Rattle.datasketches_c.specs.Kinds.{HoldsKind};
 ghost use Rattle.datasketches_c.specs.Numbers.{OnDone, OnRefused, ok, refusal_number};
 ghost use Rattle.datasketches_c.specs.SketchKinds.{HoldsCount, OfCount, OfFrequent, kind_numbered};
 
-use crate::any_sketch::{AnySketch, Held};
+use crate::any_sketch::{AnySketch, HeldSketch};
 use crate::frequent::resample;
 use crate::handle::SketchHandle;
 use crate::kind::Kind;
@@ -173,17 +173,17 @@ fn empty_frequent<T: Eq + Hash + Drop>(sketch: &mut FrequentItemsSketch<T>) -> i
 }
 
 /// Empties a sketch. Returns the result's number.
-fn reset(sketch: &mut AnySketch) -> i32
+fn reset(sketch: &mut HeldSketch) -> i32
     ensures call { Resets sketch.old sketch.new result }
     ensures refused { OnRefused result (sketch.new ≡ sketch.old) }
 {
     match sketch {
-        AnySketch::FrequentStrings(Held::Own(sketch)) => empty_frequent(sketch),
-        AnySketch::FrequentI64(Held::Own(sketch)) => empty_frequent(sketch),
-        AnySketch::FrequentU64(Held::Own(sketch)) => empty_frequent(sketch),
-        AnySketch::CountI64(Held::Own(sketch)) => clear_count(sketch),
-        AnySketch::CountU64(Held::Own(sketch)) => clear_count(sketch),
-        AnySketch::Filter(Held::Own(sketch)) => clear_filter(sketch),
+        HeldSketch::Own(AnySketch::FrequentStrings(sketch)) => empty_frequent(sketch),
+        HeldSketch::Own(AnySketch::FrequentI64(sketch)) => empty_frequent(sketch),
+        HeldSketch::Own(AnySketch::FrequentU64(sketch)) => empty_frequent(sketch),
+        HeldSketch::Own(AnySketch::CountI64(sketch)) => clear_count(sketch),
+        HeldSketch::Own(AnySketch::CountU64(sketch)) => clear_count(sketch),
+        HeldSketch::Own(AnySketch::Filter(sketch)) => clear_filter(sketch),
         _ => sketch.refusal_of_change(),
     }
 }
@@ -206,14 +206,14 @@ pub extern "C" fn ds_reset(alloc: Global, handle: &mut SketchHandle) -> i32
 }
 
 /// Sets how many counters purges of a sketch sample. Returns the result's number.
-fn resample_any(sketch: &mut AnySketch, sample_size: usize) -> i32
+fn resample_any(sketch: &mut HeldSketch, sample_size: usize) -> i32
     ensures call { Resampled sketch.old sample_size sketch.new result }
     ensures refused { OnRefused result (sketch.new ≡ sketch.old) }
 {
     match sketch {
-        AnySketch::FrequentStrings(Held::Own(sketch)) => resample(sketch, sample_size),
-        AnySketch::FrequentI64(Held::Own(sketch)) => resample(sketch, sample_size),
-        AnySketch::FrequentU64(Held::Own(sketch)) => resample(sketch, sample_size),
+        HeldSketch::Own(AnySketch::FrequentStrings(sketch)) => resample(sketch, sample_size),
+        HeldSketch::Own(AnySketch::FrequentI64(sketch)) => resample(sketch, sample_size),
+        HeldSketch::Own(AnySketch::FrequentU64(sketch)) => resample(sketch, sample_size),
         _ => sketch.refusal_of_change(),
     }
 }

@@ -3,7 +3,7 @@ ghost use Rattle.std.specs.Prelude.{◌≡◌, None, Some, Ok, IfSome};
 ghost use Rattle.datasketches_c.specs.Copies.{HoldsCopy, IsCopied};
 ghost use Rattle.datasketches_c.specs.Sharing.{unshared};
 
-use crate::any_sketch::AnySketch;
+use crate::any_sketch::{AnySketch, HeldSketch};
 use crate::handle::SketchHandle;
 use crate::kind::Kind;
 use crate::status_code::{NO_SKETCH, refusal_number};
@@ -11,34 +11,34 @@ use sketch_base::{Error, Fault};
 use std::alloc::Global;
 
 /// Returns the copy as a sketch of any kind, or `None` if copying failed.
-fn as_any<K: Kind>(copy: Result<K, Error>) -> Option<AnySketch>
+fn as_any<K: Kind>(copy: Result<K, Error>) -> Option<HeldSketch>
     ensures { IfSome result (λ any. (s : K) × (copy ≡ Ok s) × (any ≡ K.whole s)) }
 {
     match copy {
-        Ok(sketch) => Some(sketch.into_any()),
+        Ok(sketch) => Some(sketch.into_held()),
         Err(_) => None,
     }
 }
 
 /// Returns a copy of a sketch, which is not shared, or `None` if an allocation fails.
-fn copy_of(sketch: &AnySketch) -> Option<AnySketch>
+fn copy_of(sketch: &HeldSketch) -> Option<HeldSketch>
     ensures { IfSome result (λ copy. HoldsCopy (unshared sketch.now) (Some copy)) }
 {
-    match sketch {
-        AnySketch::FrequentStrings(held) => as_any(held.get().try_clone()),
-        AnySketch::FrequentI64(held) => as_any(held.get().try_clone()),
-        AnySketch::FrequentU64(held) => as_any(held.get().try_clone()),
-        AnySketch::CountI64(held) => as_any(held.get().try_clone()),
-        AnySketch::CountU64(held) => as_any(held.get().try_clone()),
-        AnySketch::Filter(held) => as_any(held.get().try_clone()),
-        AnySketch::Moved => Some(AnySketch::Moved),
+    match sketch.get() {
+        Some(AnySketch::FrequentStrings(sketch)) => as_any(sketch.try_clone()),
+        Some(AnySketch::FrequentI64(sketch)) => as_any(sketch.try_clone()),
+        Some(AnySketch::FrequentU64(sketch)) => as_any(sketch.try_clone()),
+        Some(AnySketch::CountI64(sketch)) => as_any(sketch.try_clone()),
+        Some(AnySketch::CountU64(sketch)) => as_any(sketch.try_clone()),
+        Some(AnySketch::Filter(sketch)) => as_any(sketch.try_clone()),
+        None => Some(HeldSketch::Moved),
     }
 }
 
 /// Puts a copy of a sketch into the handle, frees what the handle had, and returns `OK`.
 ///
 /// Returns `NoMemory` if an allocation fails. Then the handle is unchanged.
-fn put_copy(alloc: Global, handle: &mut SketchHandle, sketch: &AnySketch) -> i32
+fn put_copy(alloc: Global, handle: &mut SketchHandle, sketch: &HeldSketch) -> i32
     ensures { IsCopied (Some sketch.now) handle.old.value handle.new.value result }
 {
     match copy_of(sketch) {

@@ -5,7 +5,7 @@ ghost use Rattle.sketch_countmin.specs.Stands.{Extends};
 ghost use Rattle.sketch_countmin.specs.State.{decayed_state, halved_state};
 ghost use Rattle.datasketches_c.specs.Kinds.{ChangesCountU64};
 ghost use Rattle.datasketches_c.specs.Numbers.{bad_fraction, ok};
-ghost use Rattle.datasketches_c.specs.declared.any_sketch.Held.TheVariants.{Own};
+ghost use Rattle.datasketches_c.specs.declared.any_sketch.HeldSketch.TheVariants.{Own};
 ghost use Rattle.datasketches_c.specs.declared.any_sketch.AnySketch.TheVariants.{CountU64};
 
 use crate::handle::SketchHandle;
@@ -21,7 +21,7 @@ use std::alloc::Global;
 #[unsafe(no_mangle)]
 pub extern "C" fn ds_count_min_u64_halve(alloc: Global, handle: &mut SketchHandle) -> i32
     ensures { ChangesCountU64 handle.old.value handle.new.value result (λ s.
-        (result ≡ ok) × (handle.new.value ≡ Some (CountU64 (Own (halved_state s)))) × Extends s (halved_state s) Halve) }
+        (result ≡ ok) × (handle.new.value ≡ Some (Own (CountU64 (halved_state s)))) × Extends s (halved_state s) Halve) }
 {
     on_kind!(alloc, handle, CountMinSketch<u64>, sketch => {
         sketch.halve();
@@ -46,7 +46,7 @@ pub extern "C" fn ds_count_min_u64_decay(
     ensures above { denominator < numerator → (result ≡ bad_fraction) × (handle.new.value ≡ handle.old.value) }
     ensures call { 0 < numerator → numerator ≤ denominator
         → ChangesCountU64 handle.old.value handle.new.value result (λ s.
-        (result ≡ ok) × (handle.new.value ≡ Some (CountU64 (Own (decayed_state numerator denominator s))))
+        (result ≡ ok) × (handle.new.value ≡ Some (Own (CountU64 (decayed_state numerator denominator s))))
         × Extends s (decayed_state numerator denominator s) (λ h. Decay h numerator denominator)) }
 {
     if numerator == 0 || numerator > denominator {

@@ -10,7 +10,7 @@ ghost use Rattle.datasketches_c.specs.ImageViews.{AsksCount};
 ghost use Rattle.datasketches_c.specs.Kinds.{ChangesFilter, ReadsFilter, count_i64_of, count_u64_of};
 ghost use Rattle.datasketches_c.specs.Numbers.{OnRefused, max_i64, max_u64, min_i64, no, ok, yes};
 ghost use Rattle.datasketches_c.specs.Sharing.{reads};
-ghost use Rattle.datasketches_c.specs.declared.any_sketch.Held.TheVariants.{Own};
+ghost use Rattle.datasketches_c.specs.declared.any_sketch.HeldSketch.TheVariants.{Own};
 ghost use Rattle.datasketches_c.specs.declared.any_sketch.AnySketch.TheVariants.{Filter};
 
 use crate::filter_joins::contains_and_insert;
@@ -26,7 +26,7 @@ use std::alloc::Global;
 #[unsafe(no_mangle)]
 pub extern "C" fn ds_bloom_insert_fed(alloc: Global, handle: &mut SketchHandle, item: &[u8]) -> i32
     ensures { ChangesFilter handle.old.value handle.new.value result (λ s.
-        (result ≡ ok) × (handle.new.value ≡ Some (Filter (Own (inserted s item.now))))
+        (result ≡ ok) × (handle.new.value ≡ Some (Own (Filter (inserted s item.now))))
         × Extends s (inserted s item.now) (λ h. Insert h item.now)) }
 {
     filter::insert(alloc, handle, FedBytes(item))

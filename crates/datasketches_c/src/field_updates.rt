@@ -7,7 +7,7 @@ ghost use Rattle.datasketches_c.specs.FieldUpdates.{InsertsFields, OnFields, OnR
 ghost use Rattle.datasketches_c.specs.FilterCalls.{InsertsInto};
 ghost use Rattle.datasketches_c.specs.Numbers.{max_i64, refusal_number};
 
-use crate::any_sketch::{AnySketch, Held};
+use crate::any_sketch::{AnySketch, HeldSketch};
 use crate::any_updates::update_weighted_with;
 use crate::count::add_all_weighted;
 use crate::fields_argument::{FieldsArgument, FieldsRead, chosen_record};
@@ -67,7 +67,7 @@ fn update_signed(
 /// Adds the items of records with their weights, which have no signs, to a sketch.
 fn update_unsigned(
     alloc: Global,
-    sketch: &mut AnySketch,
+    sketch: &mut HeldSketch,
     chosen: WeighedRecord,
     bytes: &[u8],
     read: &mut FieldsRead,
@@ -92,7 +92,7 @@ fn update_unsigned(
 /// do.
 fn update_with(
     alloc: Global,
-    sketch: &mut AnySketch,
+    sketch: &mut HeldSketch,
     chosen: WeighedRecord,
     bytes: &[u8],
     read: &mut FieldsRead,
@@ -100,9 +100,13 @@ fn update_with(
     ensures { UpdatesFields chosen bytes.now (Some sketch.old) (Some sketch.new) read.old read.new result }
 {
     match sketch {
-        AnySketch::CountI64(Held::Own(counts)) => update_signed(alloc, counts, chosen, bytes, read),
-        AnySketch::CountU64(Held::Own(_)) => update_unsigned(alloc, sketch, chosen, bytes, read),
-        AnySketch::FrequentStrings(Held::Own(_)) => update_unsigned(
+        HeldSketch::Own(AnySketch::CountI64(counts)) => update_signed(
+            alloc, counts, chosen, bytes, read,
+        ),
+        HeldSketch::Own(AnySketch::CountU64(_)) => update_unsigned(
+            alloc, sketch, chosen, bytes, read,
+        ),
+        HeldSketch::Own(AnySketch::FrequentStrings(_)) => update_unsigned(
             alloc, sketch, chosen, bytes, read,
         ),
         _ => sketch.refusal_of_change(),
@@ -185,7 +189,7 @@ fn insert_read(
 /// Inserts the items in a field of records into a sketch that is a filter.
 fn insert_with(
     alloc: Global,
-    sketch: &mut AnySketch,
+    sketch: &mut HeldSketch,
     chosen: WeighedRecord,
     bytes: &[u8],
     read: &mut FieldsRead,
@@ -193,7 +197,9 @@ fn insert_with(
     ensures { InsertsFields chosen bytes.now (Some sketch.old) (Some sketch.new) read.old read.new result }
 {
     match sketch {
-        AnySketch::Filter(Held::Own(filter)) => insert_read(alloc, filter, chosen, bytes, read),
+        HeldSketch::Own(AnySketch::Filter(filter)) => insert_read(
+            alloc, filter, chosen, bytes, read,
+        ),
         _ => sketch.refusal_of_change(),
     }
 }

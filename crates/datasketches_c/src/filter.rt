@@ -13,7 +13,7 @@ ghost use Rattle.datasketches_c.specs.Images.{WritesSizedImage};
 ghost use Rattle.datasketches_c.specs.Joining.{IsCombined};
 ghost use Rattle.datasketches_c.specs.Kinds.{ChangesFilter, ReadsFilter};
 ghost use Rattle.datasketches_c.specs.Numbers.{OnDone, OnRefused, ok, no, yes, refusal_number};
-ghost use Rattle.datasketches_c.specs.declared.any_sketch.Held.TheVariants.{Own};
+ghost use Rattle.datasketches_c.specs.declared.any_sketch.HeldSketch.TheVariants.{Own};
 ghost use Rattle.datasketches_c.specs.declared.any_sketch.AnySketch.TheVariants.{Filter};
 
 use crate::handle::SketchHandle;
@@ -44,7 +44,7 @@ pub extern "C" fn ds_bloom_new(
     seed: u64,
 ) -> i32
     ensures done { OnDone result ((result ≡ ok)
-        × (handle.new.value ≡ Some (Filter (Own (empty_state (words_for num_bits) num_hashes seed))))) }
+        × (handle.new.value ≡ Some (Own (Filter (empty_state (words_for num_bits) num_hashes seed))))) }
     ensures stands { OnDone result (StandsFor (empty_state (words_for num_bits) num_hashes seed)
         (New (words_for num_bits) num_hashes seed)) }
     ensures accepted { OnDone result
@@ -60,7 +60,7 @@ pub extern "C" fn ds_bloom_new(
 #[inline]
 pub(crate) fn insert<X: Item + Drop>(alloc: Global, handle: &mut SketchHandle, item: X) -> i32
     ensures { ChangesFilter handle.old.value handle.new.value result (λ s.
-        (result ≡ ok) × (handle.new.value ≡ Some (Filter (Own (inserted s (X.bytes item)))))
+        (result ≡ ok) × (handle.new.value ≡ Some (Own (Filter (inserted s (X.bytes item)))))
         × Extends s (inserted s (X.bytes item)) (λ h. Insert h (X.bytes item))) }
 {
     on_kind!(alloc, handle, BloomFilter, filter => {
@@ -76,7 +76,7 @@ pub(crate) fn insert<X: Item + Drop>(alloc: Global, handle: &mut SketchHandle, i
 #[unsafe(no_mangle)]
 pub extern "C" fn ds_bloom_insert_u64(alloc: Global, handle: &mut SketchHandle, item: u64) -> i32
     ensures { ChangesFilter handle.old.value handle.new.value result (λ s.
-        (result ≡ ok) × (handle.new.value ≡ Some (Filter (Own (inserted s (fed_bytes fed.u64 item)))))
+        (result ≡ ok) × (handle.new.value ≡ Some (Own (Filter (inserted s (fed_bytes fed.u64 item)))))
         × Extends s (inserted s (fed_bytes fed.u64 item)) (λ h. Insert h (fed_bytes fed.u64 item))) }
 {
     insert(alloc, handle, &item)
@@ -95,7 +95,7 @@ pub extern "C" fn ds_bloom_insert_string(
     item: &[u8],
 ) -> i32
     ensures utf8 { IsUtf8 item.now → ChangesFilter handle.old.value handle.new.value result (λ s.
-        (result ≡ ok) × (handle.new.value ≡ Some (Filter (Own (inserted s (fed_bytes fed.str item.now)))))
+        (result ≡ ok) × (handle.new.value ≡ Some (Own (Filter (inserted s (fed_bytes fed.str item.now)))))
         × Extends s (inserted s (fed_bytes fed.str item.now)) (λ h. Insert h (fed_bytes fed.str item.now))) }
     ensures invalid_utf8 { ¬ (IsUtf8 item.now) → (result ≡ refusal_number Fault.InvalidUtf8)
         × (handle.new.value ≡ handle.old.value) }
@@ -184,7 +184,7 @@ pub extern "C" fn ds_bloom_intersect(
     ensures refused { OnRefused result (handle.new.value ≡ handle.old.value) }
     ensures call { ChangesFilter handle.old.value handle.new.value result (λ a.
         ReadsFilter other.old.value other.new.value result (λ b.
-        (IsCompatible a b → (result ≡ ok) × (handle.new.value ≡ Some (Filter (Own (intersected a b))))
+        (IsCompatible a b → (result ≡ ok) × (handle.new.value ≡ Some (Own (Filter (intersected a b))))
         × ExtendsBoth a b (intersected a b) Intersection)
         × (¬ IsCompatible a b → result ≡ refusal_number Fault.Mismatch))) }
 {
@@ -208,7 +208,7 @@ pub extern "C" fn ds_bloom_difference(
     ensures refused { OnRefused result (handle.new.value ≡ handle.old.value) }
     ensures call { ChangesFilter handle.old.value handle.new.value result (λ a.
         ReadsFilter other.old.value other.new.value result (λ b.
-        (IsCompatible a b → (result ≡ ok) × (handle.new.value ≡ Some (Filter (Own (subtracted a b))))
+        (IsCompatible a b → (result ≡ ok) × (handle.new.value ≡ Some (Own (Filter (subtracted a b))))
         × ExtendsBoth a b (subtracted a b) Difference)
         × (¬ IsCompatible a b → result ≡ refusal_number Fault.Mismatch))) }
 {

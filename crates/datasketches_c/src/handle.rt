@@ -3,10 +3,10 @@ ghost use Rattle.std.specs.Prelude.{◌≡◌, Option, None, Some, MatchOption};
 ghost use Rattle.std.specs.Coded.{coded_option};
 ghost use Rattle.std.specs.Option.{option_map};
 ghost use Rattle.datasketches_c.specs.Numbers.{OnDone, OnRefused, ok, refusal_number};
-ghost use Rattle.datasketches_c.specs.contracts.any_sketch.AnySketch as any_sketch;
-ghost use Rattle.datasketches_c.specs.declared.any_sketch.AnySketch as sketch;
+ghost use Rattle.datasketches_c.specs.contracts.any_sketch.HeldSketch as held_sketch;
+ghost use Rattle.datasketches_c.specs.declared.any_sketch.HeldSketch as sketch;
 
-use crate::any_sketch::AnySketch;
+use crate::any_sketch::HeldSketch;
 use crate::raw_box::RawBox;
 use crate::status_code::{OK, refusal_number};
 use sketch_base::Fault;
@@ -18,16 +18,16 @@ use std::marker::Model;
 pub struct SketchHandle {
     pub(crate) pointer: *mut u8,
     pub(crate) alloc: Global,
-    pub(crate) ghost value: { Option sketch.AnySketch } by { coded_option any_sketch.the_row.coded },
+    pub(crate) ghost value: { Option sketch.HeldSketch } by { coded_option held_sketch.the_row.coded },
 }
 
 impl Model for SketchHandle {
     ghost use Rattle.std.specs.contracts.impls.GlobalAllocator.TheImpl.{ghosts};
-    ghost use Rattle.datasketches_c.specs.contracts.any_sketch.AnySketch as any_sketch;
+    ghost use Rattle.datasketches_c.specs.contracts.any_sketch.HeldSketch as held_sketch;
     ghost use Rattle.datasketches_c.specs.Holding.{holds};
 
     ghost also_owns = { λ handle.
-        holds (ghosts.dealloc_token handle.alloc) any_sketch.the_row handle.pointer handle.value };
+        holds (ghosts.dealloc_token handle.alloc) held_sketch.the_row handle.pointer handle.value };
 }
 
 impl SketchHandle {
@@ -41,7 +41,7 @@ impl SketchHandle {
         }
     }
 
-    fn from_raw_box(raw: RawBox<AnySketch, Global>) -> SketchHandle
+    fn from_raw_box(raw: RawBox<HeldSketch, Global>) -> SketchHandle
         ensures { result.value ≡ Some raw.value }
     {
         let RawBox { pointer, alloc } = raw;
@@ -51,7 +51,7 @@ impl SketchHandle {
         }
     }
 
-    fn into_raw_box(self) -> Option<RawBox<AnySketch, Global>>
+    fn into_raw_box(self) -> Option<RawBox<HeldSketch, Global>>
         ensures { MatchOption result (self.value ≡ None) (λ raw. self.value ≡ Some raw.value) }
     {
         let SketchHandle { pointer, alloc } = self;
@@ -59,20 +59,20 @@ impl SketchHandle {
             return None;
         }
         Some(RawBox {
-            pointer: pointer as *mut AnySketch,
+            pointer: pointer as *mut HeldSketch,
             alloc,
         })
     }
 
     /// Creates the handle of a sketch.
-    pub(crate) fn of(sketch: Box<AnySketch>) -> SketchHandle
+    pub(crate) fn of(sketch: Box<HeldSketch>) -> SketchHandle
         ensures { result.value ≡ Some sketch.value }
     {
         SketchHandle::from_raw_box(RawBox::of(sketch))
     }
 
     /// Returns the sketch of a handle, if any.
-    pub(crate) fn into_box(self) -> Option<Box<AnySketch>>
+    pub(crate) fn into_box(self) -> Option<Box<HeldSketch>>
         ensures { MatchOption result (self.value ≡ None) (λ boxed. self.value ≡ Some boxed.value) }
     {
         match self.into_raw_box() {
@@ -83,7 +83,7 @@ impl SketchHandle {
 
     /// Takes the sketch out of the handle.
     #[inline]
-    pub(crate) fn take(&mut self, alloc: Global) -> Option<Box<AnySketch>>
+    pub(crate) fn take(&mut self, alloc: Global) -> Option<Box<HeldSketch>>
         ensures sketch { MatchOption result (self.old.value ≡ None) (λ boxed. self.old.value ≡ Some boxed.value) }
         ensures emptied { self.new.value ≡ None }
     {
@@ -92,14 +92,14 @@ impl SketchHandle {
 
     /// Puts a sketch into the handle, which has none.
     #[inline]
-    pub(crate) fn give(&mut self, sketch: Box<AnySketch>)
+    pub(crate) fn give(&mut self, sketch: Box<HeldSketch>)
         ensures { self.new.value ≡ Some sketch.value }
     {
         *self = SketchHandle::of(sketch);
     }
 
     /// Puts a sketch into the handle, if any. Otherwise the handle has none.
-    pub(crate) fn give_back(&mut self, alloc: Global, sketch: Option<Box<AnySketch>>)
+    pub(crate) fn give_back(&mut self, alloc: Global, sketch: Option<Box<HeldSketch>>)
         ensures { self.new.value ≡ option_map (λ boxed. boxed.value) sketch }
     {
         *self = match sketch {
@@ -110,7 +110,7 @@ impl SketchHandle {
 
     /// Puts a sketch into the handle, and frees what the handle had. Returns `NoMemory` if an allocation fails. Then
     /// the handle is unchanged.
-    pub(crate) fn put(&mut self, alloc: Global, sketch: AnySketch) -> i32
+    pub(crate) fn put(&mut self, alloc: Global, sketch: HeldSketch) -> i32
         ensures done { OnDone result ((result ≡ ok) × (self.new.value ≡ Some sketch)) }
         ensures refused { OnRefused result
             ((result ≡ refusal_number Fault.NoMemory) × (self.new.value ≡ self.old.value)) }

@@ -21,7 +21,7 @@ pub(crate) fn put_made<K: Kind>(
     ensures refused { OnRefused result ((handle.new.value ≡ handle.old.value)
         × MatchResult made (λ s. result ≡ refusal_number Fault.NoMemory) (λ e. result ≡ refusal_number e.fault)) }
 {
-    on_done!(made, sketch => handle.put(alloc, sketch.into_any()))
+    on_done!(made, sketch => handle.put(alloc, sketch.into_held()))
 }
 
 /// Puts a sketch that was read into the handle, frees what the handle had, writes the number of bytes that were read, and
@@ -41,7 +41,7 @@ pub(crate) fn put_read<K: Kind>(
     ensures untouched { OnRefused result (used.new ≡ used.old) }
 {
     on_done!(read, (sketch, length) => {
-            let result = handle.put(alloc, sketch.into_any());
+            let result = handle.put(alloc, sketch.into_held());
             if result == OK {
                 *used = length;
             }

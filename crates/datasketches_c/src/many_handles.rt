@@ -6,7 +6,7 @@ ghost use Rattle.datasketches_c.specs.ManyHandles.{OnEachKind, found_in};
 ghost use Rattle.datasketches_c.specs.Numbers.{ok};
 ghost use Rattle.datasketches_c.specs.Sharing.{reads};
 
-use crate::any_sketch::AnySketch;
+use crate::any_sketch::HeldSketch;
 use crate::handle::SketchHandle;
 use crate::kind::{Kind, reading_kind};
 use crate::status_code::OK;
@@ -38,7 +38,7 @@ pub(crate) fn refusal_of_handles<K: Kind>(alloc: Global, handles: &mut [SketchHa
 pub(crate) fn take_all(
     alloc: Global,
     handles: &mut [SketchHandle],
-) -> Result<Vec<Option<Box<AnySketch>>>, AllocError>
+) -> Result<Vec<Option<Box<HeldSketch>>>, AllocError>
     ensures taken { IfOk result (λ taken.
         map (option_map (λ boxed. boxed.value)) taken.items ≡ map (λ handle. handle.value) handles.old) }
     ensures kept { OnErr result (handles.new ≡ handles.old) }
@@ -55,7 +55,7 @@ pub(crate) fn take_all(
 pub(crate) fn give_all(
     alloc: Global,
     handles: &mut [SketchHandle],
-    mut taken: Vec<Option<Box<AnySketch>>>,
+    mut taken: Vec<Option<Box<HeldSketch>>>,
 )
     requires { length taken.items ≡ length handles.old }
     ensures { map (λ handle. handle.value) handles.new ≡ map (option_map (λ boxed. boxed.value)) taken.items }
@@ -67,7 +67,7 @@ pub(crate) fn give_all(
 }
 
 /// Returns a sketch that was taken out as the sketch of its kind.
-fn taken_part<K: Kind>(sketch: &Option<Box<AnySketch>>) -> &K
+fn taken_part<K: Kind>(sketch: &Option<Box<HeldSketch>>) -> &K
     requires { IsSome (found_in (reads K.part) (option_map (λ boxed. boxed.value) sketch.now)) }
     ensures { found_in (reads K.part) (option_map (λ boxed. boxed.value) sketch.now) ≡ Some result.now }
 {
@@ -83,7 +83,7 @@ fn taken_part<K: Kind>(sketch: &Option<Box<AnySketch>>) -> &K
 /// Returns the list of the sketches that were taken out, each as the sketch of its kind.
 pub(crate) fn taken_parts<K: Kind>(
     alloc: Global,
-    taken: &[Option<Box<AnySketch>>],
+    taken: &[Option<Box<HeldSketch>>],
 ) -> Result<Vec<&K>, AllocError>
     requires { OnEachKind (reads K.part) (map (option_map (λ boxed. boxed.value)) taken.now) ok (λ ss. ok ≡ ok) }
     ensures parts { IfOk result (λ parts. map (found_in (reads K.part)) (map (option_map (λ boxed. boxed.value)) taken.now)

@@ -10,7 +10,7 @@ ghost use Rattle.datasketches_c.specs.ManyJoins.{IsMerged, IsUnited, MergesAllIn
 ghost use Rattle.datasketches_c.specs.Numbers.{OnRefused, ok};
 ghost use Rattle.datasketches_c.specs.Sharing.{reads};
 
-use crate::any_sketch::AnySketch;
+use crate::any_sketch::HeldSketch;
 use crate::handle::SketchHandle;
 use crate::kind::Kind;
 use crate::many_handles::{give_all, refusal_of_handles, take_all, taken_parts};
@@ -33,7 +33,7 @@ pub(crate) trait JoinsMany: Kind {
 }
 
 /// Combines sketches that were taken out of handles into a sketch.
-fn join_taken<K: JoinsMany>(alloc: Global, sketch: &mut K, taken: &[Option<Box<AnySketch>>]) -> i32
+fn join_taken<K: JoinsMany>(alloc: Global, sketch: &mut K, taken: &[Option<Box<HeldSketch>>]) -> i32
     requires { OnEachKind (reads K.part) (map (option_map (λ boxed. boxed.value)) taken.now) ok (λ bs. ok ≡ ok) }
     ensures call { OnEachKind (reads K.part) (map (option_map (λ boxed. boxed.value)) taken.now) result (λ bs.
         OrNoMemory result bs (K.joins_many sketch.old bs sketch.new result)) }

@@ -3,23 +3,23 @@ ghost use Rattle.std.specs.Prelude.{◌≡◌};
 ghost use Rattle.datasketches_c.specs.MemoryBytes.{Measures, bytes_of};
 ghost use Rattle.datasketches_c.specs.Sharing.{unshared};
 
-use crate::any_sketch::AnySketch;
+use crate::any_sketch::{AnySketch, HeldSketch};
 use crate::handle::SketchHandle;
 use crate::status_code::{NO_SKETCH, OK};
 use std::alloc::Global;
 
 /// Returns the number of bytes that a sketch takes.
-fn bytes_of(sketch: &AnySketch) -> usize
+fn bytes_of(sketch: &HeldSketch) -> usize
     ensures { result ≡ bytes_of (unshared sketch.now) }
 {
-    match sketch {
-        AnySketch::FrequentStrings(held) => held.get().memory_bytes(),
-        AnySketch::FrequentI64(held) => held.get().memory_bytes(),
-        AnySketch::FrequentU64(held) => held.get().memory_bytes(),
-        AnySketch::CountI64(held) => held.get().estimated_size(),
-        AnySketch::CountU64(held) => held.get().estimated_size(),
-        AnySketch::Filter(held) => held.get().estimated_size(),
-        AnySketch::Moved => 0,
+    match sketch.get() {
+        Some(AnySketch::FrequentStrings(sketch)) => sketch.memory_bytes(),
+        Some(AnySketch::FrequentI64(sketch)) => sketch.memory_bytes(),
+        Some(AnySketch::FrequentU64(sketch)) => sketch.memory_bytes(),
+        Some(AnySketch::CountI64(sketch)) => sketch.estimated_size(),
+        Some(AnySketch::CountU64(sketch)) => sketch.estimated_size(),
+        Some(AnySketch::Filter(sketch)) => sketch.estimated_size(),
+        None => 0,
     }
 }
 

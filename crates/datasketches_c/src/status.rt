@@ -2,12 +2,14 @@
 ghost use Rattle.std.specs.Prelude.{◌≡◌, ◌≤◌};
 ghost use Rattle.datasketches_c.specs.Numbers.{OnDone};
 ghost use Rattle.datasketches_c.specs.Sharing.{unshared};
+ghost use Rattle.datasketches_c.specs.SketchKinds.{number_of};
 ghost use Rattle.datasketches_c.specs.Status.{Describes, count_numbers, frequent_numbers, no_numbers, numbers_of};
-ghost use Rattle.datasketches_c.specs.declared.any_sketch.AnySketch.TheVariants as held;
-ghost use Rattle.datasketches_c.specs.declared.any_sketch.Held.TheVariants.{Own};
+ghost use Rattle.datasketches_c.specs.declared.any_sketch.AnySketch.TheVariants as any;
+ghost use Rattle.datasketches_c.specs.declared.any_sketch.HeldSketch.TheVariants.{Own};
 
-use crate::any_sketch::AnySketch;
+use crate::any_sketch::{AnySketch, HeldSketch};
 use crate::handle::SketchHandle;
+use crate::sketch_kind::{SketchKind, number_of};
 use crate::status_code::{NO_SKETCH, OK};
 use sketch_bloom::BloomFilter;
 use sketch_countmin::{CountMinSketch, CountMinValue};
@@ -57,33 +59,36 @@ fn no_numbers(kind: u16) -> Status
 
 /// Returns the numbers of a filter.
 fn filter_numbers(sketch: &BloomFilter) -> Status
-    ensures { result ≡ numbers_of (held.Filter (Own sketch.now)) }
+    ensures { result ≡ numbers_of (Own (any.Filter sketch.now)) }
 {
     Status {
         seed: sketch.seed(),
         num_bits: sketch.capacity() as u64,
         bits_used: sketch.bits_used(),
         num_hashes: sketch.num_hashes(),
-        ..no_numbers(1)
+        ..no_numbers(number_of(SketchKind::Filter))
     }
 }
 
 /// Returns the numbers of a Count-Min sketch of a kind.
-fn count_numbers<V: CountMinValue>(kind: u16, sketch: &CountMinSketch<V>) -> Status
-    ensures { result ≡ count_numbers kind sketch.now }
+fn count_numbers<V: CountMinValue>(kind: SketchKind, sketch: &CountMinSketch<V>) -> Status
+    ensures { result ≡ count_numbers (number_of kind) sketch.now }
 {
     Status {
         seed: sketch.seed(),
         total_weight: sketch.total_weight().to_number() as u64,
         num_buckets: sketch.num_buckets(),
         num_hashes: sketch.num_hashes() as u16,
-        ..no_numbers(kind)
+        ..no_numbers(number_of(kind))
     }
 }
 
 /// Returns the numbers of a sketch of frequent items of a kind.
-fn frequent_numbers<T: Eq + Hash + Drop>(kind: u16, sketch: &FrequentItemsSketch<T>) -> Status
-    ensures numbers { result ≡ frequent_numbers kind sketch.now }
+fn frequent_numbers<T: Eq + Hash + Drop>(
+    kind: SketchKind,
+    sketch: &FrequentItemsSketch<T>,
+) -> Status
+    ensures numbers { result ≡ frequent_numbers (number_of kind) sketch.now }
     ensures few { result.num_active_items ≤ result.maximum_map_capacity }
     ensures error { result.maximum_error ≤ result.total_weight }
 {
@@ -95,24 +100,27 @@ fn frequent_numbers<T: Eq + Hash + Drop>(kind: u16, sketch: &FrequentItemsSketch
         current_map_capacity: sketch.current_map_capacity() as u64,
         max_map_size: sketch.max_map_size() as u64,
         sample_size: sketch.sample_size() as u64,
-        ..no_numbers(kind)
+        ..no_numbers(number_of(kind))
     }
 }
 
 /// Returns the numbers of a sketch.
-fn numbers_of(sketch: &AnySketch) -> Status
+fn numbers_of(sketch: &HeldSketch) -> Status
     ensures numbers { result ≡ numbers_of (unshared sketch.now) }
     ensures few { result.num_active_items ≤ result.maximum_map_capacity }
     ensures error { result.maximum_error ≤ result.total_weight }
 {
-    match sketch {
-        AnySketch::Filter(held) => filter_numbers(held.get()),
-        AnySketch::CountU64(held) => count_numbers(2, held.get()),
-        AnySketch::CountI64(held) => count_numbers(3, held.get()),
-        AnySketch::FrequentU64(held) => frequent_numbers(4, held.get()),
-        AnySketch::FrequentI64(held) => frequent_numbers(5, held.get()),
-        AnySketch::FrequentStrings(held) => frequent_numbers(6, held.get()),
-        AnySketch::Moved => no_numbers(0),
+    match sketch.get() {
+        Some(AnySketch::Filter(sketch)) => filter_numbers(sketch),
+        Some(AnySketch::CountU64(sketch)) => count_numbers(SketchKind::CountU64, sketch),
+        Some(AnySketch::CountI64(sketch)) => count_numbers(SketchKind::CountI64, sketch),
+        Some(AnySketch::FrequentU64(sketch)) => frequent_numbers(SketchKind::FrequentU64, sketch),
+        Some(AnySketch::FrequentI64(sketch)) => frequent_numbers(SketchKind::FrequentI64, sketch),
+        Some(AnySketch::FrequentStrings(sketch)) => frequent_numbers(
+            SketchKind::FrequentStrings,
+            sketch,
+        ),
+        None => no_numbers(0),
     }
 }
 

@@ -12,15 +12,15 @@ use Rattle.std.specs.contracts.impls.GlobalAllocator.TheImpl.{ghosts}
 use Rattle.std.proofs.Crossing as heap
 use Rattle.std_alloc.proofs.SendSync.{quiet, lies}
 use Rattle.std_heap.proofs.Global.TheSendSync as allocator
-use Rattle.datasketches_c.proofs.any_sketch.AnySketch.TheSendSync as sketch_crosses
+use Rattle.datasketches_c.proofs.any_sketch.HeldSketch.TheSendSync as sketch_crosses
 use Rattle.datasketches_c.specs.Holding.{holds}
-use Rattle.datasketches_c.specs.declared.any_sketch.AnySketch as sketch
-use Rattle.datasketches_c.specs.contracts.any_sketch.AnySketch as any_sketch
+use Rattle.datasketches_c.specs.declared.any_sketch.HeldSketch as sketch
+use Rattle.datasketches_c.specs.contracts.any_sketch.HeldSketch as held_sketch
 use Rattle.datasketches_c.specs.contracts.handle.SketchHandle.{the_row, the_type}
 
-holds_keyless : (a : Global) (p : Ptr) (held : Option sketch.AnySketch) → Keyless (holds (ghosts.dealloc_token a) any_sketch.the_row p held)
+holds_keyless : (a : Global) (p : Ptr) (held : Option sketch.HeldSketch) → Keyless (holds (ghosts.dealloc_token a) held_sketch.the_row p held)
 holds_keyless a p None = tt
-holds_keyless a p (Some x) = (lies any_sketch.the_row sketch_crosses.the_send p x, heap.frees.frees a (raw (lone any_sketch.the_row.mir)) p)
+holds_keyless a p (Some x) = (lies held_sketch.the_row sketch_crosses.the_send p x, heap.frees.frees a (raw (lone held_sketch.the_row.mir)) p)
 
 pub send : IsSend the_row
 send =

@@ -19,7 +19,7 @@ use denote.Triple.Walked.{Stays, stay_dropped, walk_of}
 use Rattle.core.proofs.alloc.Calls.{Goes-blank}
 use Rattle.std.specs.contracts.impls.GlobalAllocator.TheImpl.{ghosts}
 use Rattle.std.proofs.raw_atomic.Walks.{proved_at, leaves}
-use Rattle.datasketches_c.specs.declared.any_sketch.AnySketch as sketch
+use Rattle.datasketches_c.specs.declared.any_sketch.HeldSketch as sketch
 use Rattle.datasketches_c.specs.Holding.{holds}
 use Rattle.datasketches_c.proofs.Words.{pair, word_fits}
 use Rattle.datasketches_c.proofs.Handles.{Sketch, Heap, heap_row_laws, Raw, raw_out, handle_in}
@@ -34,7 +34,7 @@ from_raw_box_spec 𝓤 𝓛 𝓜 𝓡 wired =
     let hs : Stays ended.signature.params ended.kept = (stay_dropped (plain (λ _. Raw)) yes, tt) in
     proved_at 𝓛 ended hs c 𝓜 𝓡 (Goes-blank 𝓛 0 (plain (λ _. Raw)) yes (λ κs x f. tt), tt) #self fn (code.unfolded 𝓤 H 𝓜 𝓡 wired) (λ z are.
     let κs = z.0.0 in let qs = z.0.1 in let Post : Val → SProp 𝓤 = (walk_of 𝓛 ended hs c).post z in let Run : List Val → SProp 𝓤 = λ ws. WpFn 𝓤 H 𝓣.C 𝓣.Λ fn ws Post in
-    let d = z.0.3.0 in let a = d.alloc in let y : Option sketch.AnySketch = Some d.value in
+    let d = z.0.3.0 in let a = d.alloc in let y : Option sketch.HeldSketch = Some d.value in
     qed 𝓛 ((raw (alive 𝓛 ended.signature κs qs) ⊛ ‵ (owns (types_at ended.signature.params κs) z.0.3 z.0.4)) ∷ raw ((c κs z.0.3).requires z.1) ∷ []) ∵
     split ! $ move ! (1 ∷ []) $ fsplit ! $ raw_out ! d z.0.4.0 (λ b o h ws fits.
     let w : Val = pair (vptr b o) h in let typed = word_fits Heap heap_row_laws ghosts (block_ptr b o) h fits in

@@ -20,7 +20,7 @@ use denote.Triple.Walked.{Stays, stay_dropped, walk_of, Goes-dropped}
 use Rattle.core.proofs.cell.Inside.{one}
 use Rattle.std.specs.contracts.impls.GlobalAllocator.TheImpl.{ghosts}
 use Rattle.std.proofs.raw_atomic.Walks.{proved_at, leaves}
-use Rattle.datasketches_c.specs.declared.any_sketch.AnySketch as sketch
+use Rattle.datasketches_c.specs.declared.any_sketch.HeldSketch as sketch
 use Rattle.datasketches_c.proofs.Words.{pair, word_fits}
 use Rattle.datasketches_c.proofs.Handles.{Heap, heap_row_laws, handle_in}
 use Rattle.datasketches_c.specs.contracts.handle.SketchHandle.none.{ended, clauses}
@@ -34,7 +34,7 @@ none_spec 𝓤 𝓛 𝓜 𝓡 wired =
     let hs : Stays ended.signature.params ended.kept = (stay_dropped (plain (λ _. Heap)) yes, tt) in
     proved_at 𝓛 ended hs c 𝓜 𝓡 (Goes-dropped 𝓛 0 (plain (λ _. Heap)) yes (λ κs x f. refl), tt) #self fn (code.unfolded 𝓤 H 𝓜 𝓡 wired) (λ z are.
     let κs = z.0.0 in let qs = z.0.1 in let Post : Val → SProp 𝓤 = (walk_of 𝓛 ended hs c).post z in let Run : List Val → SProp 𝓤 = λ ws. WpFn 𝓤 H 𝓣.C 𝓣.Λ fn ws Post in
-    let a = z.0.3.0 in let h = one (layout Heap) z.0.4.0 ((heap_row_laws.lawful 𝓛).typed a z.0.4.0 are.0) in let w : Val = pair vnull h.0 in let y : Option sketch.AnySketch = None in
+    let a = z.0.3.0 in let h = one (layout Heap) z.0.4.0 ((heap_row_laws.lawful 𝓛).typed a z.0.4.0 are.0) in let w : Val = pair vnull h.0 in let y : Option sketch.HeldSketch = None in
     qed 𝓛 ((raw (alive 𝓛 ended.signature κs qs) ⊛ ‵ (owns (types_at ended.signature.params κs) z.0.3 z.0.4)) ∷ raw ((c κs z.0.3).requires z.1) ∷ []) ∵
     split ! $ move ! (1 ∷ []) $ fsplit ! $ rewrite ! 0 (λ (us : List Val). ‵ (Heap.own_val a us)) h.1 refl $
     feq_i ! Ptr null_ptr null_ptr refl $ handle_in ! null_ptr h.0 a y $
