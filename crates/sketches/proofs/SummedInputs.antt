@@ -48,8 +48,8 @@ no_items [] e = refl
 no_items (x ∷ xs) e = absurd (omega (arith, e))
 
 module _ (style : Style) (sums : Sums) (order : List ℕ) where
-  abbrev lines_of : List ℕ → List ℕ
-  lines_of indices = flat_map (row_line style) (rows_at sums indices)
+  abbrev lines_at : List ℕ → List ℕ
+  lines_at indices = flat_map (row_line style) (rows_at sums indices)
 
   -- the lines of the indices before those that are left were written, but for the last of their bytes
   pub record HasSentRows (left : List ℕ) (held holds : Option (List ℕ)) (written : List ℕ) : Type 0 where
@@ -57,25 +57,25 @@ module _ (style : Style) (sums : Sums) (order : List ℕ) where
     pub parts : order ≡ done ++ left
     pub sent : List ℕ
     pub sends : Appends held holds sent
-    pub text : lines_of done ≡ sent ++ written
+    pub text : lines_at done ≡ sent ++ written
 
   pub rows_begun : (held : Option (List ℕ)) (written : List ℕ) → written ≡ [] → HasSentRows order held held written
   rows_begun held written none = record { done = []; parts = refl; sent = []; sends = appends_none held; text = sym none }
 
-  lines_both : (xs ys : List ℕ) → lines_of (xs ++ ys) ≡ lines_of xs ++ lines_of ys
+  lines_both : (xs ys : List ℕ) → lines_at (xs ++ ys) ≡ lines_at xs ++ lines_at ys
   lines_both xs ys =
       ap (flat_map (row_line style)) (flat_map-append (λ (index : ℕ). row_of (slice_get sums index)) xs ys)
       ∙ flat_map-append (row_line style) (rows_at sums xs) (rows_at sums ys)
 
-  line_is : (i : ℕ) → lines_of (i ∷ []) ≡ flat_map (row_line style) (row_of (slice_get sums i))
+  line_is : (i : ℕ) → lines_at (i ∷ []) ≡ flat_map (row_line style) (row_of (slice_get sums i))
   line_is i = ap (flat_map (row_line style)) (append-nil (row_of (slice_get sums i)))
 
   module _ (left : List ℕ) (held holds : Option (List ℕ)) (written : List ℕ) (so : HasSentRows left held holds written) where
     -- one more row is appended
-    with_row : (i : ℕ) (more : List ℕ) → more ≡ written ++ flat_map (row_line style) (row_of (slice_get sums i)) → lines_of (so.done ++ i ∷ []) ≡ so.sent ++ more
+    with_row : (i : ℕ) (more : List ℕ) → more ≡ written ++ flat_map (row_line style) (row_of (slice_get sums i)) → lines_at (so.done ++ i ∷ []) ≡ so.sent ++ more
     with_row i more is =
         lines_both so.done (i ∷ [])
-        ∙ (ap (λ l. lines_of so.done ++ l) (line_is i)
+        ∙ (ap (λ l. lines_at so.done ++ l) (line_is i)
         ∙ (ap (λ l. l ++ flat_map (row_line style) (row_of (slice_get sums i))) so.text
         ∙ (append_assoc so.sent written (flat_map (row_line style) (row_of (slice_get sums i))) ∙ ap (λ l. so.sent ++ l) (sym is))))
 
@@ -91,30 +91,30 @@ module _ (style : Style) (sums : Sums) (order : List ℕ) where
       text = with_row i more is ∙ (ap (λ l. so.sent ++ l) s.parts ∙ sym (append_assoc so.sent s.sent rest));
     }
 
-    whole : left ≡ [] → lines_of order ≡ so.sent ++ written
-    whole none = ap lines_of (so.parts ∙ (ap (λ l. so.done ++ l) none ∙ append-nil so.done)) ∙ so.text
+    whole : left ≡ [] → lines_at order ≡ so.sent ++ written
+    whole none = ap lines_at (so.parts ∙ (ap (λ l. so.done ++ l) none ∙ append-nil so.done)) ∙ so.text
 
     -- the last bytes are written
-    pub rows_all : (now : Option (List ℕ)) (rest : List ℕ) → left ≡ [] → Sends 0 holds written now rest → Appends held now (lines_of order)
+    pub rows_all : (now : Option (List ℕ)) (rest : List ℕ) → left ≡ [] → Sends 0 holds written now rest → Appends held now (lines_at order)
     rows_all now rest none s =
         subst (Appends held now) (sym (whole none ∙ ap (λ l. so.sent ++ l) (s.parts ∙ (ap (λ l. s.sent ++ l) (s.all refl) ∙ append-nil s.sent))))
         (appends_both held holds now so.sent s.sent so.sends s.wrote)
 
     -- they are not
-    pub rows_cut : (now : Option (List ℕ)) → left ≡ [] → WritesFront holds now written → WritesFront held now (lines_of order)
+    pub rows_cut : (now : Option (List ℕ)) → left ≡ [] → WritesFront holds now written → WritesFront held now (lines_at order)
     rows_cut now none front = front_same held now _ _ (sym (whole none)) (front_after held holds now so.sent written so.sends front)
 
     -- a row is appended, and bytes are not written
-    pub rows_cut_at : (i : ℕ) (later more : List ℕ) (now : Option (List ℕ)) → left ≡ i ∷ later → more ≡ written ++ flat_map (row_line style) (row_of (slice_get sums i)) → WritesFront holds now more → WritesFront held now (lines_of order)
+    pub rows_cut_at : (i : ℕ) (later more : List ℕ) (now : Option (List ℕ)) → left ≡ i ∷ later → more ≡ written ++ flat_map (row_line style) (row_of (slice_get sums i)) → WritesFront holds now more → WritesFront held now (lines_at order)
     rows_cut_at i later more now next is front =
-        front_same held now _ _ (sym (ap lines_of (all_with i later next) ∙ (lines_both (so.done ++ i ∷ []) later ∙ ap (λ l. l ++ lines_of later) (with_row i more is))))
-        (front_more held now (so.sent ++ more) (lines_of later) (front_after held holds now so.sent more so.sends front))
+        front_same held now _ _ (sym (ap lines_at (all_with i later next) ∙ (lines_both (so.done ++ i ∷ []) later ∙ ap (λ l. l ++ lines_at later) (with_row i more is))))
+        (front_more held now (so.sent ++ more) (lines_at later) (front_after held holds now so.sent more so.sends front))
 
     -- a row is not appended
-    pub rows_stop : WritesFront held holds (lines_of order)
+    pub rows_stop : WritesFront held holds (lines_at order)
     rows_stop =
-        front_same held holds _ _ (sym (ap lines_of so.parts ∙ (lines_both so.done left ∙ (ap (λ l. l ++ lines_of left) so.text ∙ append_assoc so.sent written (lines_of left)))))
-        (front_more held holds so.sent (written ++ lines_of left) (front_all held holds so.sent so.sends))
+        front_same held holds _ _ (sym (ap lines_at so.parts ∙ (lines_both so.done left ∙ (ap (λ l. l ++ lines_at left) so.text ∙ append_assoc so.sent written (lines_at left)))))
+        (front_more held holds so.sent (written ++ lines_at left) (front_all held holds so.sent so.sends))
 
 -- ---- the sums of keys
 

@@ -104,6 +104,9 @@ once_failed chosen old bytes e f count =
     let bad : ℕ → Type 0 = IsFirstUnweighed (lines_counted (weighing.Once chosen)) (unweighed_of_line (weighing.Once chosen)) count (lines bytes) in
     subst (λ (l : Weighed). FailsWeighing old l bad e) (sym (once_each chosen (lines bytes))) (once_fails old (items_of chosen bytes) bad e f)
 
+pub counted_once : (p : Weighing) (chosen : Selection) (old : Sketch) (count : ℕ) (bytes : List ℕ) → p ≡ weighing.Once chosen → (e : Failure) → ((n : ℕ) → FailsLines (weighing.Once chosen) old n bytes e) → FailsLines p old count bytes e
+counted_once p chosen old count bytes is e f = subst (λ (q : Weighing). FailsLines q old count bytes e) (sym is) (f count)
+
 -- ---- one line after another
 
 -- the items of the lines before those that are left were added, each of these lines with an item has a weight, and they were counted

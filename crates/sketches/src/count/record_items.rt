@@ -24,7 +24,8 @@ use std::alloc::Global;
 /// # Errors
 ///
 /// Returns `BadWeight` at the first record with an item and without a weight, if this is an error. It has the number of the record's first
-/// line. Returns `TooManyItems` if the total would exceed `u64::MAX`, and `Memory` if an allocation fails.
+/// line, if `count` lines come before `bytes`. Returns `TooManyItems` if the total would exceed `u64::MAX`, and `Memory` if an allocation
+/// fails.
 #[inline(never)]
 pub fn add_records(
     alloc: Global,
