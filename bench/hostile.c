@@ -152,18 +152,20 @@ static void update_all(const struct library *library, ds_sketch *sketch, const s
 
 static void update_each(const struct library *library, ds_sketch *sketch, const struct items *items)
 {
+    const struct plain_calls *plain = &library->plain;
     int32_t result = 0;
     for (size_t i = 0; i < items->count; i++) {
-        if (items->numbers) result |= library->i64_update(sketch, items->numbers[i], 1);
-        else
-            result |=
-                library->string_update(sketch, items->bytes + items->offsets[i], items->offsets[i + 1] - items->offsets[i], 1);
+        const uint8_t *bytes = items->numbers ? NULL : items->bytes + items->offsets[i];
+        size_t length = items->numbers ? 0 : items->offsets[i + 1] - items->offsets[i];
+        const ds_item item = items->numbers ? ds_item_i64(items->numbers[i]) : ds_item_string(bytes, length);
+        result |= library->is_keyed ? library->update(sketch, &item, 1)
+                  : items->numbers  ? plain->i64_update(sketch, items->numbers[i], 1)
+                                    : plain->string_update(sketch, bytes, length, 1);
     }
     check(!result, "update");
 }
 
-static void bounds_all(const struct library *library, ds_sketch *sketch, const struct items *items,
-                       ds_frequent_items_bounds *bounds)
+static void bounds_all(const struct library *library, ds_sketch *sketch, const struct items *items, ds_item_bounds *bounds)
 {
     const ds_items all = as_argument(items);
     size_t count = items->count;
@@ -210,7 +212,7 @@ static double now(void)
     return time.tv_sec * 1e9 + time.tv_nsec;
 }
 
-static ds_frequent_items_bounds bounds[1 << 20];
+static ds_item_bounds bounds[1 << 20];
 static uint8_t buffer[1 << 24];
 
 /* Runs an operation once, and returns its nanoseconds an item. `held` keeps a sketch of all items from round to round. */

@@ -10,14 +10,15 @@
 
 #include "hostile_items.h"
 
-/* The calls on many items of a library without keys, for each kind. */
+/* The calls on items of a library without keys, for each kind. */
 struct plain_calls {
+    int32_t (*i64_update)(ds_sketch *, int64_t, uint64_t);
+    int32_t (*string_update)(ds_sketch *, const uint8_t *, size_t, uint64_t);
     int32_t (*i64_update_all)(ds_sketch *, const int64_t *, size_t);
     int32_t (*i64_update_all_weighted)(ds_sketch *, const int64_t *, size_t, const uint64_t *, size_t);
-    int32_t (*i64_bounds_all)(ds_sketch *, const int64_t *, size_t, ds_frequent_items_bounds *, size_t);
+    int32_t (*i64_bounds_all)(ds_sketch *, const int64_t *, size_t, ds_item_bounds *, size_t);
     int32_t (*string_update_all)(ds_sketch *, const uint8_t *, size_t, const uint64_t *, size_t);
-    int32_t (*string_bounds_all)(ds_sketch *, const uint8_t *, size_t, const uint64_t *, size_t, ds_frequent_items_bounds *,
-                                 size_t);
+    int32_t (*string_bounds_all)(ds_sketch *, const uint8_t *, size_t, const uint64_t *, size_t, ds_item_bounds *, size_t);
 };
 
 /* The calls of the library with keys that create and read a sketch of a kind under a key. Its archive exports them. */
@@ -25,13 +26,12 @@ typedef int32_t new_frequent_items(ds_sketch *, int32_t, size_t, size_t, uint64_
 typedef int32_t read_image_call(ds_sketch *, int32_t, const uint8_t *, size_t, size_t, uint64_t, uint64_t, uint64_t, size_t *);
 
 /* The functions of a library. One without keys has calls of each kind, for numbers and for strings: `create` and `read`, and those
- * on many items in `plain`. One with keys has `create_under_key`, `read_under_key` and the calls on many items of any kind. */
+ * on items in `plain`. One with keys has `create_under_key`, `read_under_key` and the calls on items of any kind. */
 struct library {
     const char *label, *program;
     bool is_keyed;
-    __typeof__(&ds_frequent_items_i64_update) i64_update;
-    __typeof__(&ds_frequent_items_string_update) string_update;
     struct plain_calls plain;
+    __typeof__(&ds_update) update;
     __typeof__(&ds_update_all) update_all;
     __typeof__(&ds_update_all_weighted) update_all_weighted;
     __typeof__(&ds_frequent_items_bounds_all) bounds_all;
@@ -66,8 +66,6 @@ static struct library opened(const char *path, const char *program)
     struct library library = {.program = program};
     library.is_keyed = dlsym(object, "ds_new_frequent_items") != NULL;
     library.label = library.is_keyed ? "keyed" : "plain";
-    library.i64_update = function(object, "ds_frequent_items_i64_update");
-    library.string_update = function(object, "ds_frequent_items_string_update");
     for (int strings = 0; strings < 2; strings++) {
         char name[80];
 #define LOAD_NAMED(field, call) \
@@ -86,11 +84,14 @@ static struct library opened(const char *path, const char *program)
     if (library.is_keyed) {
         library.create_under_key = function(object, "ds_new_frequent_items");
         library.read_under_key = function(object, "ds_read_image");
+        library.update = function(object, "ds_update");
         library.update_all = function(object, "ds_update_all");
         library.update_all_weighted = function(object, "ds_update_all_weighted");
         library.bounds_all = function(object, "ds_frequent_items_bounds_all");
     } else {
 #define LOAD(call) library.plain.call = function(object, "ds_frequent_items_" #call);
+        LOAD(i64_update)
+        LOAD(string_update)
         LOAD(i64_update_all)
         LOAD(i64_update_all_weighted)
         LOAD(i64_bounds_all)

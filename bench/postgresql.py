@@ -197,7 +197,8 @@ def main():
         subprocess.run(["bash", f"{TOP}/bindings/c/build.sh", f"{work}/built", archive], check=True, stdout=subprocess.DEVNULL)
         server.copy_programs(f"{work}/tree")
         server.install(f"{work}/tree", f"{work}/built/libdatasketches.a", work)
-        with server.Server(f"{work}/tree", f"{work}/server", shared_buffers="'2GB'", max_parallel_workers="3") as on:
+        with server.Server(f"{work}/tree", f"{work}/server", shared_buffers="'2GB'", max_wal_size="'4GB'",
+                           max_parallel_workers="3") as on:
             print("making the tables", flush=True)
             with on.session() as session, session.cursor() as cursor:
                 cursor.execute("CREATE EXTENSION sketches_rattle")

@@ -10,7 +10,7 @@ use std::process::{self, Command};
 const VERSION: &str = "0.3";
 
 /// The newest call of `src/sys.rs`.
-const NEWEST_CALL: &str = "ds_update_fields";
+const NEWEST_CALL: &str = "ds_update";
 
 const HELP: &str = "\
 the C library of datasketches was not found, or cannot be used. Do one of these:

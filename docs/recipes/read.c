@@ -6,7 +6,7 @@ int main(void)
     static uint8_t image[1 << 16];
     const ds_image_options options = DS_IMAGE_OPTIONS(1 << 20);
     const size_t length = fread(image, 1, sizeof image, stdin);
-    ds_frequent_items_bounds bounds;
+    ds_item_bounds bounds;
     ds_sketch drinks = DS_NONE;
 
     int32_t result = ds_deserialize(&drinks, DS_FREQUENT_ITEMS_STRING, image, length, &options);

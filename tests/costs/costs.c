@@ -16,7 +16,7 @@ enum { N = 1000, MOST = 10 * N, SLOTS = 1 << 14, SAMPLE = 1024, WORD = 8 };
 static uint64_t numbers[2 * MOST], one_home[MOST], weights[MOST], offsets[MOST + 1], estimates[MOST];
 static int32_t offsets_32[MOST + 1];
 static int64_t signed_weights[MOST], signed_estimates[MOST];
-static ds_frequent_items_bounds bounds[MOST];
+static ds_item_bounds bounds[MOST];
 static bool answers[MOST];
 static size_t positions[MOST];
 static ds_string strings[MOST];
@@ -155,6 +155,7 @@ static void filters(void)
     COST("bloom_insert_all of spaces", , ds_bloom_insert_all(&sketch, AS_ITEMS(words, spaces, WORD * n)))
     COST("bloom_insert_all of one word", , ds_bloom_insert_all(&sketch, AS_ITEMS(words, one_word, WORD * n)))
     COST("bloom_insert_string", , ds_bloom_insert_string(&sketch, one_word, WORD * n))
+    COST("bloom_insert_fed", , ds_bloom_insert_fed(&sketch, one_word, WORD * n))
     COST_OF("bloom_image_contains_string", check(!ds_serialize(&sketch, image, sizeof image, &length), "image"),
             ds_bloom_image_contains_string(image, length, one_word, WORD * n) >= 0, true)
     COST("bloom_deserialize", new_filter(&other, 64 * n); ds_bloom_insert_u64(&other, 1);
@@ -184,6 +185,7 @@ static void counts(void)
     }
     COST("count_min_update_all of spaces", , ds_update_all(&sketch, AS_ITEMS(words, spaces, WORD * n)))
     COST("count_min_update_string", , ds_count_min_u64_update_string(&sketch, one_word, WORD * n, 1))
+    COST("count_min_update_fed", , ds_count_min_u64_update_fed(&sketch, one_word, WORD * n, 1))
     COST("count_min_image_estimate_string", check(!ds_serialize(&sketch, image, sizeof image, &length), "image"),
          ds_count_min_u64_image_estimate_string(image, length, 9001, one_word, WORD * n, estimates))
     COST("count_min_deserialize", new_count(&other, n); ds_count_min_u64_update_u64(&other, 1, 1);
@@ -310,7 +312,7 @@ static void fields(void)
     COST_OF("update_fields without a weight", , ds_update_fields(&sketch, lines, WORD * n, &weighed, &read), DS_BAD_WEIGHT)
     COST("finished_csv_records of an open quote", filled('\n', n); image[0] = '"', ds_finished_csv_records(image, WORD * n, ','))
     new_filter(&sketch, 1 << 16);
-    COST("bloom_insert_fields of lines", , ds_bloom_insert_fields(&sketch, lines, WORD * n, &word, &read))
+    COST("bloom_insert_fields of lines", , ds_update_fields(&sketch, lines, WORD * n, &word, &read))
     new_strings(&sketch);
     COST("update_fields of lines, strings", , ds_update_fields(&sketch, lines, WORD * n, &word, &read))
 }

@@ -1,5 +1,6 @@
 #!/usr/bin/env python3
-"""Runs the trials of `crates/alloc_failure_tests`: calls of the libraries, each alone, whose allocations are counted and fail.
+"""Runs the trials of `crates/sketch_tests`: calls of the libraries, each alone, with known results, and with allocations that are counted
+and fail.
 
 The argument is the path of the program. It prints a line for each test that failed and then 'N passed, M failed'.
 """
@@ -78,8 +79,9 @@ class Tests(failing.Failing):
             told = lines == [f"takes {takes}"] and 0 < numbers[4] <= 2 * takes
             self.check(f"limit of {name} of {slots} slots", told, (lines, numbers))
 
-    def hard_items(self):
-        for name, wanted in trials.ITEMS.items():
+    def results(self):
+        """Checks known results, and items that are hard to hash, clone, write or compare."""
+        for name, wanted in {**trials.KNOWN, **trials.ITEMS}.items():
             lines, _ = self.play([name], 0)
             self.check(f"trial {name}", lines == wanted, lines)
 
@@ -116,7 +118,7 @@ def main():
         tests.allocation_free_calls()
         tests.counted_calls()
         tests.limits()
-        tests.hard_items()
+        tests.results()
         print(f"requests refused in turn: {run} of a run of a session")
         tests.end()
 

@@ -1,4 +1,5 @@
-"""The expected output of the trials of `crates/alloc_failure_tests`. Each value was derived by hand from the calls' contracts."""
+"""The expected output of the trials of `crates/sketch_tests`. Values were derived by hand from the calls' contracts, but those of `KNOWN`
+came from outside."""
 
 SIX = "frequent 6 0 6 6 64 1/1/1 1/1/1 1/1/1 0/0/0"
 SEVENTH = "frequent 7 0 7 12 64 1/1/1 1/1/1 1/1/1 1/1/1"
@@ -59,6 +60,40 @@ ALLOCATION_FREE = {
     "allocation-free_table_looks": ["0 probed 4"],
     "allocation-free_table_walk": WALK,
     "allocation-free_session": ["refused NoSuchName"],
+}
+
+# Published hashes of strings, the same however they are cut.
+XXH64 = [0xEF46DB3751D8E999, 0x44BC2CF5AD770999, 0xFBCEA83C8A378BF1, 0x0B242D361FDA71BC]
+MURMUR3 = [0xE34BBC7BBC071B6C, 0x7A433CA9C49A9347]
+
+# Results that are known from outside. The estimates and cells of Count-Min are those of a program in another language, written from the
+# public descriptions, and its printed form is that of a derived `Debug`.
+KNOWN = {
+    "known_hashes": ["xxh64 {} {} {} {}".format(*XXH64), "murmur3 {} {}".format(*MURMUR3)] * 50,
+    "known_weights": [
+        "u8 Ok(([false, true, false], [255, 255, 255]))",
+        "i8 Ok(([true, false, true], [-127, 127, -125]))",
+        "i32 Ok([-2, -8, -8, -8, 4, -2, -8, -3, 9, -8])",
+    ],
+    "known_images": ["i8 Ok(5)", "u8 Err(ValueOutOfRange)", "i8 Ok(127)", "i8 Err(ValueOutOfRange)"],
+    "known_keys": ["ItemBounds { lower_bound: 5, estimate: 5, upper_bound: 5 }", "or 5 5 5"],
+    "known_values": [
+        "BloomFilterBuilder { num_bits: 100, num_hashes: 3, seed: 5 }",
+        "Ok(BloomFilter { capacity: 64, num_hashes: 1, seed: 9001, bits_used: 2, .. })",
+        "Ok(CountMinSketch { num_hashes: 4, num_buckets: 7, seed: 9001, total_weight: 8, counts: ["
+        "5, 0, 0, -3, 0, 0, 0, -3, 0, 0, 5, 0, 0, 0, 0, 5, 0, 0, -3, 0, 0, 5, 0, 0, 0, -3, 0, 0] })",
+        'Insert { name: "visits", item: 7 }',
+        'Session { sketches: {"visits"}, images: {}, .. }',
+        "row a 1 1 1",
+    ],
+    "known_refusals": [
+        "NoSuchName no such name",
+        "NameTaken name is taken",
+        "WrongKind wrong kind of sketch",
+        "SameName both names are the same",
+        "BadFraction fraction not above 0 and at most 1",
+        "MapSizeTooSmall map size below 8",
+    ],
 }
 
 # The middle count of any six of 1, 1, 1, 1, 1, 50 and 100 is 1.

@@ -7,20 +7,23 @@
  * A number is hashed as 8 bytes, lowest first. So a number from 0 to 2^63 - 1 is the same item as `uint64_t` and as `int64_t`.
  * A string is bytes and their number, without an end mark. It must be valid UTF-8.
  *
- * A call on many items takes a `ds_items`, which says where they are: numbers, strings in one of three forms, the words or the
- * lines of a string, or the bytes that are hashed. The library reads the items during the call, and keeps no pointer to them.
+ * A call on one item takes a `ds_item`: a number, a string, or the bytes that are hashed. `datasketches_typed.h`, which this header
+ * includes, has a function for each such call and each type of an item, as `ds_bloom_insert_u64`. A call on many items takes a
+ * `ds_items`, which says where they are: numbers, strings in one of three forms, the words or the lines of a string, or the bytes
+ * that are hashed. The library reads items during the call, and keeps no pointer to them.
  *
  * A call returns the first error in this order:
  *
- *  1. DS_BAD_ARGUMENT, by the checks of `datasketches_checks.h` (see below), and if the `kind` of a `ds_items` is none of the
- *     eight kinds of items, its bitmap has too few bits, or words or lines have a bitmap.
+ *  1. DS_BAD_ARGUMENT, by the checks of `datasketches_checks.h` (see below). Without these checks it comes, too, for a number that
+ *     names nothing: the `kind` of a `ds_item` or a `ds_items`, and `which`, `join` and `size` of calls. A bitmap with too few bits
+ *     is an error, and so is one of words or lines.
  *  2. Errors of arguments: DS_BAD_OFFSETS, DS_INVALID_UTF8, DS_NO_ROOM if items and their weights or results differ in number,
- *     DS_BAD_FRACTION. Records of `ds_update_fields` and `ds_bloom_insert_fields` are read after the errors of handles.
+ *     DS_BAD_FRACTION. Records of `ds_update_fields` are read after the errors of handles.
  *  3. Errors of handles: DS_NO_SKETCH if the handle has no sketch. DS_SHARED if the call changes the handle's sketch, and this is
  *     shared, of whatever kind. DS_WRONG_KIND if its kind does not have this call. Of several handles, the first one's that has
  *     such an error, in the order of arguments and of an array. All calls return these but `ds_free`, those whose names end in
- *     `_new`, `ds_deserialize` and `ds_deserialize_prefix`, those on images in place, `ds_num_items`, and the calls for sizes at
- *     the end. Calls with a `kind` return DS_WRONG_KIND for one that they do not take.
+ *     `_new`, `ds_deserialize` and `ds_deserialize_prefix`, those on images in place, `ds_num_items`, and `ds_suggest`. Calls with
+ *     a `kind` return DS_WRONG_KIND for one that they do not take.
  *  4. The errors in the call's comment, in their order there. DS_NO_MEMORY comes when an allocation fails, which may be earlier.
  *     DS_NO_ROOM of `serialize` and `rows` comes last.
  *
@@ -29,10 +32,11 @@
  *  1. A handle is created as `DS_NONE`, is changed by these calls alone, and is not copied. What it holds belongs to the
  *     library: `ds_free` frees it, and so does a call that puts another sketch into the handle.
  *  2. Pointers are not null, but for those of `ds_free` and of keys, are aligned for their type, and point to as many values as
- *     their count says. This holds for all pointers of a `ds_items`, also for those that its kind does not use. A caller may read
- *     these values, and write them where there is no `const`. No two arguments of a call overlap. The strings of an array may
- *     overlap one another, but not the array or another argument. The pointer of an empty string is not null either. While a
- *     call runs, nothing else writes what it reads or writes, also in a file that is mapped, and nothing unmaps or truncates it.
+ *     their count says. This holds for all pointers of a `ds_item` or a `ds_items`, also for those that its kind does not use. A
+ *     caller may read these values, and write them where there is no `const`. No two arguments of a call overlap. The strings of an
+ *     array may overlap one another, but not the array or another argument. The pointer of an empty string is not null either.
+ *     While a call runs, nothing else writes what it reads or writes, also in a file that is mapped, and nothing unmaps or
+ *     truncates it.
  *  3. One call at a time uses a handle. Another thread may use it later if a lock, a thread's start or a join lies between.
  *     Two threads may use two handles at once, also two of one shared sketch. So threads that read one sketch at once have a
  *     handle each: see `ds_share`.
@@ -42,16 +46,18 @@
  *
  * `datasketches_checks.h`, which this header includes, checks parts of rule 2, at next to no cost. A call returns DS_BAD_ARGUMENT
  * for the same handle twice, and for a handle that is also in the array of others. It returns it, too, for a null pointer with a
- * count above 0, in a `ds_items` or its array of strings, or for the options of an image. A null pointer with the count 0 means
- * no values. These checks are macros of the calls' names, so callers from other languages have none. `(ds_merge)(a, b)`, in
- * brackets, is the call without them. Define `DS_NO_CHECKS` before this header to leave all out.
+ * count above 0, and for one in a `ds_item`, a `ds_items` or its array of strings. The result of a call on one item and the
+ * options of an image must not be null either. A null pointer with the count 0 means no values. These checks are macros of the
+ * calls' names, so callers from other languages have none. `(ds_equal)(a, b)`, in brackets, is the call without them. Define
+ * `DS_NO_CHECKS` before this header to leave all out.
  *
  * The interface of the library file is fixed within a soname (`libdatasketches.so.0`). A call keeps its name, its result and its
  * parameters, with their types and order. A result keeps its number. A structure keeps its members, their types and order, and
  * its size: it never grows. A call that writes other numbers gets another structure and another name, so the name of a call is
  * the version of what it writes. A later library of the same soname may have more calls, more errors and other messages. So take
  * each number below 0 as an error, also one that this header does not name. The functions and macros of these headers, and
- * `DS_MIN_RESULT`, are compiled into a program: they are no part of that interface and may change with each version.
+ * `DS_MIN_RESULT`, are compiled into a program: they are no part of that interface and may change with each version. The
+ * functions of `datasketches_typed.h` are also calls of the library, and fixed as these, for callers without the headers.
  */
 #ifndef DATASKETCHES_H
 #define DATASKETCHES_H
@@ -173,16 +179,26 @@ int32_t ds_clone(ds_sketch *handle, ds_sketch *other);
 /* Removes all items and weights. Sizes, seed and key stay as they were. Does not allocate. */
 int32_t ds_reset(ds_sketch *handle);
 
-/* Merges the other handle's sketch, of the same kind, into this one, which then stands for both histories. The other sketch stays
- * as it was. A filter gets the other's positions, as a union. A Count-Min sketch gets the other's cells and total. A sketch of
- * frequent items keeps its own sizes. Returns DS_WRONG_KIND if the kinds differ. Returns DS_MISMATCH if two filters differ in
- * bits, hashes or seed, or two Count-Min sketches in hashes, buckets or seed. Returns DS_WEIGHT_OVERFLOW if the totals together
- * exceed 2^64 - 1, or 2^63 - 1 for weights in int64_t. Only frequent items allocate, and return DS_NO_MEMORY. */
-int32_t ds_merge(ds_sketch *handle, ds_sketch *other);
+/* How two sketches are combined. `ds_join` returns DS_BAD_ARGUMENT for another number. */
+enum {
+    DS_JOIN_MERGE = 1,        /* the sketch then stands for both histories */
+    DS_JOIN_INTERSECTION = 2, /* a filter keeps the positions that both have */
+    DS_JOIN_DIFFERENCE = 3    /* a filter loses the other's positions */
+};
+
+/* Combines the other handle's sketch, of the same kind, with this one. The other sketch stays as it was. `datasketches_typed.h` has
+ * `ds_merge(handle, other)`, `ds_bloom_intersect` and `ds_bloom_difference`.
+ *
+ * In a merge a filter gets the other's positions, as a union. A Count-Min sketch gets the other's cells and total. A sketch of
+ * frequent items keeps its own sizes. Returns DS_WRONG_KIND if the kinds differ, or an intersection or a difference gets one that is
+ * no filter. Returns DS_MISMATCH if two filters differ in bits, hashes or seed, or two Count-Min sketches in hashes, buckets or seed.
+ * Returns DS_WEIGHT_OVERFLOW if the totals together exceed 2^64 - 1, or 2^63 - 1 for weights in int64_t. Only frequent items
+ * allocate, and return DS_NO_MEMORY. */
+int32_t ds_join(ds_sketch *handle, ds_sketch *other, int32_t join);
 
 /* Merges the sketches of all other handles, of an array, into this one, in order and in one call. All are of the same kind. A
  * sketch of frequent items is copied once, where a merge for each copies it each time. The others stay as they were. Returns
- * DS_NO_MEMORY, for a list of two words a sketch, and then the errors of `ds_merge`: DS_MISMATCH if one differs, and
+ * DS_NO_MEMORY, for a list of two words a sketch, and then the errors of a merge: DS_MISMATCH if one differs, and
  * DS_WEIGHT_OVERFLOW if all totals together exceed the limit. */
 int32_t ds_merge_all(ds_sketch *handle, ds_sketch *others, size_t count);
 
@@ -196,24 +212,38 @@ int32_t ds_equal(ds_sketch *handle, ds_sketch *other);
  * table of strings and the bytes of the strings. Returns DS_NO_SKETCH if the handle has none. */
 int32_t ds_memory_bytes(ds_sketch *handle, size_t *bytes);
 
-/* A sketch's numbers. Those of other kinds are 0. */
-typedef struct ds_status {
-    uint64_t seed;                 /* filters and Count-Min */
-    uint64_t num_bits;             /* filters: all bits */
-    uint64_t bits_used;            /* filters: set bits */
-    uint64_t total_weight;         /* Count-Min and frequent items */
-    uint64_t maximum_error;        /* frequent items: the upper bound less the lower bound, of each item */
-    uint64_t num_active_items;     /* frequent items: tracked items, each with a counter */
-    uint64_t maximum_map_capacity; /* frequent items: the most counters, at `max_map_size` */
-    uint64_t current_map_capacity; /* frequent items: the most counters before the table grows */
-    uint64_t max_map_size;         /* frequent items: the most slots of the table */
-    uint64_t sample_size;          /* frequent items: how many counters a purge samples */
-    uint32_t num_buckets;          /* Count-Min: cells of a row */
-    uint16_t num_hashes;           /* filters: positions of an item. Count-Min: rows */
-    uint16_t kind;                 /* of the sketch: DS_BLOOM .. */
-} ds_status;
+/* The numbers that sketches have: number, constant, member of `ds_status` with its type, and what it is, of which kinds. */
+#define DS_SKETCH_NUMBERS(X) \
+    X(1, DS_NUMBER_SEED, uint64_t, seed, "the seed of a filter or a Count-Min sketch") \
+    X(2, DS_NUMBER_NUM_BITS, uint64_t, num_bits, "all bits of a filter") \
+    X(3, DS_NUMBER_BITS_USED, uint64_t, bits_used, "the set bits of a filter") \
+    X(4, DS_NUMBER_TOTAL_WEIGHT, uint64_t, total_weight, "the total weight of a Count-Min sketch or frequent items") \
+    X(5, DS_NUMBER_MAXIMUM_ERROR, uint64_t, maximum_error, "the difference between the bounds of each item of frequent items") \
+    X(6, DS_NUMBER_NUM_ACTIVE_ITEMS, uint64_t, num_active_items, "the tracked items of frequent items, each with a counter") \
+    X(7, DS_NUMBER_MAXIMUM_MAP_CAPACITY, uint64_t, maximum_map_capacity, "the maximum number of counters, at max_map_size") \
+    X(8, DS_NUMBER_CURRENT_MAP_CAPACITY, uint64_t, current_map_capacity, "the number of counters at which the table grows") \
+    X(9, DS_NUMBER_MAX_MAP_SIZE, uint64_t, max_map_size, "the maximum number of slots of the table of frequent items") \
+    X(10, DS_NUMBER_SAMPLE_SIZE, uint64_t, sample_size, "the number of counters that a purge samples") \
+    X(11, DS_NUMBER_NUM_BUCKETS, uint32_t, num_buckets, "the cells in a row of a Count-Min sketch") \
+    X(12, DS_NUMBER_NUM_HASHES, uint16_t, num_hashes, "the positions of an item in a filter, or the rows of a Count-Min sketch") \
+    X(13, DS_NUMBER_KIND, uint16_t, kind, "the kind of the sketch: DS_BLOOM ..")
 
-/* Writes the sketch's numbers, in constant time. Does not allocate. */
+#define DS_AS_CONSTANT(number, constant, type, member, text) constant = number,
+enum { DS_SKETCH_NUMBERS(DS_AS_CONSTANT) };
+#undef DS_AS_CONSTANT
+
+/* Writes a number of the sketch, in constant time: `ds_number(&sketch, DS_NUMBER_TOTAL_WEIGHT, &total)`. Does not allocate. Returns
+ * DS_BAD_ARGUMENT if there is no such number, DS_NO_SKETCH, or DS_WRONG_KIND if sketches of this kind do not have the number. */
+int32_t ds_number(ds_sketch *handle, int32_t which, uint64_t *value);
+
+/* All numbers of a sketch. Those that its kind does not have are 0. */
+#define DS_AS_MEMBER(number, constant, type, member, text) type member;
+typedef struct ds_status {
+    DS_SKETCH_NUMBERS(DS_AS_MEMBER)
+} ds_status;
+#undef DS_AS_MEMBER
+
+/* Writes all numbers of the sketch, by `ds_number`, in constant time. Does not allocate. */
 int32_t ds_get_status(ds_sketch *handle, ds_status *status);
 
 /* Writes the length in bytes of the sketch's image. A filter's is 24 if no bit is set, and otherwise 32 and 8 for each word of 64
@@ -295,6 +325,68 @@ typedef struct ds_allocator {
  * has asked for memory before. Then nothing changes. */
 int32_t ds_set_allocator(const ds_allocator *allocator);
 
+/* --- One item, the argument of a call on it. The functions of this section create it:
+ *
+ *     ds_item item = ds_item_u64(42);
+ *     int32_t result = ds_bloom_insert(&filter, &item);
+ *
+ * They take a null pointer with the length 0 as no bytes. --- */
+
+/* The kinds of an item. A call returns DS_BAD_ARGUMENT for another number. */
+enum {
+    DS_ITEM_U64 = 0,    /* a number in uint64_t */
+    DS_ITEM_I64 = 1,    /* a number in int64_t */
+    DS_ITEM_STRING = 2, /* a string */
+    DS_ITEM_FED = 3     /* an item given by the bytes that are hashed */
+};
+
+/* An item of one kind. A member of other kinds is 0, or a pointer to no values, and never null. */
+typedef struct ds_item {
+    int32_t kind;
+    uint64_t number;      /* of int64_t: its two's complement, `(uint64_t)item` */
+    const uint8_t *bytes; /* of a string, or those that are hashed */
+    size_t length;        /* the number of bytes */
+} ds_item;
+
+/* Returns a pointer to no values. */
+static inline void *ds_no_values(void)
+{
+    static uint64_t none;
+    return &none;
+}
+
+/* Return a number as an item. To filters and Count-Min sketches, a number in int64_t is the same item as that of the same bits in
+ * uint64_t. */
+static inline ds_item ds_item_u64(uint64_t number)
+{
+    ds_item item = {DS_ITEM_U64, number, (const uint8_t *)ds_no_values(), 0};
+    return item;
+}
+
+static inline ds_item ds_item_i64(int64_t number)
+{
+    ds_item item = {DS_ITEM_I64, (uint64_t)number, (const uint8_t *)ds_no_values(), 0};
+    return item;
+}
+
+/* Returns a string as an item. Calls return DS_INVALID_UTF8 if it is not UTF-8. */
+static inline ds_item ds_item_string(const uint8_t *bytes, size_t length)
+{
+    ds_item item = {DS_ITEM_STRING, 0, bytes || length ? bytes : (const uint8_t *)ds_no_values(), length};
+    return item;
+}
+
+/* Returns an item that is given by the bytes that are hashed. They need not be UTF-8. Filters and Count-Min sketches take it.
+ * Frequent items need the item itself, and return DS_WRONG_KIND.
+ *
+ * A number of 64 bits is hashed as its eight bytes, the lowest first. A string is hashed as its bytes and then the byte 255. Rust's
+ * `Hash` feeds a hasher these bytes, and others for other types. */
+static inline ds_item ds_item_fed(const uint8_t *bytes, size_t length)
+{
+    ds_item item = {DS_ITEM_FED, 0, bytes || length ? bytes : (const uint8_t *)ds_no_values(), length};
+    return item;
+}
+
 /* --- Many items, the argument of one call on all of them. The functions of this section create it:
  *
  *     uint64_t numbers[3] = {3, 4, 3};
@@ -345,13 +437,6 @@ typedef struct ds_items {
     size_t first_bit;        /* the bit of the first row */
 } ds_items;
 
-/* Returns a pointer to no values. */
-static inline void *ds_no_values(void)
-{
-    static uint64_t none;
-    return &none;
-}
-
 /* Returns a structure of a kind whose pointers are to no values. */
 static inline ds_items ds_no_items(int32_t kind)
 {
@@ -387,11 +472,7 @@ static inline ds_items ds_items_strings(const ds_string *strings, size_t count)
     return items;
 }
 
-/* Returns items in an array, each given by the bytes that are hashed. They need not be UTF-8. Filters and Count-Min sketches take
- * them. Frequent items need the items themselves, and return DS_WRONG_KIND.
- *
- * A number of 64 bits is hashed as its eight bytes, the lowest first. A string is hashed as its bytes and then the byte 255. Rust's
- * `Hash` feeds a hasher these bytes, and others for other types. */
+/* Returns items in an array, each given by the bytes that are hashed, as `ds_item_fed` takes one. */
 static inline ds_items ds_items_fed(const ds_string *items_as_bytes, size_t count)
 {
     ds_items items = ds_no_items(DS_ITEMS_FED);
@@ -505,10 +586,6 @@ typedef struct ds_fields_read {
     size_t offset;      /* the index of the byte at which the first record with an error begins */
 } ds_fields_read;
 
-/* Returns the number of bytes through the last end of a record of CSV, or 0 if there is none. The bytes begin with a record, and those
- * after the end may go on in the next chunk. */
-size_t ds_finished_csv_records(const uint8_t *bytes, size_t length, uint8_t delimiter);
-
 /* Writes the number of items: of rows with the missing ones, of words, or of lines. Returns DS_BAD_ARGUMENT, DS_BAD_OFFSETS or
  * DS_INVALID_UTF8 as each call with these items: then `count` stays as it was. Takes no handle and does not allocate. */
 int32_t ds_num_items(const ds_items *items, size_t *count);
@@ -520,48 +597,32 @@ int32_t ds_num_items(const ds_items *items, size_t *count);
  * with 1 to 32767 hashes. Returns DS_BAD_NUM_BITS, DS_BAD_NUM_HASHES, or DS_NO_MEMORY. */
 int32_t ds_bloom_new(ds_sketch *handle, uint64_t num_bits, uint16_t num_hashes, uint64_t seed);
 
-/* Inserts an item. Calls that end in `_fed` take the bytes that are hashed, as `ds_items_fed` does. */
-int32_t ds_bloom_insert_u64(ds_sketch *handle, uint64_t item);
-int32_t ds_bloom_insert_string(ds_sketch *handle, const uint8_t *item, size_t length);
-int32_t ds_bloom_insert_fed(ds_sketch *handle, const uint8_t *item, size_t length);
+/* Inserts an item. */
+int32_t ds_bloom_insert(ds_sketch *handle, const ds_item *item);
 
 /* Inserts many items, as one after another. */
 int32_t ds_bloom_insert_all(ds_sketch *handle, const ds_items *items);
 
-/* Inserts the item of each record into a filter. Returns the errors of `ds_update_fields` but DS_WEIGHT_OVERFLOW, and then changes no
- * filter. A field with a weight is only checked. */
-int32_t ds_bloom_insert_fields(ds_sketch *handle, const uint8_t *bytes, size_t length, const ds_fields *fields, ds_fields_read *read);
-
 /* Returns DS_YES if the filter contains the item, and DS_NO otherwise. */
-int32_t ds_bloom_contains_u64(ds_sketch *handle, uint64_t item);
-int32_t ds_bloom_contains_string(ds_sketch *handle, const uint8_t *item, size_t length);
-int32_t ds_bloom_contains_fed(ds_sketch *handle, const uint8_t *item, size_t length);
+int32_t ds_bloom_contains(ds_sketch *handle, const ds_item *item);
 
 /* Writes for each item whether the filter contains it. Returns DS_NO_ROOM unless `num_results` is the number of items. */
 int32_t ds_bloom_contains_all(ds_sketch *handle, const ds_items *items, bool *results, size_t num_results);
 
 /* Inserts an item. Returns DS_YES if the filter contained it before, and DS_NO otherwise. */
-int32_t ds_bloom_contains_and_insert_u64(ds_sketch *handle, uint64_t item);
-int32_t ds_bloom_contains_and_insert_string(ds_sketch *handle, const uint8_t *item, size_t length);
-int32_t ds_bloom_contains_and_insert_fed(ds_sketch *handle, const uint8_t *item, size_t length);
+int32_t ds_bloom_contains_and_insert(ds_sketch *handle, const ds_item *item);
 
 /* Inserts many items, as one after another. Writes for each whether the filter contained it before, so also whether an earlier
  * item of the same call put it there. Returns DS_NO_ROOM unless `num_results` is the number of items. */
 int32_t ds_bloom_contains_and_insert_all(ds_sketch *handle, const ds_items *items, bool *results, size_t num_results);
 
-/* Keeps the positions that both filters have, or removes the other's. The other filter stays as it was. `ds_merge` unites.
- * Returns DS_MISMATCH if bits, hashes or seeds differ. */
-int32_t ds_bloom_intersect(ds_sketch *handle, ds_sketch *other);
-int32_t ds_bloom_difference(ds_sketch *handle, ds_sketch *other);
-
 /* Returns DS_YES if the filter in an image contains the item, and DS_NO otherwise. The image is read in place, at any address, as
  * in a mapped file, to which rule 2 applies, too. Returns the error of the image's first failed check: each of
  * `ds_deserialize` but those of `max_bytes` and of the number of set bits, in constant time. Does not allocate. */
-int32_t ds_bloom_image_contains_u64(const uint8_t *image, size_t length, uint64_t item);
-int32_t ds_bloom_image_contains_string(const uint8_t *image, size_t length, const uint8_t *item, size_t item_length);
+int32_t ds_bloom_image_contains(const uint8_t *image, size_t length, const ds_item *item);
 
 /* Writes for each item whether the filter in an image contains it. Returns DS_NO_ROOM unless `num_results` is the number of
- * items, and then the errors of the calls above. Does not allocate. */
+ * items, and then the errors of the call above. Does not allocate. */
 int32_t ds_bloom_image_contains_all(const uint8_t *image, size_t length, const ds_items *items, bool *results,
                                     size_t num_results);
 
@@ -577,8 +638,13 @@ static inline size_t ds_select(const bool *results, size_t count, size_t *positi
     return found;
 }
 
-/* --- Weights of many items, of Count-Min sketches and of frequent items. A Count-Min sketch takes items of each kind. A sketch
- * of frequent items takes numbers of its own type, or strings, words and lines, and returns DS_WRONG_KIND for other items. --- */
+/* --- Weights of items, of Count-Min sketches and of frequent items. A Count-Min sketch takes items of each kind. A sketch of
+ * frequent items takes numbers of its own type, or strings, words and lines, and returns DS_WRONG_KIND for other items. --- */
+
+/* Adds a weight to the item's, in a Count-Min sketch with weights in uint64_t or in frequent items. A weight of 0 changes nothing.
+ * Returns DS_WEIGHT_OVERFLOW if the total would exceed 2^64 - 1. Frequent items return DS_NO_MEMORY if the table cannot grow, or a
+ * string that is not tracked cannot be copied. */
+int32_t ds_update(ds_sketch *handle, const ds_item *item, uint64_t weight);
 
 /* Adds 1 to the weight of each item, in order. Returns the error of the first item whose own update returns one: then the items
  * before it are added, and no others. It is DS_WEIGHT_OVERFLOW if the total would exceed 2^64 - 1, or 2^63 - 1 for weights in
@@ -592,8 +658,9 @@ int32_t ds_update_all(ds_sketch *handle, const ds_items *items);
  * returns DS_NO_MEMORY if that fails, before errors of the handle. Then nothing changes. */
 int32_t ds_update_all_weighted(ds_sketch *handle, const ds_items *items, const uint64_t *weights, size_t num_weights);
 
-/* Adds the weight of each record to that of the record's item, in order, in a Count-Min sketch or in frequent strings. A weight is a
- * number in decimal digits, below 2^64. For weights in int64_t it is from -2^63 to 2^63 - 1, and may begin with a minus sign.
+/* Adds the weight of each record to that of the record's item, in order, in a Count-Min sketch or in frequent strings. Inserts the
+ * items into a filter, of which weights are only read. A weight is a number in decimal digits, below 2^64. For weights in int64_t it
+ * is from -2^63 to 2^63 - 1, and may begin with a minus sign.
  *
  * Bytes need not be UTF-8, but items do. Returns the first of these errors, and then changes no sketch:
  *
@@ -613,23 +680,14 @@ int32_t ds_update_fields(ds_sketch *handle, const uint8_t *bytes, size_t length,
  * DS_BAD_NUM_BUCKETS, DS_TABLE_TOO_LARGE, DS_ZERO_SEED_HASH, or DS_NO_MEMORY. */
 int32_t ds_count_min_new(ds_sketch *handle, int32_t kind, uint8_t num_hashes, uint32_t num_buckets, uint64_t seed);
 
-/* Adds a weight to the item's. Returns DS_WEIGHT_OVERFLOW if the total would exceed 2^64 - 1. */
-int32_t ds_count_min_u64_update_u64(ds_sketch *handle, uint64_t item, uint64_t weight);
-int32_t ds_count_min_u64_update_string(ds_sketch *handle, const uint8_t *item, size_t length, uint64_t weight);
-int32_t ds_count_min_u64_update_fed(ds_sketch *handle, const uint8_t *item, size_t length, uint64_t weight);
-
 /* Writes the estimate of the item's weight: the minimum of its cells. */
-int32_t ds_count_min_u64_estimate_u64(ds_sketch *handle, uint64_t item, uint64_t *estimate);
-int32_t ds_count_min_u64_estimate_string(ds_sketch *handle, const uint8_t *item, size_t length, uint64_t *estimate);
-int32_t ds_count_min_u64_estimate_fed(ds_sketch *handle, const uint8_t *item, size_t length, uint64_t *estimate);
+int32_t ds_count_min_u64_estimate(ds_sketch *handle, const ds_item *item, uint64_t *estimate);
 
 /* Writes the estimate of each item's weight. Returns DS_NO_ROOM unless `num_estimates` is the number of items. */
 int32_t ds_count_min_u64_estimate_all(ds_sketch *handle, const ds_items *items, uint64_t *estimates, size_t num_estimates);
 
 /* Writes the estimate plus a margin: e times the total over the buckets, rounded down. The sum stops at 2^64 - 1. */
-int32_t ds_count_min_u64_upper_bound_u64(ds_sketch *handle, uint64_t item, uint64_t *bound);
-int32_t ds_count_min_u64_upper_bound_string(ds_sketch *handle, const uint8_t *item, size_t length, uint64_t *bound);
-int32_t ds_count_min_u64_upper_bound_fed(ds_sketch *handle, const uint8_t *item, size_t length, uint64_t *bound);
+int32_t ds_count_min_u64_upper_bound(ds_sketch *handle, const ds_item *item, uint64_t *bound);
 
 /* Halves each cell and the total, rounded down. */
 int32_t ds_count_min_u64_halve(ds_sketch *handle);
@@ -643,100 +701,21 @@ int32_t ds_count_min_u64_decay(ds_sketch *handle, uint64_t numerator, uint64_t d
  * each of `ds_deserialize` but those of `max_bytes` and of the cells, in constant time. A cell that it rejects is read as the
  * nearest that it accepts. Each call hashes a number for each row first, so many estimates are faster from a sketch that was
  * read. Does not allocate. */
-int32_t ds_count_min_u64_image_estimate_u64(const uint8_t *image, size_t length, uint64_t seed, uint64_t item,
-                                            uint64_t *estimate);
-int32_t ds_count_min_u64_image_estimate_string(const uint8_t *image, size_t length, uint64_t seed, const uint8_t *item,
-                                               size_t item_length, uint64_t *estimate);
-int32_t ds_count_min_u64_image_estimate_fed(const uint8_t *image, size_t length, uint64_t seed, const uint8_t *item,
-                                            size_t item_length, uint64_t *estimate);
+int32_t ds_count_min_u64_image_estimate(const uint8_t *image, size_t length, uint64_t seed, const ds_item *item,
+                                        uint64_t *estimate);
 
 /* --- Count-Min sketches with weights in int64_t, which may be below 0. --- */
 
-/* As `ds_update_all_weighted` and the calls in uint64_t, with weights, estimates and bounds in int64_t. The total counts each
- * weight without its sign, and DS_WEIGHT_OVERFLOW is returned if it would exceed 2^63 - 1. An estimate is at least the item's own
- * weight if no weight is below 0. If some weight is below 0, it may be less. There is no halving and no decay. */
-int32_t ds_count_min_i64_update_u64(ds_sketch *handle, uint64_t item, int64_t weight);
-int32_t ds_count_min_i64_update_string(ds_sketch *handle, const uint8_t *item, size_t length, int64_t weight);
-int32_t ds_count_min_i64_update_fed(ds_sketch *handle, const uint8_t *item, size_t length, int64_t weight);
+/* As `ds_update`, `ds_update_all_weighted` and the calls in uint64_t, with weights, estimates and bounds in int64_t. The total
+ * counts each weight without its sign, and DS_WEIGHT_OVERFLOW is returned if it would exceed 2^63 - 1. An estimate is at least the
+ * item's own weight if no weight is below 0. If some weight is below 0, it may be less. There is no halving and no decay. */
+int32_t ds_count_min_i64_update(ds_sketch *handle, const ds_item *item, int64_t weight);
 int32_t ds_count_min_i64_update_all_weighted(ds_sketch *handle, const ds_items *items, const int64_t *weights,
                                              size_t num_weights);
-int32_t ds_count_min_i64_estimate_u64(ds_sketch *handle, uint64_t item, int64_t *estimate);
-int32_t ds_count_min_i64_estimate_string(ds_sketch *handle, const uint8_t *item, size_t length, int64_t *estimate);
-int32_t ds_count_min_i64_estimate_fed(ds_sketch *handle, const uint8_t *item, size_t length, int64_t *estimate);
+int32_t ds_count_min_i64_estimate(ds_sketch *handle, const ds_item *item, int64_t *estimate);
 int32_t ds_count_min_i64_estimate_all(ds_sketch *handle, const ds_items *items, int64_t *estimates, size_t num_estimates);
-int32_t ds_count_min_i64_upper_bound_u64(ds_sketch *handle, uint64_t item, int64_t *bound);
-int32_t ds_count_min_i64_upper_bound_string(ds_sketch *handle, const uint8_t *item, size_t length, int64_t *bound);
-int32_t ds_count_min_i64_upper_bound_fed(ds_sketch *handle, const uint8_t *item, size_t length, int64_t *bound);
-int32_t ds_count_min_i64_image_estimate_u64(const uint8_t *image, size_t length, uint64_t seed, uint64_t item, int64_t *estimate);
-int32_t ds_count_min_i64_image_estimate_string(const uint8_t *image, size_t length, uint64_t seed, const uint8_t *item,
-                                               size_t item_length, int64_t *estimate);
-int32_t ds_count_min_i64_image_estimate_fed(const uint8_t *image, size_t length, uint64_t seed, const uint8_t *item,
-                                            size_t item_length, int64_t *estimate);
-
-/* --- Items in int64_t. Of filters and Count-Min sketches, a number in int64_t is the same item as the one of the same bits in
- * uint64_t. So these functions of the header make the calls for uint64_t. --- */
-
-static inline int32_t ds_bloom_insert_i64(ds_sketch *handle, int64_t item)
-{
-    return ds_bloom_insert_u64(handle, (uint64_t)item);
-}
-
-static inline int32_t ds_bloom_contains_i64(ds_sketch *handle, int64_t item)
-{
-    return ds_bloom_contains_u64(handle, (uint64_t)item);
-}
-
-static inline int32_t ds_bloom_contains_and_insert_i64(ds_sketch *handle, int64_t item)
-{
-    return ds_bloom_contains_and_insert_u64(handle, (uint64_t)item);
-}
-
-static inline int32_t ds_bloom_image_contains_i64(const uint8_t *image, size_t length, int64_t item)
-{
-    return ds_bloom_image_contains_u64(image, length, (uint64_t)item);
-}
-
-static inline int32_t ds_count_min_u64_update_i64(ds_sketch *handle, int64_t item, uint64_t weight)
-{
-    return ds_count_min_u64_update_u64(handle, (uint64_t)item, weight);
-}
-
-static inline int32_t ds_count_min_u64_estimate_i64(ds_sketch *handle, int64_t item, uint64_t *estimate)
-{
-    return ds_count_min_u64_estimate_u64(handle, (uint64_t)item, estimate);
-}
-
-static inline int32_t ds_count_min_u64_upper_bound_i64(ds_sketch *handle, int64_t item, uint64_t *bound)
-{
-    return ds_count_min_u64_upper_bound_u64(handle, (uint64_t)item, bound);
-}
-
-static inline int32_t ds_count_min_u64_image_estimate_i64(const uint8_t *image, size_t length, uint64_t seed, int64_t item,
-                                                          uint64_t *estimate)
-{
-    return ds_count_min_u64_image_estimate_u64(image, length, seed, (uint64_t)item, estimate);
-}
-
-static inline int32_t ds_count_min_i64_update_i64(ds_sketch *handle, int64_t item, int64_t weight)
-{
-    return ds_count_min_i64_update_u64(handle, (uint64_t)item, weight);
-}
-
-static inline int32_t ds_count_min_i64_estimate_i64(ds_sketch *handle, int64_t item, int64_t *estimate)
-{
-    return ds_count_min_i64_estimate_u64(handle, (uint64_t)item, estimate);
-}
-
-static inline int32_t ds_count_min_i64_upper_bound_i64(ds_sketch *handle, int64_t item, int64_t *bound)
-{
-    return ds_count_min_i64_upper_bound_u64(handle, (uint64_t)item, bound);
-}
-
-static inline int32_t ds_count_min_i64_image_estimate_i64(const uint8_t *image, size_t length, uint64_t seed, int64_t item,
-                                                          int64_t *estimate)
-{
-    return ds_count_min_i64_image_estimate_u64(image, length, seed, (uint64_t)item, estimate);
-}
+int32_t ds_count_min_i64_upper_bound(ds_sketch *handle, const ds_item *item, int64_t *bound);
+int32_t ds_count_min_i64_image_estimate(const uint8_t *image, size_t length, uint64_t seed, const ds_item *item, int64_t *estimate);
 
 /* --- Frequent items: the items of the largest weights, in at most three quarters of `max_map_size` counters.
  *
@@ -754,11 +733,11 @@ static inline int32_t ds_count_min_i64_image_estimate_i64(const uint8_t *image, 
  * and of the items in an image. If others choose the items, choose both words at random and keep them secret. --- */
 
 /* An item's bounds. Its true weight lies between the lower and the upper one, which differ by the sketch's error. */
-typedef struct ds_frequent_items_bounds {
+typedef struct ds_item_bounds {
     uint64_t lower_bound;
     uint64_t estimate;
     uint64_t upper_bound;
-} ds_frequent_items_bounds;
+} ds_item_bounds;
 
 /* Puts an empty sketch into the handle, of the kind DS_FREQUENT_ITEMS_U64, DS_FREQUENT_ITEMS_I64 or DS_FREQUENT_ITEMS_STRING,
  * under a key, or under a drawn one if `key` is null. Its table may grow to `max_map_size` slots, a power of two from 8 to 2^30.
@@ -774,21 +753,12 @@ static inline size_t ds_frequent_items_max_sample_size(size_t max_map_size)
     return max_map_size / 4 * 3 < 1024 ? max_map_size / 4 * 3 : 1024;
 }
 
-/* Adds a weight to the item's. A weight of 0 changes nothing. Returns DS_WEIGHT_OVERFLOW if the total would exceed 2^64 - 1, and
- * DS_NO_MEMORY if the table cannot grow, or a string that is not tracked cannot be copied. */
-int32_t ds_frequent_items_u64_update(ds_sketch *handle, uint64_t item, uint64_t weight);
-int32_t ds_frequent_items_i64_update(ds_sketch *handle, int64_t item, uint64_t weight);
-int32_t ds_frequent_items_string_update(ds_sketch *handle, const uint8_t *item, size_t length, uint64_t weight);
-
-/* Writes the item's bounds. Does not allocate. */
-int32_t ds_frequent_items_u64_bounds(ds_sketch *handle, uint64_t item, ds_frequent_items_bounds *bounds);
-int32_t ds_frequent_items_i64_bounds(ds_sketch *handle, int64_t item, ds_frequent_items_bounds *bounds);
-int32_t ds_frequent_items_string_bounds(ds_sketch *handle, const uint8_t *item, size_t length, ds_frequent_items_bounds *bounds);
+/* Writes the bounds of an item of the sketch's own type. Returns DS_WRONG_KIND for another item. Does not allocate. */
+int32_t ds_frequent_items_bounds(ds_sketch *handle, const ds_item *item, ds_item_bounds *bounds);
 
 /* Writes the bounds of each item, in frequent items of every kind, which take the items that they take for `ds_update_all`.
  * Returns DS_NO_ROOM unless `num_bounds` is the number of items. Does not allocate. */
-int32_t ds_frequent_items_bounds_all(ds_sketch *handle, const ds_items *items, ds_frequent_items_bounds *bounds,
-                                     size_t num_bounds);
+int32_t ds_frequent_items_bounds_all(ds_sketch *handle, const ds_items *items, ds_item_bounds *bounds, size_t num_bounds);
 
 /* Sets how many counters later purges sample: an even number from 2 to three quarters of `max_map_size`, at most 1024. So a
  * sketch that was read from an image, which has no sample size, gets back the one that it had. Nothing else changes. Returns
@@ -804,24 +774,31 @@ int32_t ds_frequent_items_set_sample_size(ds_sketch *handle, size_t sample_size)
  * is open which of these a limit leaves out. Returns DS_NO_MEMORY, or DS_NO_ROOM if a buffer has fewer places than rows: then
  * `count` is the number of rows. Buffers with `limit` places have room. */
 int32_t ds_frequent_items_u64_rows(ds_sketch *handle, bool no_false_negatives, uint64_t threshold, size_t limit, uint64_t *items,
-                                   size_t num_items, ds_frequent_items_bounds *bounds, size_t num_bounds, size_t *count);
+                                   size_t num_items, ds_item_bounds *bounds, size_t num_bounds, size_t *count);
 int32_t ds_frequent_items_i64_rows(ds_sketch *handle, bool no_false_negatives, uint64_t threshold, size_t limit, int64_t *items,
-                                   size_t num_items, ds_frequent_items_bounds *bounds, size_t num_bounds, size_t *count);
+                                   size_t num_items, ds_item_bounds *bounds, size_t num_bounds, size_t *count);
 
 /* The same for strings. They stand one after another at the front of `bytes`: string i from offset i up to offset i + 1, the
  * first offset is 0, and there is one more offset than rows. `num_bytes` is the number of bytes of the rows' strings. It is
  * written with `count`. */
 int32_t ds_frequent_items_string_rows(ds_sketch *handle, bool no_false_negatives, uint64_t threshold, size_t limit,
                                       uint8_t *bytes, size_t room_for_bytes, uint64_t *offsets, size_t num_offsets,
-                                      ds_frequent_items_bounds *bounds, size_t num_bounds, size_t *count, size_t *num_bytes);
+                                      ds_item_bounds *bounds, size_t num_bounds, size_t *count, size_t *num_bytes);
 
 /* --- Chunks of a stream. These calls take no handle, and return a number of bytes, never an error. With the checks they return 0
  * at null, whatever the length. --- */
 
-/* Returns the number of bytes through the last byte of ASCII white space, or through the last LF, or 0 if there is none. Words or
- * lines that begin after them may go on in the next chunk: pass on the bytes before, and put the rest before the next chunk. */
-size_t ds_finished_words(const uint8_t *text, size_t length);
-size_t ds_finished_lines(const uint8_t *text, size_t length);
+/* What the chunks of a stream have. `ds_finished` returns 0 for another number. */
+enum {
+    DS_CHUNK_WORDS = 1,      /* words: what is finished ends with the last byte of ASCII white space */
+    DS_CHUNK_LINES = 2,      /* lines: it ends with the last LF */
+    DS_CHUNK_CSV_RECORDS = 3 /* records of CSV, of which the first begins the chunk: it ends with the end of the last whole one */
+};
+
+/* Returns the number of bytes of a chunk that are finished, or 0 if none are. What begins after them may go on in the next chunk: pass
+ * on the bytes before, and put the rest before the next chunk. The delimiter is that of CSV, and not read otherwise.
+ * `datasketches_typed.h` has `ds_finished_words(text, length)`, `ds_finished_lines` and `ds_finished_csv_records`. */
+size_t ds_finished(int32_t chunk, const uint8_t *bytes, size_t length, uint8_t delimiter);
 
 /* Returns the number of bytes before the first that is not part of valid UTF-8, or `length` if all are UTF-8. */
 size_t ds_valid_utf8(const uint8_t *text, size_t length);
@@ -834,38 +811,45 @@ size_t ds_valid_utf8(const uint8_t *text, size_t length);
  * collide. Choose both words at random and keep them secret. Sketches that are merged need the same key. */
 uint64_t ds_keyed_hash(const uint8_t *bytes, size_t length, uint64_t k0, uint64_t k1);
 
-/* --- Sizes from error targets. Each call writes a size if it returns DS_OK, and leaves it as it was otherwise. --- */
+/* --- Sizes from error targets. --- */
 
-/* Writes the smallest `max_map_size` whose guarantee is an error of at most the total over `parts`, for every stream, at the
- * largest sample size. Returns DS_MAP_SIZE_TOO_LARGE above 512 parts. */
-int32_t ds_frequent_items_suggest_max_map_size(size_t parts, size_t *max_map_size);
+/* What `ds_suggest` writes for its targets. It returns DS_BAD_ARGUMENT for another number. */
+enum {
+    /* The smallest `max_map_size` whose guarantee is an error of at most the total over `first`, for every stream, at the largest sample
+     * size. DS_MAP_SIZE_TOO_LARGE above 512. */
+    DS_SIZE_MAX_MAP_SIZE = 1,
 
-/* Writes the buckets of Count-Min by the published formula: e times `parts`, rounded up. With the hashes of the next call, an
- * estimate exceeds the item's own weight by more than the total over `parts` with probability at most 1 / `questions`. This
- * needs ideal hashes and no weight below 0. Returns DS_BAD_NUM_BUCKETS for 0, and DS_TABLE_TOO_LARGE for 2^30 buckets and
- * more. */
-int32_t ds_count_min_suggest_num_buckets(uint64_t parts, uint32_t *num_buckets);
+    /* The buckets of Count-Min by the published formula: e times `first`, rounded up. Take the hashes of the next size for a number
+     * of questions. Then an estimate exceeds the item's own weight by more than the total over `first` with probability at most 1 in
+     * that number. This needs ideal hashes and no weight below 0. DS_BAD_NUM_BUCKETS for 0, and DS_TABLE_TOO_LARGE for 2^30 buckets and
+     * more. */
+    DS_SIZE_NUM_BUCKETS = 2,
 
-/* Writes the hashes of Count-Min by the published formula: the natural logarithm of `questions`, rounded up. Returns
- * DS_BAD_NUM_HASHES for 0 and 1. */
-int32_t ds_count_min_suggest_num_hashes(uint64_t questions, uint8_t *num_hashes);
+    /* The hashes of Count-Min by the published formula: the natural logarithm of `first` questions, rounded up. At most 255.
+     * DS_BAD_NUM_HASHES for 0 and 1. */
+    DS_SIZE_COUNT_HASHES = 3,
 
-/* Writes the bits of a filter by the published formula: items times ln `questions` over the square of ln 2. The binary
- * logarithm of `questions` is rounded up to 64ths, so there are never fewer bits than the formula asks for. Under ideal hashes
- * the false-positive rate is about 1 in `questions`. With few items or a low rate it is higher: see `ds_bloom_min_num_bits`.
- * Returns DS_BAD_NUM_BITS for 0 items, for 0 and 1 question, and above 137438953152 bits. */
-int32_t ds_bloom_suggest_num_bits(uint64_t num_items, uint64_t questions, uint64_t *num_bits);
+    /* The bits of a filter by the published formula: `first` items times ln `second` over the square of ln 2. The binary logarithm of
+     * `second` is rounded up to 64ths, so there are never fewer bits than the formula asks for. Under ideal hashes the false-positive
+     * rate is about 1 in `second`. With few items or a low rate it is higher: see the next size. DS_BAD_NUM_BITS for 0 items, for 0
+     * and 1 as `second`, and above 137438953152 bits. */
+    DS_SIZE_NUM_BITS = 4,
 
-/* Writes the least bits of a filter for the rate of 1 in `questions`: 4 times the square root of items times questions, rounded up.
- * The positions of an item are two hashes modulo the bits. In fewer bits they repeat those of another item more often than the
- * rate allows. Make a filter of the larger one of this number and the one above, with the hashes of the one above. Its rate is not
- * proved. Measured for up to 3000 items and rates from 1/10 to 1/1000000, it is at most 1.3 in `questions`. Returns DS_BAD_NUM_BITS
- * above 137438953152 bits. */
-int32_t ds_bloom_min_num_bits(uint64_t num_items, uint64_t questions, uint64_t *num_bits);
+    /* The least bits of a filter for `first` items and the rate of 1 in `second`: 4 times the square root of their product, rounded up.
+     * The positions of an item are two hashes modulo the bits. In fewer bits they repeat those of another item more often than the
+     * rate allows. Make a filter of the larger one of this number and the one above, with the hashes of the one above. Its rate is
+     * not proved. Measured for up to 3000 items and rates from 1/10 to 1/1000000, it is at most 1.3 in `second`. DS_BAD_NUM_BITS above
+     * 137438953152 bits. */
+    DS_SIZE_MIN_NUM_BITS = 5,
 
-/* Writes the hashes of a filter by the published formula: bits over items times ln 2, rounded up. Returns DS_BAD_NUM_BITS unless
- * there are 1 to 137438953152 bits, and DS_BAD_NUM_HASHES for 0 items and above 32767 hashes. */
-int32_t ds_bloom_suggest_num_hashes(uint64_t num_bits, uint64_t num_items, uint16_t *num_hashes);
+    /* The hashes of a filter by the published formula: `first` bits over `second` items times ln 2, rounded up. At most 32767.
+     * DS_BAD_NUM_BITS unless there are 1 to 137438953152 bits, and DS_BAD_NUM_HASHES for 0 items and above 32767 hashes. */
+    DS_SIZE_FILTER_HASHES = 6
+};
+
+/* Writes a size for error targets, and returns DS_OK. After an error of the size nothing is written. The sizes 1 to 3 have the target
+ * `first` alone. `datasketches_typed.h` has a function for each size, as `ds_bloom_suggest_num_bits(num_items, questions, &num_bits)`. */
+int32_t ds_suggest(int32_t size, uint64_t first, uint64_t second, uint64_t *found);
 
 #ifdef __cplusplus
 }

@@ -93,7 +93,7 @@ static void ask(ds_sketch *handle, const ds_items *items)
 {
     static bool answers[RUN];
     static uint64_t estimates[RUN];
-    static ds_frequent_items_bounds bounds[RUN];
+    static ds_item_bounds bounds[RUN];
     size_t count = strings.count;
     int32_t contains = ds_bloom_contains_all(handle, items, answers, count);
     int32_t counts = ds_count_min_u64_estimate_all(handle, items, estimates, count);

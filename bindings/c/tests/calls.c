@@ -286,8 +286,8 @@ static const struct alteration FREQUENT_ALTERED[] = {
     static void function##_images(ds_sketch *a) \
     { \
         ds_status numbers; \
-        ds_frequent_items_bounds bounds = {0, 0, 0}; \
-        ds_frequent_items_bounds rows[3]; \
+        ds_item_bounds bounds = {0, 0, 0}; \
+        ds_item_bounds rows[3]; \
         const type items[3] = {7, 7, 8}; \
         const ds_items many = ds_items_##form(items, 3), nothing = ds_items_##form(NULL, 0); \
         type found[2]; \
@@ -335,7 +335,7 @@ FREQUENT_IMAGES(frequent_signed_numbers, int64_t, i64, ds_frequent_items_i64, DS
     static void function(void) \
     { \
         ds_sketch a = DS_NONE, b = DS_NONE; \
-        ds_frequent_items_bounds bounds = {0, 0, 0}; \
+        ds_item_bounds bounds = {0, 0, 0}; \
         CHECK(ds_frequent_items_new(&a, number, 9, 2, NULL) == DS_MAP_SIZE_NOT_POWER_OF_TWO && \
               ds_frequent_items_new(&a, number, 4, 2, NULL) == DS_MAP_SIZE_TOO_SMALL); \
         CHECK(ds_frequent_items_new(&a, number, (size_t)1 << 31, 2, NULL) == DS_MAP_SIZE_TOO_LARGE && \
@@ -367,7 +367,7 @@ static void frequent_strings(void)
 {
     static const char *const words[7] = {"a", "b", "c", "d", "e", "f", "g"};
     ds_sketch a = DS_NONE, b = DS_NONE, copy = DS_NONE;
-    ds_frequent_items_bounds bounds = {0, 0, 0};
+    ds_item_bounds bounds = {0, 0, 0};
     ds_status numbers;
     uint8_t image[256];
     size_t length;

@@ -10,6 +10,10 @@
 
 _Static_assert(sizeof(ds_sketch) == sizeof(void *), "a handle is one word");
 _Static_assert(sizeof(ds_string) == 16 && offsetof(ds_string, length) == 8, "ds_string");
+_Static_assert(sizeof(ds_item) == 32 && offsetof(ds_item, kind) == 0 && offsetof(ds_item, number) == 8 &&
+                   offsetof(ds_item, bytes) == 16 && offsetof(ds_item, length) == 24,
+               "ds_item");
+_Static_assert(DS_ITEM_U64 == 0 && DS_ITEM_I64 == 1 && DS_ITEM_STRING == 2 && DS_ITEM_FED == 3, "kinds of an item");
 _Static_assert(sizeof(ds_items) == 144 && offsetof(ds_items, kind) == 0 && offsetof(ds_items, u64s) == 8 &&
                    offsetof(ds_items, num_u64s) == 16 && offsetof(ds_items, i64s) == 24 && offsetof(ds_items, num_i64s) == 32 &&
                    offsetof(ds_items, bytes) == 40 && offsetof(ds_items, num_bytes) == 48 && offsetof(ds_items, offsets) == 56 &&
@@ -34,9 +38,9 @@ _Static_assert(sizeof(ds_status) == 88 && offsetof(ds_status, seed) == 0 && offs
                    offsetof(ds_status, num_buckets) == 80 && offsetof(ds_status, num_hashes) == 84 &&
                    offsetof(ds_status, kind) == 86,
                "ds_status");
-_Static_assert(sizeof(ds_frequent_items_bounds) == 24 && offsetof(ds_frequent_items_bounds, lower_bound) == 0 &&
-                   offsetof(ds_frequent_items_bounds, estimate) == 8 && offsetof(ds_frequent_items_bounds, upper_bound) == 16,
-               "ds_frequent_items_bounds");
+_Static_assert(sizeof(ds_item_bounds) == 24 && offsetof(ds_item_bounds, lower_bound) == 0 &&
+                   offsetof(ds_item_bounds, estimate) == 8 && offsetof(ds_item_bounds, upper_bound) == 16,
+               "ds_item_bounds");
 _Static_assert(DS_BLOOM == 1 && DS_COUNT_MIN_U64 == 2 && DS_COUNT_MIN_I64 == 3 && DS_FREQUENT_ITEMS_U64 == 4 &&
                    DS_FREQUENT_ITEMS_I64 == 5 && DS_FREQUENT_ITEMS_STRING == 6,
                "kinds");
@@ -56,7 +60,7 @@ static void commas(void)
     bool found[3] = {false, false, false};
     uint64_t estimates[2] = {0, 0}, items[2], offsets[3];
     int64_t of_signs[2] = {0, 0};
-    ds_frequent_items_bounds bounds[2];
+    ds_item_bounds bounds[2];
     uint8_t image[4200], bytes[8];
     size_t length = 0, rows = 0, used = 0;
 
@@ -140,11 +144,15 @@ static void functions(void)
 {
     ds_sketch a = DS_NONE, b = DS_NONE;
     int32_t (*join)(ds_sketch *, ds_sketch *) = ds_merge;
+    int32_t (*insert)(ds_sketch *, const ds_item *) = &ds_bloom_insert;
+    int32_t (*contains)(ds_sketch *, uint64_t) = ds_bloom_contains_u64;
     void (*release)(ds_sketch *) = &ds_free;
 
     CHECK(ds_bloom_new(&a, 64, 1, 9001) == DS_OK && (ds_clone)(&b, &a) == DS_OK);
     CHECK(join(&a, &b) == DS_OK && (ds_bloom_insert_all)(&a, AS_ITEMS(u64, (const uint64_t[]){1, 2}, 2)) == DS_OK);
-    CHECK(ds_bloom_contains_u64(&a, 2) == DS_YES);
+    CHECK(ds_bloom_contains_u64(&a, 2) == DS_YES && insert(&a, &(const ds_item){DS_ITEM_U64, 3, (const uint8_t *)"", 0}) == DS_OK);
+    CHECK(contains(&a, 3) == DS_YES && (ds_bloom_insert)(&a, (const ds_item[]){ds_item_u64(4)}) == DS_OK);
+    CHECK((ds_bloom_contains_u64)(&a, 4) == DS_YES && contains(&b, 3) == DS_NO);
     CHECK((ds_bloom_insert_all)(&a, (const ds_items[]){ds_no_items(DS_ITEMS_FED + 1)}) == DS_BAD_ARGUMENT);
     (ds_free)(&a);
     release(&b);
@@ -226,7 +234,8 @@ static void names(void)
 
 #ifdef DS_NO_CHECKS
 
-#if defined ds_clone || defined ds_merge || defined ds_deserialize || defined ds_frequent_items_string_rows || defined ds_keyed_hash
+#if defined ds_clone || defined ds_merge || defined ds_deserialize || defined ds_bloom_insert || defined ds_update || \
+    defined ds_frequent_items_string_rows || defined ds_keyed_hash
 #error "a check is left"
 #endif
 
@@ -243,6 +252,19 @@ static const uint64_t ENDS[2] = {0, 1};
 static const uint32_t ENDS32[2] = {0, 1};
 static const int64_t NUMBER[1] = {7};
 static const ds_string NULLS[2] = {{B, 1}, {NULL, 0}};
+
+/* An item of each kind, and items at null. */
+enum { KINDS_OF_ONE = 4 };
+
+static ds_item single[KINDS_OF_ONE], null_single[KINDS_OF_ONE];
+
+static void make_single(void)
+{
+    const ds_item made[KINDS_OF_ONE] = {ds_item_u64(7), ds_item_i64(-7), ds_item_string(B, 1), ds_item_fed(B, 1)};
+    memcpy(single, made, sizeof made);
+    memcpy(null_single, made, sizeof made);
+    for (size_t i = 0; i < KINDS_OF_ONE; i++) null_single[i].bytes = NULL;
+}
 
 /* One item of each kind, no items of each kind, and items with a null pointer. */
 enum { ITEM_KINDS = 8, MOST_NULLS = 96 };
@@ -306,7 +328,24 @@ static void make_items(void)
     MAKES(many(&others[2], others, 2)); \
     MAKES(many(&none, NULL, 0));
 
-/* Calls for the bytes of one string, with the arguments after them. */
+/* Calls for one item, with the argument after it, and with the type of what they write. */
+#define ITEM(call) \
+    REJECTS(call(&none, NULL)); \
+    for (size_t i = 0; i < KINDS_OF_ONE; i++) { \
+        REJECTS(call(&none, &null_single[i])); \
+        MAKES(call(&none, &single[i])); \
+    }
+#define ITEM_AND(call, last) \
+    REJECTS(call(&none, NULL, last)); \
+    for (size_t i = 0; i < KINDS_OF_ONE; i++) { \
+        REJECTS(call(&none, &null_single[i], last)); \
+        MAKES(call(&none, &single[i], last)); \
+    }
+#define ITEM_TO(call, type) \
+    ITEM_AND(call, &(type){0}) \
+    for (size_t i = 0; i < KINDS_OF_ONE; i++) REJECTS(call(&none, &single[i], NULL));
+
+/* Functions for the bytes of one string, with the arguments after them. */
 #define BYTES(call) \
     REJECTS(call(&none, NULL, 1)); \
     MAKES(call(&none, NULL, 0));
@@ -366,8 +405,27 @@ static void filters(void)
     ds_sketch others[3] = {DS_NONE, DS_NONE, DS_NONE};
     JOINS(ds_bloom_intersect)
     JOINS(ds_bloom_difference)
+    ITEM(ds_bloom_insert)
+    ITEM(ds_bloom_contains)
+    ITEM(ds_bloom_contains_and_insert)
     BYTES(ds_bloom_insert_string)
+    BYTES(ds_bloom_insert_fed)
     BYTES(ds_bloom_contains_string)
+    BYTES(ds_bloom_contains_fed)
+    BYTES(ds_bloom_contains_and_insert_string)
+    BYTES(ds_bloom_contains_and_insert_fed)
+    /* a function for a type has the check of its call, also in brackets, and the call in brackets has none */
+    REJECTS((ds_bloom_insert_string)(&none, NULL, 1));
+    MAKES((ds_bloom_insert)(&none, &single[0]));
+    REJECTS(ds_bloom_image_contains(B, 1, NULL));
+    for (size_t i = 0; i < KINDS_OF_ONE; i++) {
+        REJECTS(ds_bloom_image_contains(B, 1, &null_single[i]));
+        REJECTS(ds_bloom_image_contains(NULL, 1, &single[i]));
+        CHECK(ds_bloom_image_contains(NULL, 0, &single[i]) == DS_INSUFFICIENT_DATA);
+    }
+    REJECTS(ds_bloom_image_contains_string(B, 1, NULL, 1));
+    REJECTS(ds_bloom_image_contains_fed(NULL, 1, B, 1));
+    CHECK(ds_bloom_image_contains_string(NULL, 0, NULL, 0) == DS_INSUFFICIENT_DATA);
     MANY(ds_bloom_insert_all)
     MANY_WITH(ds_bloom_contains_all, bool)
     MANY_WITH(ds_bloom_contains_and_insert_all, bool)
@@ -380,14 +438,32 @@ static void filters(void)
 }
 
 /* Calls for Count-Min sketches and frequent items of each kind. */
-static void weights(void){MANY(ds_update_all) MANY_WITH(ds_update_all_weighted, uint64_t)
-                              MANY_WITH(ds_frequent_items_bounds_all, ds_frequent_items_bounds)
-                                  MANY_WITH(ds_count_min_i64_update_all_weighted, int64_t)}
+static void weights(void)
+{
+    ITEM_AND(ds_update, 1);
+    ITEM_AND(ds_count_min_i64_update, -1);
+    ITEM_TO(ds_frequent_items_bounds, ds_item_bounds);
+    MANY(ds_update_all);
+    MANY_WITH(ds_update_all_weighted, uint64_t);
+    MANY_WITH(ds_frequent_items_bounds_all, ds_item_bounds);
+    MANY_WITH(ds_count_min_i64_update_all_weighted, int64_t);
+}
 
 #define COUNTS(kind, weight) \
     static void counts_##kind(void) \
     { \
         weight found = 7; \
+        ITEM_TO(ds_count_min_##kind##_estimate, weight) \
+        ITEM_TO(ds_count_min_##kind##_upper_bound, weight) \
+        REJECTS(ds_count_min_##kind##_image_estimate(B, 1, 9001, NULL, &found)); \
+        for (size_t i = 0; i < KINDS_OF_ONE; i++) { \
+            REJECTS(ds_count_min_##kind##_image_estimate(B, 1, 9001, &null_single[i], &found)); \
+            REJECTS(ds_count_min_##kind##_image_estimate(NULL, 1, 9001, &single[i], &found)); \
+            REJECTS(ds_count_min_##kind##_image_estimate(B, 1, 9001, &single[i], NULL)); \
+            CHECK(ds_count_min_##kind##_image_estimate(NULL, 0, 9001, &single[i], &found) == DS_INSUFFICIENT_DATA); \
+        } \
+        REJECTS(ds_count_min_##kind##_image_estimate_string(B, 1, 9001, NULL, 1, &found)); \
+        REJECTS(ds_count_min_##kind##_image_estimate_u64(B, 1, 9001, 7, NULL)); \
         BYTES_AND(ds_count_min_##kind##_update_string, 1) \
         BYTES_AND(ds_count_min_##kind##_update_fed, 1) \
         BYTES_AND(ds_count_min_##kind##_estimate_string, &found) \
@@ -397,21 +473,23 @@ static void weights(void){MANY(ds_update_all) MANY_WITH(ds_update_all_weighted, 
         MANY_WITH(ds_count_min_##kind##_estimate_all, weight) \
         CHECK(found == 7); \
     }
-COUNTS(u64, uint64_t) COUNTS(i64, int64_t)
+COUNTS(u64, uint64_t)
+COUNTS(i64, int64_t)
 
 #define FREQUENT_NUMBERS(kind, item) \
     static void frequent_##kind(void) \
     { \
         size_t length = 0; \
-        REJECTS(ds_frequent_items_##kind##_rows(&none, true, 0, SIZE_MAX, NULL, 1, &(ds_frequent_items_bounds){0}, 1, &length)); \
+        REJECTS(ds_frequent_items_##kind##_rows(&none, true, 0, SIZE_MAX, NULL, 1, &(ds_item_bounds){0}, 1, &length)); \
         REJECTS(ds_frequent_items_##kind##_rows(&none, true, 0, SIZE_MAX, &(item){0}, 1, NULL, 1, &length)); \
         MAKES(ds_frequent_items_##kind##_rows(&none, true, 0, SIZE_MAX, NULL, 0, NULL, 0, &length)); \
     }
-    FREQUENT_NUMBERS(u64, uint64_t) FREQUENT_NUMBERS(i64, int64_t)
+FREQUENT_NUMBERS(u64, uint64_t)
+FREQUENT_NUMBERS(i64, int64_t)
 
-        static void frequent_strings(void)
+static void frequent_strings(void)
 {
-    ds_frequent_items_bounds bounds[1];
+    ds_item_bounds bounds[1];
     size_t length = 0, count = 0;
     uint64_t offsets[1];
     uint8_t bytes[1];
@@ -467,6 +545,7 @@ int main(void)
     items();
     names();
 #ifndef DS_NO_CHECKS
+    make_single();
     make_items();
     any_kind();
     filters();

@@ -156,8 +156,8 @@ static void check_counts(const ds_items *rows, const ds_items *others)
 /* In a table that purges. */
 static void check_frequent(const ds_items *rows, const ds_items *others)
 {
-    static ds_frequent_items_bounds of_rows[MAX_ROWS], of_others[MAX_ROWS];
-    const ds_frequent_items_bounds nothing = {0, 0, 0};
+    static ds_item_bounds of_rows[MAX_ROWS], of_others[MAX_ROWS];
+    const ds_item_bounds nothing = {0, 0, 0};
     const ds_key key = {7, 8};
     int32_t kind = rows->kind == DS_ITEMS_U64   ? DS_FREQUENT_ITEMS_U64
                    : rows->kind == DS_ITEMS_I64 ? DS_FREQUENT_ITEMS_I64

@@ -71,6 +71,9 @@ static void kinds()
     CHECK(status.kind == filter::kind && filter::kind == DS_BLOOM && status.num_bits == 64 && status.total_weight == 0);
     status = take(count.status());
     CHECK(status.kind == counts::kind && counts::kind == DS_COUNT_MIN_U64 && status.num_bits == 0 && status.seed == 7);
+    CHECK(take(count.number(DS_NUMBER_NUM_HASHES)) == 3 && take(count.number(DS_NUMBER_KIND)) == DS_COUNT_MIN_U64);
+    FAILS(DS_WRONG_KIND, count.number(DS_NUMBER_NUM_BITS));
+    FAILS(DS_BAD_ARGUMENT, count.number(0));
     status = take(heavy.status());
     CHECK(status.kind == strings::kind && strings::kind == DS_FREQUENT_ITEMS_STRING && status.seed == 0);
     CHECK(take(below.status()).kind == DS_COUNT_MIN_I64 && signed_counts::kind == DS_COUNT_MIN_I64);
@@ -369,7 +372,7 @@ template <class T> void frequent()
     std::vector<T> items{item_of<T>(1), item_of<T>(2), item_of<T>(1)};
     std::list<T> linked(items.begin(), items.end());
     const std::vector<std::uint64_t> weights{5, 6, 7};
-    ds_frequent_items_bounds found[3];
+    ds_item_bounds found[3];
     DONE(c.update_all(items));
     DONE(c.update_all(linked));
     DONE(c.update_all(items, weights));
@@ -410,7 +413,7 @@ static void frequent_strings()
 {
     strings made = take(strings::create(64));
     const std::uint64_t ends[4] = {0, 1, 2, 3}, weights[3] = {5, 6, 7};
-    ds_frequent_items_bounds found[3];
+    ds_item_bounds found[3];
     DONE(made.update_all(ds::words("to be or not to be")));
     DONE(made.update_all(ds::lines("to\nbe here")));
     CHECK(take(made.bounds("to")).estimate == 3 && take(made.bounds(std::string_view("or"))).estimate == 1);

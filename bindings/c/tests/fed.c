@@ -164,7 +164,7 @@ static void others(void)
     ds_free(&filter);
     for (int32_t kind = DS_FREQUENT_ITEMS_U64; kind <= DS_FREQUENT_ITEMS_STRING; kind++) {
         ds_sketch sketch = DS_NONE;
-        ds_frequent_items_bounds bounds;
+        ds_item_bounds bounds;
         const uint64_t weight = 1;
         CHECK(ds_frequent_items_new(&sketch, kind, 64, ds_frequent_items_max_sample_size(64), NULL) == DS_OK);
         CHECK(ds_update_all(&sketch, &one) == DS_WRONG_KIND);

@@ -20,7 +20,7 @@ static uint64_t in_counts(ds_sketch *counts, const char *item)
 
 static uint64_t in_heavy(ds_sketch *heavy, const char *item)
 {
-    ds_frequent_items_bounds bounds = {0, 0, 0};
+    ds_item_bounds bounds = {0, 0, 0};
     CHECK(ds_frequent_items_string_bounds(heavy, (const uint8_t *)item, strlen(item), &bounds) == DS_OK);
     CHECK(bounds.lower_bound == bounds.upper_bound);
     return bounds.estimate;
@@ -150,22 +150,17 @@ static void handles(void)
     CHECK(ds_count_min_new(&sketches[0], DS_COUNT_MIN_I64, 4, 64, 9001) == DS_OK);
     CHECK(ds_count_min_new(&sketches[1], DS_COUNT_MIN_U64, 4, 64, 9001) == DS_OK);
     CHECK(ds_frequent_items_new(&sketches[2], DS_FREQUENT_ITEMS_STRING, 64, 48, NULL) == DS_OK);
-    CHECK(ds_bloom_new(&sketches[3], 64, 1, 9001) == DS_OK);
+    CHECK(ds_frequent_items_new(&sketches[3], DS_FREQUENT_ITEMS_I64, 64, 48, NULL) == DS_OK);
     for (const char **text = (const char *[]){"a -5\n", "a 5\n", "a x\n", "\xff 5\n", NULL}; *text != NULL; text++) {
         const uint8_t *bytes = (const uint8_t *)*text;
         size_t length = strlen(*text);
         CHECK(ds_update_fields(&none, bytes, length, &weighed, &read) == DS_NO_SKETCH);
-        CHECK(ds_bloom_insert_fields(&none, bytes, length, &weighed, &read) == DS_NO_SKETCH);
         CHECK(ds_update_fields(&sketches[3], bytes, length, &weighed, &read) == DS_WRONG_KIND);
-        for (size_t i = 0; i < 3; i++) CHECK(ds_bloom_insert_fields(&sketches[i], bytes, length, &weighed, &read) == DS_WRONG_KIND);
     }
     for (size_t i = 0; i < 4; i++) CHECK(ds_freeze(&sketches[i]) == DS_OK);
     for (const char **text = (const char *[]){"a -5\n", "a 5\n", "a x\n", NULL}; *text != NULL; text++) {
         const uint8_t *bytes = (const uint8_t *)*text;
-        for (size_t i = 0; i < 4; i++) {
-            CHECK(ds_update_fields(&sketches[i], bytes, strlen(*text), &weighed, &read) == DS_SHARED);
-            CHECK(ds_bloom_insert_fields(&sketches[i], bytes, strlen(*text), &weighed, &read) == DS_SHARED);
-        }
+        for (size_t i = 0; i < 4; i++) CHECK(ds_update_fields(&sketches[i], bytes, strlen(*text), &weighed, &read) == DS_SHARED);
     }
     CHECK(read.num_records == 9 && read.num_items == 9 && read.offset == 9);
     for (size_t i = 0; i < 4; i++) ds_free(&sketches[i]);
@@ -178,19 +173,16 @@ static void filters(void)
     ds_fields_read read = {9, 9, 9};
     const ds_fields weighed = {DS_FIELDS_WORDS, 0, 1, 0};
     CHECK(ds_bloom_new(&filter, 1 << 16, 5, 9001) == DS_OK);
-    CHECK(ds_bloom_insert_fields(&filter, TEXT("1 a\n2 b\n3\n"), &WORD_1, &read) == DS_OK);
+    CHECK(ds_update_fields(&filter, TEXT("1 a\n2 b\n3\n"), &WORD_1, &read) == DS_OK);
     CHECK(read.num_records == 3 && read.num_items == 2);
     CHECK(ds_bloom_contains_string(&filter, TEXT("a")) == DS_YES && ds_bloom_contains_string(&filter, TEXT("b")) == DS_YES);
     CHECK(ds_bloom_contains_string(&filter, TEXT("1 a")) == DS_NO && ds_bloom_contains_string(&filter, TEXT("3")) == DS_NO);
-    CHECK(ds_bloom_insert_fields(&filter, TEXT("1 c\nx d\n"), &weighed, &read) == DS_BAD_WEIGHT && read.offset == 4);
+    CHECK(ds_update_fields(&filter, TEXT("1 c\nx d\n"), &weighed, &read) == DS_BAD_WEIGHT && read.offset == 4);
     CHECK(ds_bloom_contains_string(&filter, TEXT("c")) == DS_NO);
-    CHECK(ds_update_fields(&filter, TEXT("1 c\n"), &WORD_1, &read) == DS_WRONG_KIND);
     CHECK(ds_frequent_items_new(&numbers, DS_FREQUENT_ITEMS_U64, 64, 48, NULL) == DS_OK);
     CHECK(ds_update_fields(&numbers, TEXT("1 2\n"), &WORD_1, &read) == DS_WRONG_KIND && total_of(&numbers) == 0);
-    CHECK(ds_bloom_insert_fields(&numbers, TEXT("1 2\n"), &WORD_1, &read) == DS_WRONG_KIND);
     CHECK(ds_update_fields(&none, TEXT("1 2\n"), &WORD_1, &read) == DS_NO_SKETCH);
-    CHECK(ds_bloom_insert_fields(&none, TEXT("1 2\n"), &WORD_1, &read) == DS_NO_SKETCH);
-    CHECK(ds_freeze(&filter) == DS_OK && ds_bloom_insert_fields(&filter, TEXT("1 c\n"), &WORD_1, &read) == DS_SHARED);
+    CHECK(ds_freeze(&filter) == DS_OK && ds_update_fields(&filter, TEXT("1 c\n"), &WORD_1, &read) == DS_SHARED);
     CHECK(ds_update_fields(&none, NULL, 3, &WORD_1, &read) == DS_BAD_ARGUMENT);
     CHECK(ds_update_fields(&none, TEXT("a"), NULL, &read) == DS_BAD_ARGUMENT);
     CHECK(ds_update_fields(&none, TEXT("a"), &WORD_1, NULL) == DS_BAD_ARGUMENT);

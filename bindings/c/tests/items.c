@@ -30,7 +30,7 @@ struct values {
     uint64_t weights[MOST], estimates[MOST];
     int64_t with_sign[MOST], signed_estimates[MOST];
     bool found[MOST];
-    ds_frequent_items_bounds bounds[MOST];
+    ds_item_bounds bounds[MOST];
 };
 
 /* The image of the call on an image. */
@@ -279,7 +279,7 @@ static void write_nothing(int call, struct values *values, size_t i)
     if (call == CONTAINS || call == CONTAINS_AND_INSERT || call == IMAGE_CONTAINS) values->found[i] = false;
     if (call == ESTIMATE) values->estimates[i] = 0;
     if (call == ESTIMATE_SIGNED) values->signed_estimates[i] = 0;
-    if (call == BOUNDS) values->bounds[i] = (ds_frequent_items_bounds){0, 0, 0};
+    if (call == BOUNDS) values->bounds[i] = (ds_item_bounds){0, 0, 0};
 }
 
 /* Makes each call that takes these items and the sketches `many` and `single`, of one kind and of the same history. */

@@ -85,7 +85,7 @@ static int32_t add_string(ds_sketch *handle, uint64_t item, uint64_t weight)
     return ds_frequent_items_string_update(handle, text, sizeof text, weight);
 }
 
-static int32_t bounds_of_string(ds_sketch *handle, uint64_t item, ds_frequent_items_bounds *bounds)
+static int32_t bounds_of_string(ds_sketch *handle, uint64_t item, ds_item_bounds *bounds)
 {
     const uint8_t text[3] = {'a', (uint8_t)('a' + item / 26), (uint8_t)('a' + item % 26)};
     return ds_frequent_items_string_bounds(handle, text, sizeof text, bounds);
@@ -96,7 +96,7 @@ static int32_t add_u64(ds_sketch *handle, uint64_t item, uint64_t weight)
     return ds_frequent_items_u64_update(handle, item, weight);
 }
 
-static int32_t bounds_of_u64(ds_sketch *handle, uint64_t item, ds_frequent_items_bounds *bounds)
+static int32_t bounds_of_u64(ds_sketch *handle, uint64_t item, ds_item_bounds *bounds)
 {
     return ds_frequent_items_u64_bounds(handle, item, bounds);
 }
@@ -106,7 +106,7 @@ static int32_t add_i64(ds_sketch *handle, uint64_t item, uint64_t weight)
     return ds_frequent_items_i64_update(handle, -(int64_t)item, weight);
 }
 
-static int32_t bounds_of_i64(ds_sketch *handle, uint64_t item, ds_frequent_items_bounds *bounds)
+static int32_t bounds_of_i64(ds_sketch *handle, uint64_t item, ds_item_bounds *bounds)
 {
     return ds_frequent_items_i64_bounds(handle, -(int64_t)item, bounds);
 }
@@ -140,7 +140,7 @@ static int32_t bounds_of_i64(ds_sketch *handle, uint64_t item, ds_frequent_items
             CHECK(ds_get_status(&one, &in_turn) == DS_OK && in_turn.total_weight == weights); \
             CHECK(status.max_map_size == size && status.sample_size == size / 2); \
             for (uint64_t item = 0; item < ITEMS; item++) { \
-                ds_frequent_items_bounds bounds, singly; \
+                ds_item_bounds bounds, singly; \
                 CHECK(bounds_of_##kind(&all, item, &bounds) == DS_OK && bounds_of_##kind(&one, item, &singly) == DS_OK); \
                 CHECK(bounds.lower_bound <= exact[item] && exact[item] <= bounds.upper_bound); \
                 CHECK(singly.lower_bound <= exact[item] && exact[item] <= singly.upper_bound); \
@@ -231,7 +231,7 @@ ERRORS_OF_COUNTS(ds_count_min_i64, DS_COUNT_MIN_I64, INT64_MAX)
     static void errors_of_frequent_##kind(void) \
     { \
         ds_sketch sketch = DS_NONE, others[3] = {DS_NONE}; \
-        ds_frequent_items_bounds bounds; \
+        ds_item_bounds bounds; \
         CHECK(ds_merge_all(&sketch, others, 3) == DS_NO_SKETCH); \
         CHECK(ds_frequent_items_new(&sketch, number, 8, 6, NULL) == DS_OK && add_##kind(&sketch, 7, 5) == DS_OK); \
         CHECK(ds_merge_all(&sketch, NULL, 0) == DS_OK); \

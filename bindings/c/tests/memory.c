@@ -53,7 +53,7 @@ static int32_t kind_of_items;
 /* Room for a report of them. */
 static uint8_t shown[128];
 static uint64_t starts[65];
-static ds_frequent_items_bounds bounds[64];
+static ds_item_bounds bounds[64];
 
 static void write_strings(void)
 {

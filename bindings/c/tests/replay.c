@@ -133,7 +133,7 @@ static void load(char **words)
 
 static void ask(ds_sketch *handle, const uint8_t *text, size_t length)
 {
-    ds_frequent_items_bounds bounds;
+    ds_item_bounds bounds;
     int32_t answer = ds_bloom_contains_string(handle, text, length);
     if (answer != DS_WRONG_KIND) {
         puts(answer == DS_YES ? "yes" : "no");

@@ -341,7 +341,7 @@ static void frequent_numbers(void)
 {
     ds_sketch six = DS_NONE, empty = DS_NONE, heavy = DS_NONE, none = DS_NONE;
     ds_status numbers;
-    ds_frequent_items_bounds bounds[3];
+    ds_item_bounds bounds[3];
     uint8_t image[256];
     size_t written;
     DO(ds_frequent_items_new(&six, DS_FREQUENT_ITEMS_U64, 64, 48, NULL));
@@ -399,7 +399,7 @@ static void full(void)
 {
     ds_sketch sketch = DS_NONE, other = DS_NONE;
     ds_status numbers;
-    ds_frequent_items_bounds bounds[3];
+    ds_item_bounds bounds[3];
     DO(ds_frequent_items_new(&sketch, DS_FREQUENT_ITEMS_I64, 2048, 1024, NULL));
     DO(ds_frequent_items_new(&other, DS_FREQUENT_ITEMS_I64, 8, 6, NULL));
     ROW(16, 16, DS_OK, fill(&sketch));
@@ -426,7 +426,7 @@ static void frequent_strings(void)
 {
     ds_sketch sketch = DS_NONE, empty = DS_NONE, three = DS_NONE;
     ds_status numbers;
-    ds_frequent_items_bounds bounds[3];
+    ds_item_bounds bounds[3];
     uint8_t image[256];
     size_t written;
     DO(ds_frequent_items_new(&sketch, DS_FREQUENT_ITEMS_STRING, 64, 48, NULL));
@@ -515,7 +515,7 @@ static void bitmaps(void)
 {
     static const uint8_t validity[1] = {5};
     ds_sketch filter = DS_NONE, count = DS_NONE, with_sign = DS_NONE, frequent = DS_NONE, none = DS_NONE;
-    ds_frequent_items_bounds bounds[3];
+    ds_item_bounds bounds[3];
     uint64_t estimates[3];
     int64_t signed_estimates[3];
     bool answers[3];

@@ -18,15 +18,15 @@ import subprocess
 import sys
 import tempfile
 
-HERE = os.path.dirname(os.path.abspath(__file__))
-C = os.path.dirname(HERE)
-TOP = os.path.dirname(os.path.dirname(C))
+from interface import C, CHOICES, CRATE, HERE, INTERNAL, TOP, by_choice, declared, exported, functions, global_names, in_c_sources
+from interface import items_of_strings, members_in_header, members_in_sources, needs_check, read, typed, types, wanted_typed
+from typed_names import compare
+
 sys.path[:0] = [f"{TOP}/tests/cli", f"{TOP}/tests"]
 
 import checks  # noqa: E402
 import loads  # noqa: E402
 
-CRATE = f"{TOP}/crates/datasketches_c"
 COMPILER = next(name for name in [os.environ.get("CC", "cc"), "gcc", "clang"] if shutil.which(name))
 CPP_COMPILERS = [name for name in ["g++", "clang++"] if shutil.which(name)]
 WARNINGS = ["-Wall", "-Wextra", "-Wpedantic", "-Werror"]
@@ -36,15 +36,6 @@ NO_EXCEPTIONS = ["-fno-exceptions", "-DDATASKETCHES_NO_EXCEPTIONS"]
 
 # The key of tables under which the program runs where it is compared: the 16 bytes of the key in the C tests.
 TABLE_KEY = {"DATASKETCHES_TABLE_KEY": bytes(range(16)).hex()}
-
-# The C type of each Rust type of an export. A slice is a pointer and a length, and an allocator is not passed.
-CROSSES = {"u8": "uint8_t", "u16": "uint16_t", "u32": "uint32_t", "u64": "uint64_t", "i32": "int32_t", "i64": "int64_t"}
-CROSSES |= {"usize": "size_t", "bool": "bool", "SketchHandle": "ds_sketch", "Status": "ds_status"}
-CROSSES |= {"ItemBounds": "ds_frequent_items_bounds", "ItemsArgument": "ds_items"}
-CROSSES |= {"FieldsArgument": "ds_fields", "FieldsRead": "ds_fields_read"}
-
-# The exports of the sources that only the library's own C calls.
-INTERNAL = {"ds_free_handle", "ds_new_frequent_items", "ds_read_image"}
 
 # The constant of each kind of the sources.
 KINDS = {"Filter": "BLOOM", "CountU64": "COUNT_MIN_U64", "CountI64": "COUNT_MIN_I64", "FrequentU64": "FREQUENT_ITEMS_U64"}
@@ -129,99 +120,6 @@ NOT_CPP = [
 ]
 
 
-def read(path):
-    with open(path, encoding="utf-8") as it:
-        return it.read()
-
-
-def in_c(kind):
-    """Returns the C types of a parameter."""
-    kind = re.sub(r"'\w+ |<'\w+>", "", kind)
-    if kind == "Global":
-        return []
-    if kind == "&[&[u8]]":
-        return ["const ds_string *", "size_t"]
-    found = re.fullmatch(r"(&(?:mut )?)?\[?(\w+)\]?", kind)
-    borrowed, name = found.groups()
-    if not borrowed:
-        return [CROSSES[name]]
-    pointer = ("" if "mut" in borrowed else "const ") + CROSSES[name] + " *"
-    return [pointer, "size_t"] if "[" in kind else [pointer]
-
-
-def exported():
-    """Returns the exports of the sources: name, C type of the result, C types of the parameters."""
-    found = {}
-    for path in glob.glob(f"{CRATE}/src/*.rt"):
-        for name, inside, result in re.findall(r'pub extern "C" fn (\w+)\(([^)]*)\)(?: -> (\w+))?', read(path)):
-            kinds = [it.split(":")[1].strip() for it in inside.split(",") if it.strip()]
-            found[name] = (CROSSES[result] if result else "void", [it for kind in kinds for it in in_c(kind)])
-    return found
-
-
-def items_in_c():
-    """Returns the members of the sources' `ItemsArgument` in C: type and name of each."""
-    inside = re.search(r"pub struct ItemsArgument<'a> \{\n(.*?)\n\}", read(f"{CRATE}/src/items_argument.rt"), re.DOTALL)[1]
-    members = []
-    for name, kind in re.findall(r"^    pub (\w+): (.*),$", inside, re.MULTILINE):
-        pointer, *count = in_c(kind)
-        members += [(pointer, name), *[(it, f"num_{name}") for it in count]]
-    return members
-
-
-def items_in_header():
-    """Returns the members of the header's `ds_items`: type and name of each."""
-    inside = re.search(r"typedef struct ds_items \{\n(.*?)\n\}", read(f"{C}/include/datasketches.h"), re.DOTALL)[1]
-    return [(kind.strip(), name) for kind, name in re.findall(r"^    (.*?)(\w+);", inside, re.MULTILINE)]
-
-
-def functions(path, end):
-    """Returns the functions of a header or a C source, as `exported` does. `end` is what comes after the parameters."""
-    text = re.sub(r"/\*.*?\*/", "", read(path), flags=re.DOTALL)
-    found = {}
-    for result, name, inside in re.findall(rf"^(void|\w+_t|const char \*) ?(ds_\w+)\(([^)]*)\){end}", text, re.MULTILINE):
-        kinds = [re.fullmatch(r"\s*(.*?)\w+", it).group(1).strip() for it in inside.split(",")]
-        found[name] = (result, [kind for kind in kinds if kind or inside != "void"])
-    return found
-
-
-def in_c_sources():
-    """Returns the functions of `src/`, as `exported` does."""
-    found = {}
-    for path in glob.glob(f"{C}/src/*.c"):
-        found |= functions(path, r"\n\{")
-    return found
-
-
-def declared():
-    """Returns the prototypes of the header, as `exported` does."""
-    return functions(f"{C}/include/datasketches.h", ";")
-
-
-def casts():
-    """Returns the functions of the header for items in `int64_t`: the name, the parameters, and the call that it makes."""
-    form = r"^static inline int32_t (ds_\w+_i64)\(([^)]*)\)\n\{\n    return (.*);\n\}$"
-    return {name: (re.sub(r"\s+", " ", inside).split(", "), call)
-            for name, inside, call in re.findall(form, read(f"{C}/include/datasketches.h"), re.MULTILINE)}
-
-
-def items_of_strings():
-    """Returns the kinds of items that are strings: the number of each by its name, as DS_ITEMS_WORDS."""
-    return dict(re.findall(r"(DS_ITEMS_(?!U64|I64|FED)\w+) = (\d)", read(f"{C}/include/datasketches.h")))
-
-
-def needs_check(kinds):
-    """Returns whether a call needs a check of its arguments: it takes two handles, many items, or a pointer with a count."""
-    counted = any(kind.endswith("*") and kind != "ds_sketch *" and count == "size_t" for kind, count in zip(kinds, kinds[1:]))
-    return kinds.count("ds_sketch *") > 1 or "const ds_items *" in kinds or counted
-
-
-def global_names(path, *flags):
-    """Returns the names of the global symbols that a library defines."""
-    listed = subprocess.run(["nm", "--defined-only", "-g", *flags, path], capture_output=True, check=True, text=True)
-    return {row.split()[2].split("@")[0] for row in listed.stdout.splitlines() if len(row.split()) == 3}
-
-
 class Tests(checks.Checks):
     def __init__(self, program, archive, work):
         super().__init__(work)
@@ -244,28 +142,30 @@ class Tests(checks.Checks):
 
     def header(self):
         """Compares prototypes with exports, and the header's error numbers, names and strings with the sources."""
-        sources, header, in_c = exported(), declared(), in_c_sources()
+        sources, prototypes, in_c = exported(), declared(), in_c_sources()
+        header, by_type = types(prototypes), typed()
         called = {name: form for name, form in sources.items() if name not in INTERNAL}
         calls = called | in_c
         self.check("there are exports", len(sources) > 30 and len(calls) == len(called) + len(in_c))
         self.check("there are internal exports", INTERNAL <= set(sources))
         self.check("there are calls in C", {"ds_free", "ds_deserialize", "ds_frequent_items_new", "ds_result_name"} <= set(in_c), in_c)
-        for name, form in functions(f"{C}/src/keys.c", ";").items():
+        for name, form in types(functions(f"{C}/src/keys.c", ";")).items():
             self.check(f"the prototype of {name}", sources.get(name) == form, (sources.get(name), form))
         for name in sorted(calls | header):
             self.check(f"the prototype of {name}", calls.get(name) == header.get(name), (calls.get(name), header.get(name)))
-        self.check("there are functions for int64_t", len(casts()) == 12, len(casts()))
-        for name, (parameters, call) in casts().items():
-            arguments = ["(uint64_t)item" if it == "int64_t item" else re.search(r"\w+$", it).group() for it in parameters]
-            self.check(f"the call of {name}", call == f"{name[:-3]}u64({', '.join(arguments)})", call)
-        for path, flags, wanted in [(self.archive, [], set(sources)), (f"{self.built}/libdatasketches.a", [], set(calls)),
-                                    (f"{self.built}/libdatasketches.so", ["-D"], set(calls))]:
+        wanted = wanted_typed(prototypes)
+        self.check("there are functions by type", len(wanted) == 54, len(wanted))
+        for name in sorted(wanted | by_type):
+            self.check(f"the function {name}", by_type.get(name) == wanted.get(name), (by_type.get(name), wanted.get(name)))
+        self.check("the functions by choice", by_choice() == CHOICES, by_choice())
+        of_library = set(calls) | set(by_type) | set(CHOICES)
+        for path, flags, wanted in [(self.archive, [], set(sources)), (f"{self.built}/libdatasketches.a", [], of_library),
+                                    (f"{self.built}/libdatasketches.so", ["-D"], of_library)]:
             names = global_names(path, *flags)
             self.check(f"what {os.path.basename(path)} exports", names - {"DATASKETCHES_0"} == wanted, names ^ wanted)
         checked = re.findall(r"^#define (ds_\w+)\(\.\.\.\)(?: \\\n   )? ds_check_\w+\((\w+), __VA_ARGS__\)$",
                              read(f"{C}/include/datasketches_checks.h"), re.MULTILINE)
         needed = {name for name, (_, kinds) in header.items() if needs_check(kinds)}
-        needed |= {name for name in casts() if f"{name[:-3]}u64" in needed}
         self.check("the calls with checks", {name for name, _ in checked} == needed, {name for name, _ in checked} ^ needed)
         self.check("each check makes its call", all(name == made for name, made in checked) and len(checked) == len(needed))
         numbers = re.findall(r"Fault::(\w+) => (-\d+)", read(f"{CRATE}/src/status_code.rt"))
@@ -279,14 +179,31 @@ class Tests(checks.Checks):
         others = re.findall(r"pub const (\w+): i32 = (-?\d+);", read(f"{CRATE}/src/status_code.rt"))
         constants = re.findall(r"DS_(\w+) = (-?\d+)", read(f"{C}/include/datasketches.h"))
         of_c = {("NO_RANDOM", "-7"), ("MIN_RESULT", "-45")}
-        kinds = re.findall(r"^ +(\d) => Some\(SketchKind::(\w+)\),$", read(f"{CRATE}/src/sketch_kind.rt"), re.MULTILINE)
+        kinds = re.findall(r"^ +(\d) => Some\(Kind::(\w+)\),$", read(f"{TOP}/crates/any_sketch/src/kind.rt"), re.MULTILINE)
         of_kinds = [(KINDS.get(name), number) for number, name in kinds]
-        kinds = re.findall(r"^ +(\d) => Some\(ItemsKind::(\w+)\),$", read(f"{CRATE}/src/items_argument.rt"), re.MULTILINE)
-        of_kinds += [(f"ITEMS_{name.upper()}", number) for number, name in kinds]
+        for word in ["Item", "Items"]:
+            text = read(f"{CRATE}/src/{word.lower()}_argument.rt")
+            kinds = re.findall(rf"^ +(\d) => Some\({word}Kind::(\w+)\),$", text, re.MULTILINE)
+            of_kinds += [(f"{word}_{name}".upper(), number) for number, name in kinds]
         of_kinds += [("FIELDS_WORDS", "0"), ("FIELDS_DELIMITED", "1"), ("FIELDS_CSV", "2")]
-        self.check("the kinds", of_kinds == constants[-17:], (of_kinds, constants))
-        self.check("the other results", set(others) == set(constants[:-17]) - of_c, constants)
-        self.check("the members of ds_items", items_in_c() == items_in_header(), (items_in_c(), items_in_header()))
+        for file, choice in [("joins", "Join"), ("chunks", "Chunk"), ("sizes", "Size")]:
+            rows = re.findall(rf"^ +(\d) => Some\({choice}::(\w+)\),$", read(f"{CRATE}/src/{file}.rt"), re.MULTILINE)
+            of_kinds += [(re.sub(r"(?<!^)(?=[A-Z])", "_", f"{choice}{name}").upper(), number) for number, name in rows]
+        self.check("the kinds and choices", len(of_kinds) == 33 and set(of_kinds) <= set(constants), (of_kinds, constants))
+        numbered = re.findall(r"^ +(\d+) => Some\(Number::(\w+)\),$", read(f"{CRATE}/src/sketch_calls.rt"), re.MULTILINE)
+        rows = re.findall(r"X\((\d+), DS_NUMBER_(\w+), uint\d+_t, (\w+),", read(f"{C}/include/datasketches.h"))
+        self.check("the numbers of sketches", len(rows) == 13 and all(it.lower() == member for _, it, member in rows)
+                   and [(it.replace("_", ""), number) for number, it, _ in rows] == [(it.upper(), number) for number, it in numbered], rows)
+        self.check("no constant twice", len(constants) == len(set(constants)), constants)
+        self.check("the other results", set(others) == set(constants) - set(of_kinds) - of_c, constants)
+        for name, count in [("item", "length"), ("items", "num_{}")]:
+            sources = members_in_sources(f"{name}_argument.rt", f"{name.capitalize()}Argument", count)
+            header = members_in_header(f"ds_{name}")
+            self.check(f"the members of ds_{name}", sources == header, (sources, header))
+
+    def typed_names(self):
+        """Compares the functions by type that the library has with their calls, without the headers."""
+        compare(self.check, f"{self.built}/libdatasketches.so.0")
 
     def calls(self, source):
         """Runs a source's checks plainly, with the address sanitizer, and under valgrind."""
@@ -491,8 +408,10 @@ class Tests(checks.Checks):
         there = [os.path.relpath(f"{folder}/{name}", f"{prefix}/include") for folder, _, names in os.walk(f"{prefix}/include")
                  for name in names]
         self.check("the installed headers", len(headers) > 3 and sorted(headers) == sorted(there), there)
-        for name in ["datasketches.h", "datasketches_checks.h"]:
-            self.check(f"{name} in C", self.includes(f"{prefix}/include/{name}", COMPILER, "-x", "c", *STRICT))
+        for name in [it for it in headers if it.endswith(".h")]:
+            for more in [[], ["-DDS_NO_CHECKS"], ["-DDS_TYPED=extern"]]:
+                command = [COMPILER, "-x", "c", *STRICT, *more]
+                self.check(f"{name}, {shlex.join(command)}", self.includes(f"{prefix}/include/{name}", *command))
         for compiler in CPP_COMPILERS:
             for name in headers:
                 path = f"{prefix}/include/{name}"
@@ -582,7 +501,10 @@ def main():
     with tempfile.TemporaryDirectory() as work:
         tests = Tests(os.path.abspath(words[0]), words[1:], work)
         tests.header()
+        tests.typed_names()
         tests.calls(f"{HERE}/calls.c")
+        tests.calls(f"{HERE}/item.c")
+        tests.calls(f"{HERE}/typed.c")
         tests.calls(f"{HERE}/items.c")
         tests.calls(f"{HERE}/strings.c")
         tests.calls(f"{HERE}/kinds.c")

@@ -47,7 +47,7 @@ static ds_items first_items(int32_t kind, size_t count)
 typedef struct {
     bool found[3][ITEMS];
     uint64_t estimates[2][ITEMS], bound, rows[64];
-    ds_frequent_items_bounds bounds[2][ITEMS], of_rows[64];
+    ds_item_bounds bounds[2][ITEMS], of_rows[64];
     size_t num_rows, lengths[4];
     uint8_t images[4][1 << 14];
     ds_status filter;
@@ -369,7 +369,7 @@ static void merges_of_shares(void)
 {
     ds_sketch all = DS_NONE, others[3] = {DS_NONE};
     uint64_t estimate;
-    ds_frequent_items_bounds bounds;
+    ds_item_bounds bounds;
     CHECK(make(&others[0], 0) && ds_freeze(&others[0]) == DS_OK && ds_share(&others[2], &others[0]) == DS_OK);
     CHECK(ds_bloom_new(&others[1], 640, 3, 9001) == DS_OK && ds_bloom_insert_u64(&others[1], 5000) == DS_OK);
     CHECK(ds_bloom_new(&all, 640, 3, 9001) == DS_OK && ds_merge_all(&all, others, 3) == DS_OK);

@@ -58,8 +58,32 @@ static void filter(void)
     CHECK(ds_bloom_suggest_num_hashes(1, UINT64_MAX, &hashes) == DS_OK && hashes == 1);
 }
 
+/* Another size than the six, and choices of other calls. */
+static void others(void)
+{
+    const uint8_t text[] = {'a', ' ', 'b', '\n', 'c'};
+    ds_sketch filter = DS_NONE, other = DS_NONE;
+    uint64_t found = 7;
+    int32_t none[] = {INT32_MIN, -1, 0, 7, INT32_MAX};
+    CHECK(ds_bloom_new(&filter, 64, 1, 1) == DS_OK && ds_bloom_new(&other, 64, 1, 1) == DS_OK);
+    CHECK(ds_bloom_insert_u64(&other, 5) == DS_OK);
+    for (size_t i = 0; i < sizeof none / sizeof *none; i++) {
+        CHECK(ds_suggest(none[i], 100, 100, &found) == DS_BAD_ARGUMENT && found == 7);
+        CHECK(ds_finished(none[i], text, sizeof text, ',') == 0);
+        CHECK(ds_join(&filter, &other, none[i]) == DS_BAD_ARGUMENT && ds_bloom_contains_u64(&filter, 5) == DS_NO);
+    }
+    CHECK(ds_suggest(DS_SIZE_NUM_BITS, 1000, 100, &found) == DS_OK && found == 9603);
+    CHECK(ds_finished(DS_CHUNK_WORDS, text, sizeof text, 0) == 4 && ds_finished(DS_CHUNK_WORDS, text, 3, 0) == 2);
+    CHECK(ds_finished(DS_CHUNK_LINES, text, sizeof text, 0) == 4 && ds_finished(DS_CHUNK_LINES, text, 3, 0) == 0);
+    CHECK(ds_join(&filter, &other, DS_JOIN_MERGE) == DS_OK && ds_bloom_contains_u64(&filter, 5) == DS_YES);
+    CHECK(ds_join(&filter, &other, DS_JOIN_DIFFERENCE) == DS_OK && ds_bloom_contains_u64(&filter, 5) == DS_NO);
+    ds_free(&filter);
+    ds_free(&other);
+}
+
 int main(void)
 {
+    others();
     frequent();
     count();
     filter();

@@ -14,7 +14,7 @@ static void many_strings(void)
     ds_sketch filter = DS_NONE, count = DS_NONE, signs = DS_NONE, frequent = DS_NONE;
     const ds_items items = ds_items_offsets(MANY, sizeof MANY - 1, ENDS, 5);
     const ds_items first = ds_items_offsets(MANY, sizeof MANY - 1, ENDS, 2);
-    ds_frequent_items_bounds bounds;
+    ds_item_bounds bounds;
     bool answers[4];
     uint64_t estimates[4];
     int64_t with_sign[4];
@@ -55,7 +55,7 @@ static void weights(void)
 {
     ds_sketch count = DS_NONE, signs = DS_NONE, frequent = DS_NONE;
     ds_status status;
-    ds_frequent_items_bounds bounds, all[4];
+    ds_item_bounds bounds, all[4];
     const uint64_t numbers[3] = {3, 4, 3}, some[3] = {5, 0, 2}, most[3] = {1, UINT64_MAX - 15, 1}, of_four[4] = {1, 2, 0, 9};
     const int64_t same[3] = {3, -4, 3}, with_sign[3] = {5, -7, 0}, least[3] = {0, INT64_MIN, 0}, signs_of_four[4] = {-1, 2, 0, 9};
     const ds_items items = ds_items_u64(numbers, 3), two = ds_items_u64(numbers, 2), signed_items = ds_items_i64(same, 3);
@@ -122,7 +122,7 @@ static void rows_of_strings(void)
     const ds_items items = ds_items_offsets(MANY, sizeof MANY - 1, ENDS, 5);
     uint8_t bytes[16], before[16];
     uint64_t offsets[6] = {8, 8, 8, 8, 8, 8};
-    ds_frequent_items_bounds bounds[4] = {{0, 0, 0}, {0, 0, 0}, {0, 0, 0}, {3, 3, 3}};
+    ds_item_bounds bounds[4] = {{0, 0, 0}, {0, 0, 0}, {0, 0, 0}, {3, 3, 3}};
     size_t count = 77, length = 78;
 
     memset(bytes, '.', sizeof bytes);
@@ -187,7 +187,7 @@ static int32_t add_lines(ds_sketch *handle, const char *text)
 /* Returns whether an item is estimated so. */
 static bool is_estimate(ds_sketch *handle, const char *item, uint64_t estimate)
 {
-    ds_frequent_items_bounds bounds;
+    ds_item_bounds bounds;
     return ds_frequent_items_string_bounds(handle, (const uint8_t *)item, strlen(item), &bounds) == DS_OK &&
            bounds.estimate == estimate;
 }

@@ -36,17 +36,17 @@ static int32_t add_string(ds_sketch *handle, uint64_t item, uint64_t weight)
     return ds_frequent_items_string_update(handle, (const uint8_t *)text, (size_t)length, weight);
 }
 
-static int32_t bounds_of_u64(ds_sketch *handle, uint64_t item, ds_frequent_items_bounds *bounds)
+static int32_t bounds_of_u64(ds_sketch *handle, uint64_t item, ds_item_bounds *bounds)
 {
     return ds_frequent_items_u64_bounds(handle, item, bounds);
 }
 
-static int32_t bounds_of_i64(ds_sketch *handle, uint64_t item, ds_frequent_items_bounds *bounds)
+static int32_t bounds_of_i64(ds_sketch *handle, uint64_t item, ds_item_bounds *bounds)
 {
     return ds_frequent_items_i64_bounds(handle, -(int64_t)item, bounds);
 }
 
-static int32_t bounds_of_string(ds_sketch *handle, uint64_t item, ds_frequent_items_bounds *bounds)
+static int32_t bounds_of_string(ds_sketch *handle, uint64_t item, ds_item_bounds *bounds)
 {
     char text[32];
     int length = snprintf(text, sizeof text, "item %u", (unsigned)item);
@@ -94,7 +94,7 @@ static void same(ds_sketch *a, ds_sketch *b)
         ds_status status; \
         uint64_t total = 0; \
         for (uint64_t item = 0; item < ITEMS; item++) { \
-            ds_frequent_items_bounds bounds; \
+            ds_item_bounds bounds; \
             CHECK(bounds_of_##kind(handle, item, &bounds) == DS_OK); \
             CHECK(bounds.lower_bound <= exact[item] && exact[item] <= bounds.upper_bound); \
             total += exact[item]; \
@@ -173,7 +173,7 @@ static void same(ds_sketch *a, ds_sketch *b)
         for (int i = 0; i < 6; i++) { \
             for (int j = 0; j < i; j++) CHECK(images[i].length == images[j].length && !are_same(&images[i], &images[j])); \
             for (uint64_t item = 0; item < ITEMS; item++) { \
-                ds_frequent_items_bounds bounds; \
+                ds_item_bounds bounds; \
                 CHECK(bounds_of_##kind(&sketches[i], item, &bounds) == DS_OK); \
                 CHECK(bounds.lower_bound == item + 1 && bounds.upper_bound == item + 1); \
             } \
@@ -219,7 +219,7 @@ static void *create(void *argument)
     void *failed = argument;
     for (uint64_t i = 0; i < CREATED; i++) {
         ds_sketch sketch = DS_NONE;
-        ds_frequent_items_bounds bounds = {0, 0, 0};
+        ds_item_bounds bounds = {0, 0, 0};
         bool done = ds_frequent_items_new(&sketch, DS_FREQUENT_ITEMS_U64, 8, 6, NULL) == DS_OK;
         for (uint64_t item = 0; item < 5; item++) done &= ds_frequent_items_u64_update(&sketch, item, item + i) == DS_OK;
         done &= ds_frequent_items_u64_bounds(&sketch, 4, &bounds) == DS_OK && bounds.estimate == 4 + i;

@@ -11,37 +11,35 @@ static ds_sketch *counts(FunctionCallInfo fcinfo, Kind kind, SketchItem *item)
 }
 
 /* Each of these writes a number about an item. They return the library's result. */
-typedef int32_t (*OfString)(ds_sketch *handle, const uint8_t *item, size_t length, uint64_t *number);
-typedef int32_t (*OfBigint)(ds_sketch *handle, int64_t item, uint64_t *number);
-typedef int32_t (*SignedOfString)(ds_sketch *handle, const uint8_t *item, size_t length, int64_t *number);
-typedef int32_t (*SignedOfBigint)(ds_sketch *handle, int64_t item, int64_t *number);
+typedef int32_t (*OfItem)(ds_sketch *handle, const ds_item *item, uint64_t *number);
+typedef int32_t (*SignedOfItem)(ds_sketch *handle, const ds_item *item, int64_t *number);
 
 /* These return the call's number of an item, for each type of weights. */
 
-static Datum of_item(FunctionCallInfo fcinfo, OfString of_string, OfBigint of_bigint)
+static Datum of_item(FunctionCallInfo fcinfo, OfItem call)
 {
     SketchItem item;
     ds_sketch *handle = counts(fcinfo, DS_COUNT_MIN_U64, &item);
+    ds_item asked = in_c(&item);
     uint64_t number = 0;
-    check_result(item.type == STRINGS ? of_string(handle, item.string.bytes, item.string.length, &number)
-                                      : of_bigint(handle, item.bigint, &number));
+    check_result(call(handle, &asked, &number));
     PG_RETURN_INT64(as_bigint(number));
 }
 
-static Datum signed_of_item(FunctionCallInfo fcinfo, SignedOfString of_string, SignedOfBigint of_bigint)
+static Datum signed_of_item(FunctionCallInfo fcinfo, SignedOfItem call)
 {
     SketchItem item;
     ds_sketch *handle = counts(fcinfo, DS_COUNT_MIN_I64, &item);
+    ds_item asked = in_c(&item);
     int64_t number = 0;
-    check_result(item.type == STRINGS ? of_string(handle, item.string.bytes, item.string.length, &number)
-                                      : of_bigint(handle, item.bigint, &number));
+    check_result(call(handle, &asked, &number));
     PG_RETURN_INT64(number);
 }
 
-FUNCTION(count_min_estimate, of_item, ds_count_min_u64_estimate_string, ds_count_min_u64_estimate_i64)
-FUNCTION(count_min_upper_bound, of_item, ds_count_min_u64_upper_bound_string, ds_count_min_u64_upper_bound_i64)
-FUNCTION(signed_count_min_estimate, signed_of_item, ds_count_min_i64_estimate_string, ds_count_min_i64_estimate_i64)
-FUNCTION(signed_count_min_upper_bound, signed_of_item, ds_count_min_i64_upper_bound_string, ds_count_min_i64_upper_bound_i64)
+FUNCTION(count_min_estimate, of_item, ds_count_min_u64_estimate)
+FUNCTION(count_min_upper_bound, of_item, ds_count_min_u64_upper_bound)
+FUNCTION(signed_count_min_estimate, signed_of_item, ds_count_min_i64_estimate)
+FUNCTION(signed_count_min_upper_bound, signed_of_item, ds_count_min_i64_upper_bound)
 
 /* Returns a sketch's numbers as a row. */
 static Datum status_row(FunctionCallInfo fcinfo, Kind kind)

@@ -322,6 +322,12 @@ typedef struct SketchItem {
     char room[ROOM_FOR_ITEM]; /* of some strings */
 } SketchItem;
 
+/* Returns an item for a call of the library. It points to the item's bytes. */
+static inline ds_item in_c(const SketchItem *item)
+{
+    return item->type == STRINGS ? ds_item_string(item->string.bytes, item->string.length) : ds_item_i64(item->bigint);
+}
+
 /* The encoding of the database, or -1 if no string was read yet. */
 extern int database_encoding;
 

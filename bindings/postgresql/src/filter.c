@@ -3,9 +3,8 @@
 
 int32_t filter_contains(const Sketch *filter, const SketchItem *item)
 {
-    if (item->type == STRINGS)
-        return ds_bloom_image_contains_string(filter->image, IMAGE_BYTES(filter), item->string.bytes, item->string.length);
-    return ds_bloom_image_contains_i64(filter->image, IMAGE_BYTES(filter), item->bigint);
+    const ds_item asked = in_c(item);
+    return ds_bloom_image_contains(filter->image, IMAGE_BYTES(filter), &asked);
 }
 
 PG_FUNCTION_INFO_V1(bloom_filter_contains);

@@ -10,22 +10,22 @@
 /* --- Bounds of an item. --- */
 
 /* Returns the bounds of the call's item. */
-static ds_frequent_items_bounds bounds_of(FunctionCallInfo fcinfo, Kind kind)
+static ds_item_bounds bounds_of(FunctionCallInfo fcinfo, Kind kind)
 {
     ds_sketch *handle = &kept_handle(fcinfo, kind)->handle;
-    ds_frequent_items_bounds bounds = {0, 0, 0};
+    ds_item_bounds bounds = {0, 0, 0};
     SketchItem item;
+    ds_item asked;
     kept_item(fcinfo, &item);
-    check_result(kind == DS_FREQUENT_ITEMS_STRING
-                     ? ds_frequent_items_string_bounds(handle, item.string.bytes, item.string.length, &bounds)
-                     : ds_frequent_items_i64_bounds(handle, item.bigint, &bounds));
+    asked = in_c(&item);
+    check_result(ds_frequent_items_bounds(handle, &asked, &bounds));
     return bounds;
 }
 
 /* Returns the bounds of an item as a row. */
 static Datum bounds_row(FunctionCallInfo fcinfo, Kind kind)
 {
-    ds_frequent_items_bounds bounds = bounds_of(fcinfo, kind);
+    ds_item_bounds bounds = bounds_of(fcinfo, kind);
     bool nulls[3] = {false, false, false};
     Datum values[3];
     values[0] = Int64GetDatum(as_bigint(bounds.lower_bound));
@@ -74,7 +74,7 @@ static Datum string_value(const uint8_t *bytes, size_t length)
 /* The rows of a sketch, as the library writes them. */
 typedef struct Rows {
     size_t count;
-    ds_frequent_items_bounds *bounds;
+    ds_item_bounds *bounds;
     int64_t *bigints;
     uint8_t *bytes;
     uint64_t *offsets;

@@ -5,34 +5,15 @@
 
 #include "extension.h"
 
-/* Adds a string and its weight. A filter has no weights. */
-static inline int32_t add_string(Kind kind, ds_sketch *handle, ds_string item, int64 weight)
-{
-    switch (kind) {
-    case DS_FREQUENT_ITEMS_STRING: return ds_frequent_items_string_update(handle, item.bytes, item.length, weight);
-    case DS_COUNT_MIN_U64: return ds_count_min_u64_update_string(handle, item.bytes, item.length, weight);
-    case DS_COUNT_MIN_I64: return ds_count_min_i64_update_string(handle, item.bytes, item.length, weight);
-    case DS_BLOOM: return ds_bloom_insert_string(handle, item.bytes, item.length);
-    }
-    return DS_WRONG_KIND;
-}
-
-/* Adds a bigint and its weight. A filter has no weights. */
-static inline int32_t add_bigint(Kind kind, ds_sketch *handle, int64 item, int64 weight)
-{
-    switch (kind) {
-    case DS_FREQUENT_ITEMS_I64: return ds_frequent_items_i64_update(handle, item, weight);
-    case DS_COUNT_MIN_U64: return ds_count_min_u64_update_i64(handle, item, weight);
-    case DS_COUNT_MIN_I64: return ds_count_min_i64_update_i64(handle, item, weight);
-    case DS_BLOOM: return ds_bloom_insert_i64(handle, item);
-    }
-    return DS_WRONG_KIND;
-}
-
-/* Adds an item, of a type that the kind has, and its weight. */
+/* Adds an item, of a type that the kind has, and its weight. A filter has no weights. */
 static inline int32_t add_item(Kind kind, ds_sketch *handle, const SketchItem *item, int64 weight)
 {
-    return item->type == STRINGS ? add_string(kind, handle, item->string, weight) : add_bigint(kind, handle, item->bigint, weight);
+    const ds_item added = in_c(item);
+    switch (kind) {
+    case DS_BLOOM: return ds_bloom_insert(handle, &added);
+    case DS_COUNT_MIN_I64: return ds_count_min_i64_update(handle, &added, weight);
+    default: return ds_update(handle, &added, weight);
+    }
 }
 
 /* Raises an error if a weight is one that the kind does not take. */

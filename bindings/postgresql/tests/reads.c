@@ -62,7 +62,7 @@ static void write_sketch(ds_sketch *handle, const char *folder, const char *name
 int main(int argc, char **argv)
 {
     ds_sketch strings = DS_NONE, bigints = DS_NONE, counts = DS_NONE, signed_counts = DS_NONE, filter = DS_NONE;
-    ds_frequent_items_bounds of_string, of_bigint;
+    ds_item_bounds of_string, of_bigint;
     if (argc != 2) return 2;
     read_sketch(&strings, DS_FREQUENT_ITEMS_STRING, argv[1], "strings");
     read_sketch(&bigints, DS_FREQUENT_ITEMS_I64, argv[1], "bigints");

@@ -18,7 +18,8 @@ EXTENSION = os.path.dirname(HERE)
 CONFIG = os.environ.get("PG_CONFIG", "/usr/lib/postgresql/15/bin/pg_config")
 SETTINGS = {
     "listen_addresses": "''", "fsync": "off", "full_page_writes": "off", "autovacuum": "off", "jit": "off",
-    "max_worker_processes": "16", "max_parallel_workers": "16", "log_min_messages": "warning", "max_wal_size": "'4GB'",
+    "max_worker_processes": "16", "max_parallel_workers": "16", "log_min_messages": "warning",
+    "max_wal_size": "'256MB'", "min_wal_size": "'64MB'",
     "timezone": "'UTC'", "lc_messages": "'C'", "shared_buffers": "'128MB'",
 }
 
@@ -190,3 +191,4 @@ class Server:
 
     def __exit__(self, *_):
         self.stop()
+        shutil.rmtree(self.data, ignore_errors=True)

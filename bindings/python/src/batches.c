@@ -265,7 +265,7 @@ static bool make_places(PyObject *list, size_t count)
     return made;
 }
 
-PyObject *bounds_tuple(const ds_frequent_items_bounds *bounds)
+PyObject *bounds_tuple(const ds_item_bounds *bounds)
 {
     return Py_BuildValue("KKK", (unsigned long long)bounds->lower_bound, (unsigned long long)bounds->estimate,
                          (unsigned long long)bounds->upper_bound);
@@ -276,7 +276,7 @@ static PyObject *object_at(const Call *call, const void *results, size_t at)
 {
     const uint64_t *numbers = results;
     if (call->type[0] == '?') return PyBool_FromLong(((const bool *)results)[at]);
-    if (call->width > 1) return bounds_tuple((const ds_frequent_items_bounds *)results + at);
+    if (call->width > 1) return bounds_tuple((const ds_item_bounds *)results + at);
     return call->type[0] == 'i' ? PyLong_FromLongLong((int64_t)numbers[at]) : PyLong_FromUnsignedLongLong(numbers[at]);
 }
 

@@ -197,10 +197,10 @@ int32_t chunk_read(Chunk *chunk, size_t first)
 /* Returns the maximum number of numbers without weights in one call. */
 static size_t longest(const Batch *batch)
 {
-    ds_status status = {0};
+    uint64_t hashes = 0;
     if (batch->self == NULL || (batch->self->kind != DS_COUNT_MIN_U64 && batch->self->kind != DS_COUNT_MIN_I64)) return CHUNK;
-    ds_get_status(batch->handle, &status);
-    return status.num_hashes > 16 ? LONG_WORK / status.num_hashes : LONG_CHUNK;
+    ds_number(batch->handle, DS_NUMBER_NUM_HASHES, &hashes);
+    return hashes > 16 ? LONG_WORK / hashes : LONG_CHUNK;
 }
 
 void chunk_open(Chunk *chunk, const Batch *batch, const Weights *weights)

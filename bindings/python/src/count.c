@@ -24,24 +24,18 @@ static PyObject *count_new(PyTypeObject *type, PyObject *args, PyObject *keyword
     return answer < 0 ? refuse(answer) : sketch_of(type, kind, &made);
 }
 
-/* Calls a function of one item and of a number for the result. A number below 0 is the same item as its unsigned number of the same
- * bytes. */
-#define OF_ONE(self, call, item, number) \
-    (has_sign(self) ? OF_TYPE(i64, call, &(self)->handle, item, (int64_t *)(number)) \
-                    : OF_TYPE(u64, call, &(self)->handle, item, number))
-#define OF_TYPE(type, call, handle, item, number) \
-    ((item)->text != NULL \
-         ? ds_count_min_##type##_##call##_string((handle), (const uint8_t *)(item)->text, (item)->value, (number)) \
-         : ds_count_min_##type##_##call##_u64((handle), (item)->value, (number)))
-
 static int32_t estimate_one(Sketch *self, const Item *item, uint64_t *number)
 {
-    return OF_ONE(self, estimate, item, number);
+    const ds_item asked = item_in_c(self, item);
+    return has_sign(self) ? ds_count_min_i64_estimate(&self->handle, &asked, (int64_t *)number)
+                          : ds_count_min_u64_estimate(&self->handle, &asked, number);
 }
 
 static int32_t upper_bound_one(Sketch *self, const Item *item, uint64_t *number)
 {
-    return OF_ONE(self, upper_bound, item, number);
+    const ds_item asked = item_in_c(self, item);
+    return has_sign(self) ? ds_count_min_i64_upper_bound(&self->handle, &asked, (int64_t *)number)
+                          : ds_count_min_u64_upper_bound(&self->handle, &asked, number);
 }
 
 static int32_t estimate_all(Batch *batch, const Chunk *chunk, void *results)
@@ -236,12 +230,12 @@ PyDoc_STRVAR(deserialize_prefix_doc,
 "(30, 4120)\n");
 
 static PyGetSetDef count_fields[] = {
-    {"num_hashes", sketch_number, NULL, "The number of hashes, a row of cells each.", (void *)HASHES},
-    {"num_buckets", sketch_number, NULL, "The number of cells in a row.", (void *)BUCKETS},
-    {"seed", sketch_number, NULL, "The seed of the hashes.", (void *)SEED},
+    {"num_hashes", sketch_number, NULL, "The number of hashes, a row of cells each.", (void *)DS_NUMBER_NUM_HASHES},
+    {"num_buckets", sketch_number, NULL, "The number of cells in a row.", (void *)DS_NUMBER_NUM_BUCKETS},
+    {"seed", sketch_number, NULL, "The seed of the hashes.", (void *)DS_NUMBER_SEED},
     {"signed", count_signed, NULL, "Whether weights may be below 0.", NULL},
     {"total_weight", sketch_number, NULL, "The total weight: the sum of all added weights without their signs.",
-     (void *)TOTAL_WEIGHT},
+     (void *)DS_NUMBER_TOTAL_WEIGHT},
     {NULL, NULL, NULL, NULL, NULL},
 };
 

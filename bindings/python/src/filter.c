@@ -21,11 +21,6 @@ static PyObject *filter_new(PyTypeObject *type, PyObject *args, PyObject *keywor
     return answer < 0 ? refuse(answer) : sketch_of(type, DS_BLOOM, &made);
 }
 
-/* Calls a function of one item. A number below 0 is the same item as its unsigned number of the same bytes. */
-#define OF_ONE(call, handle, item) \
-    ((item).text != NULL ? ds_bloom_##call##_string((handle), (const uint8_t *)(item).text, (item).value) \
-                         : ds_bloom_##call##_u64((handle), (item).value))
-
 static int32_t insert_all(Batch *batch, const Chunk *chunk, void *Py_UNUSED(results))
 {
     return (ds_bloom_insert_all)(batch->handle, &chunk->items);
@@ -64,7 +59,8 @@ static PyObject *filter_insert(PyObject *object, PyObject *given)
     Weights weights;
     if (!is_single(given)) return items_of(given, many.name, &items, &weights) ? update_all(self, &items, &weights, &many) : NULL;
     if (!item_of(given, &item) || !sketch_ready_to_change(self)) return NULL;
-    int32_t answer = OF_ONE(insert, &self->handle, item);
+    const ds_item inserted = item_in_c(self, &item);
+    int32_t answer = ds_bloom_insert(&self->handle, &inserted);
     if (answer < 0) return refuse(answer);
     Py_RETURN_NONE;
 }
@@ -74,7 +70,8 @@ static int filter_has(PyObject *object, PyObject *given)
     Sketch *self = (Sketch *)object;
     Item item;
     if (!item_of(given, &item) || !sketch_ready(self)) return -1;
-    int32_t answer = OF_ONE(contains, &self->handle, item);
+    const ds_item asked = item_in_c(self, &item);
+    int32_t answer = ds_bloom_contains(&self->handle, &asked);
     if (answer < 0) refuse(answer);
     return answer < 0 ? -1 : answer;
 }
@@ -132,7 +129,8 @@ static PyObject *filter_contains_and_insert(PyObject *object, PyObject *const *a
     if (!query_arguments(many.name, args, count, names, &missing)) return NULL;
     if (!is_single(args[0])) return ask_all(self, args[0], &many, missing);
     if (!item_of(args[0], &item) || !sketch_ready_to_change(self)) return NULL;
-    int32_t answer = OF_ONE(contains_and_insert, &self->handle, item);
+    const ds_item inserted = item_in_c(self, &item);
+    int32_t answer = ds_bloom_contains_and_insert(&self->handle, &inserted);
     return answer < 0 ? refuse(answer) : PyBool_FromLong(answer);
 }
 
@@ -220,11 +218,12 @@ PyDoc_STRVAR(deserialize_prefix_doc,
 "128 24\n");
 
 static PyGetSetDef filter_fields[] = {
-    {"num_bits", sketch_number, NULL, "The number of bits: that of the constructor, rounded up to a multiple of 64.", (void *)BITS},
-    {"capacity", sketch_number, NULL, "The same as `num_bits`.", (void *)BITS},
-    {"num_hashes", sketch_number, NULL, "The number of bits that an item sets.", (void *)HASHES},
-    {"seed", sketch_number, NULL, "The seed of the hashes.", (void *)SEED},
-    {"bits_used", sketch_number, NULL, "The number of bits that are set.", (void *)BITS_USED},
+    {"num_bits", sketch_number, NULL, "The number of bits: that of the constructor, rounded up to a multiple of 64.",
+     (void *)DS_NUMBER_NUM_BITS},
+    {"capacity", sketch_number, NULL, "The same as `num_bits`.", (void *)DS_NUMBER_NUM_BITS},
+    {"num_hashes", sketch_number, NULL, "The number of bits that an item sets.", (void *)DS_NUMBER_NUM_HASHES},
+    {"seed", sketch_number, NULL, "The seed of the hashes.", (void *)DS_NUMBER_SEED},
+    {"bits_used", sketch_number, NULL, "The number of bits that are set.", (void *)DS_NUMBER_BITS_USED},
     {NULL, NULL, NULL, NULL, NULL},
 };
 

@@ -118,15 +118,13 @@ PyDoc_STRVAR(update_doc,
 ">>> words['be'], words['apple'], words['pear']\n"
 "(2, 13, 25)\n");
 
-static bool bounds_of(PyObject *object, PyObject *given, ds_frequent_items_bounds *bounds)
+static bool bounds_of(PyObject *object, PyObject *given, ds_item_bounds *bounds)
 {
     Sketch *self = (Sketch *)object;
     Item item;
-    int32_t answer;
     if (!item_of(given, &item) || !counts(self, &item) || !sketch_ready(self)) return false;
-    if (has_texts(self)) answer = ds_frequent_items_string_bounds(&self->handle, (const uint8_t *)item.text, item.value, bounds);
-    else if (has_sign(self)) answer = ds_frequent_items_i64_bounds(&self->handle, (int64_t)item.value, bounds);
-    else answer = ds_frequent_items_u64_bounds(&self->handle, item.value, bounds);
+    const ds_item asked = item_in_c(self, &item);
+    int32_t answer = ds_frequent_items_bounds(&self->handle, &asked, bounds);
     return answer >= 0 || refuse(answer) != NULL;
 }
 
@@ -137,7 +135,7 @@ static int32_t bounds_all(Batch *batch, const Chunk *chunk, void *results)
 
 static int32_t estimate_all(Batch *batch, const Chunk *chunk, void *results)
 {
-    ds_frequent_items_bounds bounds[CHUNK];
+    ds_item_bounds bounds[CHUNK];
     int32_t answer = bounds_all(batch, chunk, bounds);
     for (size_t i = 0; answer >= 0 && i < chunk->rows; i++) ((uint64_t *)results)[i] = bounds[i].estimate;
     return answer;
@@ -158,7 +156,7 @@ static PyObject *frequent_bounds(PyObject *object, PyObject *const *args, Py_ssi
 {
     static const Call many = {
         .name = "bounds", .check = counts_all, .take = bounds_all, .type = "u8", .width = 3, .has_missing = true};
-    ds_frequent_items_bounds bounds;
+    ds_item_bounds bounds;
     PyObject *missing;
     if (!query_arguments(many.name, args, count, names, &missing)) return NULL;
     if (!is_single(args[0])) return ask_all((Sketch *)object, args[0], &many, missing);
@@ -168,19 +166,19 @@ static PyObject *frequent_bounds(PyObject *object, PyObject *const *args, Py_ssi
 /* Returns whether an item has a counter: then its lower bound is above 0. */
 static int frequent_has(PyObject *object, PyObject *item)
 {
-    ds_frequent_items_bounds bounds;
+    ds_item_bounds bounds;
     return bounds_of(object, item, &bounds) ? bounds.lower_bound > 0 : -1;
 }
 
 static Py_ssize_t frequent_length(PyObject *object)
 {
-    ds_status status;
-    return sketch_status((Sketch *)object, &status) ? (Py_ssize_t)status.num_active_items : -1;
+    uint64_t number;
+    return sketch_read((Sketch *)object, DS_NUMBER_NUM_ACTIVE_ITEMS, &number) ? (Py_ssize_t)number : -1;
 }
 
 static PyObject *frequent_at(PyObject *object, PyObject *item)
 {
-    ds_frequent_items_bounds bounds;
+    ds_item_bounds bounds;
     return bounds_of(object, item, &bounds) ? PyLong_FromUnsignedLongLong(bounds.estimate) : NULL;
 }
 
@@ -277,11 +275,12 @@ PyDoc_STRVAR(deserialize_prefix_doc,
 "(30, 49)\n");
 
 static PyGetSetDef frequent_fields[] = {
-    {"total_weight", sketch_number, NULL, "The total weight of all items.", (void *)TOTAL_WEIGHT},
-    {"maximum_error", sketch_number, NULL, "The difference of an upper bound and its lower bound.", (void *)MAXIMUM_ERROR},
-    {"num_active_items", sketch_number, NULL, "The number of items that have a counter.", (void *)ACTIVE_ITEMS},
-    {"max_map_size", sketch_number, NULL, "The maximum size of the table, in slots.", (void *)MAX_MAP_SIZE},
-    {"sample_size", sketch_number, NULL, "The number of counters that a purge samples.", (void *)SAMPLE_SIZE},
+    {"total_weight", sketch_number, NULL, "The total weight of all items.", (void *)DS_NUMBER_TOTAL_WEIGHT},
+    {"maximum_error", sketch_number, NULL, "The difference of an upper bound and its lower bound.",
+     (void *)DS_NUMBER_MAXIMUM_ERROR},
+    {"num_active_items", sketch_number, NULL, "The number of items that have a counter.", (void *)DS_NUMBER_NUM_ACTIVE_ITEMS},
+    {"max_map_size", sketch_number, NULL, "The maximum size of the table, in slots.", (void *)DS_NUMBER_MAX_MAP_SIZE},
+    {"sample_size", sketch_number, NULL, "The number of counters that a purge samples.", (void *)DS_NUMBER_SAMPLE_SIZE},
     {NULL, NULL, NULL, NULL, NULL},
 };
 

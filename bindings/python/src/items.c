@@ -86,3 +86,10 @@ bool limit_of(PyObject *object, size_t *limit)
     else return false;
     return true;
 }
+
+/* To filters and Count-Min sketches, a number below 0 is the same item as its unsigned number of the same bytes. */
+ds_item item_in_c(const Sketch *self, const Item *item)
+{
+    if (item->text != NULL) return ds_item_string((const uint8_t *)item->text, item->value);
+    return self->kind == DS_FREQUENT_ITEMS_I64 ? ds_item_i64((int64_t)item->value) : ds_item_u64(item->value);
+}

@@ -19,6 +19,9 @@ typedef struct {
 bool is_single(PyObject *object);
 bool item_of(PyObject *object, Item *item);
 
+/* Returns an item for a call on the sketch. It points to the item's bytes. */
+ds_item item_in_c(const Sketch *self, const Item *item);
+
 /* Read a 64-bit number that is unsigned, or signed if `with_sign`. The error message names it by `what`. */
 bool natural_of(PyObject *object, const char *what, uint64_t *number);
 bool number_of_kind(PyObject *object, const char *what, bool with_sign, uint64_t *number);
@@ -351,7 +354,7 @@ PyObject *ask_all(Sketch *self, PyObject *given, const Call *call, PyObject *mis
 bool query_arguments(const char *name, PyObject *const *args, Py_ssize_t count, PyObject *names, PyObject **missing);
 
 /* Returns bounds as a tuple. */
-PyObject *bounds_tuple(const ds_frequent_items_bounds *bounds);
+PyObject *bounds_tuple(const ds_item_bounds *bounds);
 
 /* --- chunks.c --- */
 

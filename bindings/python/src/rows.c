@@ -70,7 +70,7 @@ static PyObject *row_of(PyTypeObject *type, PyObject *item, const unsigned long 
 }
 
 /* Takes an item, which may be NULL, and appends a row. Returns false, with an error set, if it is NULL or allocation fails. */
-static bool row_list_append(RowList *list, PyObject *item, const ds_frequent_items_bounds *bounds)
+static bool row_list_append(RowList *list, PyObject *item, const ds_item_bounds *bounds)
 {
     const unsigned long long numbers[] = {bounds->lower_bound, bounds->estimate, bounds->upper_bound};
     PyObject *filled = list->rows != NULL ? list->rows : list->columns[0];
@@ -102,7 +102,7 @@ static PyObject *row_list_close(RowList *list, bool good)
 typedef struct {
     const char *text;
     size_t length;
-    ds_frequent_items_bounds bounds;
+    ds_item_bounds bounds;
 } TextRow;
 
 /* Room for rows, and how many there are. The library writes strings one after the other, with offsets. */
@@ -110,14 +110,14 @@ typedef struct {
     size_t rows, num_bytes; /* the room, and then the numbers that the library wrote */
     uint64_t *numbers;      /* the items, or the offsets of strings: one more than rows */
     uint8_t *bytes;         /* of strings */
-    ds_frequent_items_bounds *bounds;
+    ds_item_bounds *bounds;
     TextRow *texts; /* the rows of strings, in order */
 } Rows;
 
 static bool rows_alloc(Rows *rows, bool with_texts)
 {
     rows->numbers = PyMem_New(uint64_t, rows->rows + 1);
-    rows->bounds = PyMem_New(ds_frequent_items_bounds, rows->rows);
+    rows->bounds = PyMem_New(ds_item_bounds, rows->rows);
     rows->bytes = PyMem_New(uint8_t, rows->num_bytes);
     rows->texts = PyMem_New(TextRow, with_texts ? rows->rows : 0);
     if (rows->numbers != NULL && rows->bounds != NULL && rows->bytes != NULL && rows->texts != NULL) return true;
@@ -195,7 +195,7 @@ static PyObject *wanted_rows(PyObject *object, Wanted *wanted, const char *no_fa
 {
     Sketch *self = (Sketch *)object;
     Use use = {.sketch = self};
-    ds_status status;
+    uint64_t number;
     PyObject *list = NULL;
     int32_t answer;
     wanted->no_false_negatives = strcmp(no_false, "negatives") == 0;
@@ -205,8 +205,8 @@ static PyObject *wanted_rows(PyObject *object, Wanted *wanted, const char *no_fa
     }
     Rows rows = {.rows = 64, .num_bytes = 1024};
     if (!has_texts(self)) {
-        if (!sketch_status(self, &status)) return NULL;
-        rows = (Rows){.rows = (size_t)status.num_active_items};
+        if (!sketch_read(self, DS_NUMBER_NUM_ACTIVE_ITEMS, &number)) return NULL;
+        rows = (Rows){.rows = (size_t)number};
     }
     do {
         answer = DS_NO_SKETCH;

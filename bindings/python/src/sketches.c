@@ -292,28 +292,24 @@ bool sketch_status(Sketch *self, ds_status *status)
     return answer >= 0 || refuse(answer) != NULL;
 }
 
+bool sketch_read(Sketch *self, int32_t which, uint64_t *number)
+{
+    if (!sketch_ready(self)) return false;
+    int32_t answer = ds_number(&self->handle, which, number);
+    return answer >= 0 || refuse(answer) != NULL;
+}
+
 uint64_t sketch_total(Sketch *self)
 {
-    ds_status status = {0};
-    ds_get_status(&self->handle, &status);
-    return status.total_weight;
+    uint64_t total = 0;
+    ds_number(&self->handle, DS_NUMBER_TOTAL_WEIGHT, &total);
+    return total;
 }
 
 PyObject *sketch_number(PyObject *self, void *which)
 {
-    ds_status status;
-    if (!sketch_status((Sketch *)self, &status)) return NULL;
-    const uint64_t numbers[] = {[BITS] = status.num_bits,
-                                [BITS_USED] = status.bits_used,
-                                [HASHES] = status.num_hashes,
-                                [BUCKETS] = status.num_buckets,
-                                [SEED] = status.seed,
-                                [TOTAL_WEIGHT] = status.total_weight,
-                                [MAXIMUM_ERROR] = status.maximum_error,
-                                [ACTIVE_ITEMS] = status.num_active_items,
-                                [MAX_MAP_SIZE] = status.max_map_size,
-                                [SAMPLE_SIZE] = status.sample_size};
-    return PyLong_FromUnsignedLongLong(numbers[(uintptr_t)which]);
+    uint64_t number;
+    return sketch_read((Sketch *)self, (int32_t)(uintptr_t)which, &number) ? PyLong_FromUnsignedLongLong(number) : NULL;
 }
 
 PyObject *sketch_repr(PyObject *self)

@@ -106,16 +106,14 @@ PyObject *refuse_at(int32_t answer, size_t byte);
 PyObject *sketch_change(Sketch *self, int32_t (*change)(ds_sketch *));
 PyObject *sketch_reset(PyObject *self, PyObject *unused);
 
-/* Reads the sketch's numbers. Returns false, with an error set, if it is closed. */
+/* Reads the sketch's numbers, or one of them. Returns false, with an error set, if it is closed. */
 bool sketch_status(Sketch *self, ds_status *status);
+bool sketch_read(Sketch *self, int32_t which, uint64_t *number);
 
 /* Returns the total weight, or 0 for a filter, in a call that may use the object's handle. */
 uint64_t sketch_total(Sketch *self);
 
-/* The numbers that are attributes. */
-enum { BITS, BITS_USED, HASHES, BUCKETS, SEED, TOTAL_WEIGHT, MAXIMUM_ERROR, ACTIVE_ITEMS, MAX_MAP_SIZE, SAMPLE_SIZE };
-
-/* Returns one of these numbers. */
+/* Returns the attribute that is the number DS_NUMBER_SEED .. */
 PyObject *sketch_number(PyObject *self, void *which);
 PyObject *sketch_repr(PyObject *self);
 

@@ -55,7 +55,6 @@ static inline ds_items items_in(const uint8_t *bytes, size_t length, bool of_lin
 static inline int32_t take_bytes(ds_sketch *handle, int32_t kind, const uint8_t *bytes, size_t length, const Taken *taken,
                                  ds_fields_read *read)
 {
-    if (taken->fields != NULL && kind == DS_BLOOM) return ds_bloom_insert_fields(handle, bytes, length, taken->fields, read);
     if (taken->fields != NULL) return ds_update_fields(handle, bytes, length, taken->fields, read);
     ds_items items = items_in(bytes, length, taken->of_lines);
     return kind == DS_BLOOM ? ds_bloom_insert_all(handle, &items) : ds_update_all(handle, &items);

@@ -18,23 +18,11 @@ static bool update_arguments(PyObject *const *args, Py_ssize_t count, PyObject *
     return true;
 }
 
-/* A number below 0 is the same item of Count-Min as its unsigned number of the same bytes. */
 static int32_t update_one(Sketch *self, const Item *item, uint64_t weight)
 {
-    ds_sketch *handle = &self->handle;
-    const uint8_t *text = (const uint8_t *)item->text;
-    uint64_t value = item->value;
-    switch (self->kind) {
-    case DS_COUNT_MIN_U64:
-        return text != NULL ? ds_count_min_u64_update_string(handle, text, value, weight)
-                            : ds_count_min_u64_update_u64(handle, value, weight);
-    case DS_COUNT_MIN_I64:
-        return text != NULL ? ds_count_min_i64_update_string(handle, text, value, (int64_t)weight)
-                            : ds_count_min_i64_update_u64(handle, value, (int64_t)weight);
-    case DS_FREQUENT_ITEMS_U64: return ds_frequent_items_u64_update(handle, value, weight);
-    case DS_FREQUENT_ITEMS_I64: return ds_frequent_items_i64_update(handle, (int64_t)value, weight);
-    default: return ds_frequent_items_string_update(handle, text, value, weight);
-    }
+    const ds_item updated = item_in_c(self, item);
+    return self->kind == DS_COUNT_MIN_I64 ? ds_count_min_i64_update(&self->handle, &updated, (int64_t)weight)
+                                          : ds_update(&self->handle, &updated, weight);
 }
 
 /* If the library returns an error, finds the number of items that it counted before by the weight that it added. The next item

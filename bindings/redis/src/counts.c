@@ -56,7 +56,7 @@ int cms_initbyprob(Call *call)
 int cms_incrby(Call *call)
 {
     Items items;
-    uint64_t before = status_of(call->sketch).total_weight, total = before;
+    uint64_t before = number_of(call->sketch, DS_NUMBER_TOTAL_WEIGHT), total = before;
     long long weight;
     if (call->argc % 2 != 0) return RedisModule_WrongArity(call->ctx);
     for (int i = 3; i < call->argc; i += 2) {
@@ -70,11 +70,11 @@ int cms_incrby(Call *call)
     /* All weights fit, and no call below allocates. So none returns an error, and the reply of an item is its estimate then. */
     RedisModule_ReplyWithArray(call->ctx, (long)items.count);
     for (size_t i = 0; i < items.count; i++) {
-        const ds_string *item = items.strings + i;
+        const ds_item item = ds_item_fed(items.strings[i].bytes, items.strings[i].length);
         uint64_t estimate = 0;
         RedisModule_StringToLongLong(call->argv[3 + 2 * i], &weight);
-        ds_count_min_u64_update_fed(&call->sketch->handle, item->bytes, item->length, (uint64_t)weight);
-        ds_count_min_u64_estimate_fed(&call->sketch->handle, item->bytes, item->length, &estimate);
+        ds_update(&call->sketch->handle, &item, (uint64_t)weight);
+        ds_count_min_u64_estimate(&call->sketch->handle, &item, &estimate);
         RedisModule_ReplyWithLongLong(call->ctx, (long long)estimate);
     }
     if (total > before) replicate_call(call);
@@ -86,7 +86,7 @@ int cms_addlines(Call *call)
 {
     Lines lines;
     ds_items rows;
-    uint64_t total = status_of(call->sketch).total_weight;
+    uint64_t total = number_of(call->sketch, DS_NUMBER_TOTAL_WEIGHT);
     size_t length, count;
     long long added = 0;
     RedisModule_StringPtrLen(call->argv[2], &length); /* no fewer than its lines */
@@ -134,7 +134,7 @@ int cms_info(Call *call)
 /* Multiplies the cells and the total by a fraction. That changes a sketch unless it is empty or the fraction is 1. */
 static int decay(Call *call, uint64_t numerator, uint64_t denominator)
 {
-    bool is_changed = numerator < denominator && status_of(call->sketch).total_weight > 0;
+    bool is_changed = numerator < denominator && number_of(call->sketch, DS_NUMBER_TOTAL_WEIGHT) > 0;
     int32_t result = DS_OK;
     if (is_changed && numerator == 1 && denominator == 2) result = ds_count_min_u64_halve(&call->sketch->handle);
     else if (is_changed) result = ds_count_min_u64_decay(&call->sketch->handle, numerator, denominator);

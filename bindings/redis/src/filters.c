@@ -401,7 +401,7 @@ static bool merge_others(Call *call, Sketch *into, int first)
 {
     size_t read = 0, bytes = 0;
     uint64_t items = into->inserted, most = items;
-    uint64_t bits = status_of(into).bits_used;
+    uint64_t bits = number_of(into, DS_NUMBER_BITS_USED);
     for (int i = first; i < call->argc; i++) {
         Sketch *other;
         RedisModuleKey *key = open_other(call, call->argv[i], DS_BLOOM, &other);
@@ -418,7 +418,7 @@ static bool merge_others(Call *call, Sketch *into, int first)
         else if (result < 0) reply_result(call, result);
         if (result < 0) return false;
     }
-    if (status_of(into).bits_used == bits) return true;
+    if (number_of(into, DS_NUMBER_BITS_USED) == bits) return true;
 
     /* The items of all are no fewer than those of one, and no more than the sum. Between these, the set bits give an estimate. */
     into->inserted = estimated_items(into);
@@ -433,7 +433,7 @@ int bf_merge(Call *call)
 {
     Sketch *into, *from = call->sketch;
     RedisModuleKey *key = NULL;
-    uint64_t bits = from != NULL ? status_of(from).bits_used : 0;
+    uint64_t bits = from != NULL ? number_of(from, DS_NUMBER_BITS_USED) : 0;
     if (from == NULL) key = open_other(call, call->argv[2], DS_BLOOM, &from);
     if (from == NULL) return REDISMODULE_OK;
     into = clone_value(from);
@@ -443,7 +443,7 @@ int bf_merge(Call *call)
         free_value(into);
         return REDISMODULE_OK;
     }
-    if (key == NULL && status_of(into).bits_used == bits) {
+    if (key == NULL && number_of(into, DS_NUMBER_BITS_USED) == bits) {
         free_value(into);
     } else {
         put_value(call, into);

@@ -167,10 +167,10 @@ int topk_incrby(Call *call)
 /* --- Bounds of items. --- */
 
 /* Returns the bounds of a call's items, to free by `free_block`. Returns null after an error. */
-static ds_frequent_items_bounds *bounds_of(Call *call, size_t *count)
+static ds_item_bounds *bounds_of(Call *call, size_t *count)
 {
     Items items;
-    ds_frequent_items_bounds *bounds;
+    ds_item_bounds *bounds;
     int32_t result = DS_NO_MEMORY;
     if (!string_items(call, 2, 1, &items)) return NULL;
     bounds = try_block(items.count * sizeof *bounds);
@@ -188,7 +188,7 @@ static ds_frequent_items_bounds *bounds_of(Call *call, size_t *count)
 int freq_bounds(Call *call)
 {
     size_t count;
-    ds_frequent_items_bounds *bounds = bounds_of(call, &count);
+    ds_item_bounds *bounds = bounds_of(call, &count);
     if (bounds == NULL) return REDISMODULE_OK;
     RedisModule_ReplyWithArray(call->ctx, (long)count);
     for (size_t i = 0; i < count; i++) {
@@ -203,7 +203,7 @@ int freq_bounds(Call *call)
 int topk_count(Call *call)
 {
     size_t count;
-    ds_frequent_items_bounds *bounds = bounds_of(call, &count);
+    ds_item_bounds *bounds = bounds_of(call, &count);
     if (bounds == NULL) return REDISMODULE_OK;
     RedisModule_ReplyWithArray(call->ctx, (long)count);
     for (size_t i = 0; i < count; i++) RedisModule_ReplyWithLongLong(call->ctx, (long long)bounds[i].upper_bound);
@@ -217,7 +217,7 @@ int topk_count(Call *call)
 typedef struct Rows {
     void *block;
     size_t count;
-    ds_frequent_items_bounds *bounds;
+    ds_item_bounds *bounds;
     uint64_t *offsets;
     uint8_t *bytes;
 } Rows;
@@ -226,7 +226,7 @@ typedef struct Rows {
 static bool take_rows(Call *call, uint64_t threshold, uint64_t most, Rows *rows)
 {
     Sketch *sketch = call->sketch;
-    size_t active = status_of(sketch).num_active_items, num_bytes;
+    size_t active = number_of(sketch, DS_NUMBER_NUM_ACTIVE_ITEMS), num_bytes;
     uint64_t kth = 0;
     int32_t result = most > 0 && most < active ? kth_estimate(sketch, most, &kth) : DS_OK;
     if (result < 0) {
@@ -302,7 +302,7 @@ int topk_query(Call *call)
     size_t count;
     uint64_t least;
     int32_t result;
-    ds_frequent_items_bounds *bounds = bounds_of(call, &count);
+    ds_item_bounds *bounds = bounds_of(call, &count);
     if (bounds == NULL) return REDISMODULE_OK;
     result = least_of_top(call->sketch, bounds, count, &least);
     if (result < 0) {
@@ -355,7 +355,8 @@ static bool merge_others(Call *call, Sketch *into, int first)
         read += bytes;
         ds_memory_bytes(&into->handle, &bytes);
         read += bytes; /* the library works on a copy */
-        if (status_of(other).total_weight > INT64_MAX - status_of(into).total_weight) result = DS_WEIGHT_OVERFLOW;
+        if (number_of(other, DS_NUMBER_TOTAL_WEIGHT) > INT64_MAX - number_of(into, DS_NUMBER_TOTAL_WEIGHT))
+            result = DS_WEIGHT_OVERFLOW;
         if (read > max_merge_bytes && limit_of(call) != SIZE_MAX) result = TOO_MUCH_TO_MERGE;
         if (result == DS_OK) result = ds_merge(&into->handle, &other->handle);
         RedisModule_CloseKey(key);
@@ -383,7 +384,7 @@ int freq_merge(Call *call)
         free_value(into);
         return REDISMODULE_OK;
     }
-    if (key == NULL && status_of(into).total_weight == status_of(from).total_weight) free_value(into);
+    if (key == NULL && number_of(into, DS_NUMBER_TOTAL_WEIGHT) == number_of(from, DS_NUMBER_TOTAL_WEIGHT)) free_value(into);
     else create_value(call, into);
     return RedisModule_ReplyWithSimpleString(call->ctx, "OK");
 }

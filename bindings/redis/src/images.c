@@ -163,8 +163,9 @@ int sketch_load(Call *call)
         ds_image_options given = {limit_of_image(sketch->kind, image, length, limit), sketch->seed, &sketch->table_key};
         result = ds_deserialize(&sketch->handle, sketch->kind, image, length, &given);
     }
-    if (result == DS_OK && sketch->kind != DS_BLOOM && status_of(sketch).total_weight > INT64_MAX) result = DS_VALUE_OUT_OF_RANGE;
-    if (result == DS_OK && status_of(sketch).num_hashes > max_hashes) result = TOO_MANY_HASHES;
+    if (result == DS_OK && sketch->kind != DS_BLOOM && number_of(sketch, DS_NUMBER_TOTAL_WEIGHT) > INT64_MAX)
+        result = DS_VALUE_OUT_OF_RANGE;
+    if (result == DS_OK && number_of(sketch, DS_NUMBER_NUM_HASHES) > max_hashes) result = TOO_MANY_HASHES;
     if (result != DS_OK) {
         free_value(sketch);
         if (result == DS_TABLE_TOO_LARGE && (size_t)options.limit < max_bytes)
@@ -227,7 +228,7 @@ static int32_t halve_sketch(Sketch *sketch)
 int freq_halve(Call *call)
 {
     Sketch *sketch = call->sketch;
-    bool is_changed = status_of(sketch).total_weight > 0;
+    bool is_changed = number_of(sketch, DS_NUMBER_TOTAL_WEIGHT) > 0;
     int32_t result = is_changed ? halve_sketch(sketch) : DS_OK;
     if (result < 0) return reply_result(call, result);
     forget_top(sketch);

@@ -116,7 +116,10 @@ void free_value(void *value);
 /* Returns the type of the values of a kind. */
 RedisModuleType *type_of(Kind kind);
 
-/* Returns the numbers of a value's sketch. */
+/* Returns a number of a value's sketch, DS_NUMBER_SEED .., or 0 if its kind does not have it. */
+uint64_t number_of(Sketch *sketch, int32_t which);
+
+/* Returns all numbers of a value's sketch, which takes a call for each: `number_of` for one or two. */
 ds_status status_of(Sketch *sketch);
 
 /* Returns random bytes as a number. */
@@ -311,7 +314,7 @@ bool update(Call *call, const Items *items, const uint64_t *weights);
 int32_t kth_estimate(Sketch *sketch, uint64_t k, uint64_t *estimate);
 
 /* Writes an estimate that these items reach if they are among the first k, and only then. Returns the errors of `kth_estimate`. */
-int32_t least_of_top(Sketch *sketch, const ds_frequent_items_bounds *bounds, size_t count, uint64_t *least);
+int32_t least_of_top(Sketch *sketch, const ds_item_bounds *bounds, size_t count, uint64_t *least);
 
 /* Updates the k largest estimates of a sketch that keeps them, after updates with items, with weights or 1 each if they are null. */
 void follow_top(Sketch *sketch, const Items *items, const uint64_t *weights);

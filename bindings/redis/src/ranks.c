@@ -60,7 +60,7 @@ static void *largest_estimates(Sketch *sketch, size_t k, uint64_t **estimates, i
 {
     size_t length = 0, count;
     uint8_t *image;
-    uint64_t error = status_of(sketch).maximum_error;
+    uint64_t error = number_of(sketch, DS_NUMBER_MAXIMUM_ERROR);
     *result = ds_serialized_bytes(&sketch->handle, &length);
     if (*result < 0) return NULL;
     image = try_block(length);
@@ -109,7 +109,7 @@ static int32_t find_top(Sketch *sketch, uint64_t *kth)
     void *block = largest_estimates(sketch, k, &estimates, &result);
     if (block == NULL) return result;
     *kth = sketch->kth = estimates[k - 1];
-    sketch->kth_total = status_of(sketch).total_weight;
+    sketch->kth_total = number_of(sketch, DS_NUMBER_TOTAL_WEIGHT);
     if (k <= MOST_TOP && sketch->top == NULL) sketch->top = try_block(k * sizeof *sketch->top);
     if (sketch->top != NULL) {
         memcpy(sketch->top, estimates, k * sizeof *sketch->top);
@@ -164,7 +164,7 @@ static void raise_estimate(Sketch *sketch, uint64_t before, uint64_t after)
 static int32_t gather_risen(Sketch *sketch, const Items *items, const uint64_t *weights, uint64_t least, Distinct *risen)
 {
     ds_string strings[MOST_STRINGS];
-    ds_frequent_items_bounds bounds[MOST_STRINGS];
+    ds_item_bounds bounds[MOST_STRINGS];
     size_t at = 0, count, first = 0;
     int32_t result = DS_OK;
     while (result >= 0 && (count = next_strings(items, &at, strings)) > 0) {
@@ -182,7 +182,7 @@ static int32_t gather_risen(Sketch *sketch, const Items *items, const uint64_t *
 void follow_top(Sketch *sketch, const Items *items, const uint64_t *weights)
 {
     size_t count = sketch->top_count;
-    uint64_t last = count > 0 ? sketch->top[count - 1] : 0, error = status_of(sketch).maximum_error;
+    uint64_t last = count > 0 ? sketch->top[count - 1] : 0, error = number_of(sketch, DS_NUMBER_MAXIMUM_ERROR);
     Distinct risen;
     begin_distinct(&risen);
 
@@ -193,7 +193,7 @@ void follow_top(Sketch *sketch, const Items *items, const uint64_t *weights)
     } else {
         for (size_t i = 0; i < risen.room; i++) {
             const Place *place = &risen.places[i];
-            ds_frequent_items_bounds bounds;
+            ds_item_bounds bounds;
             if (place->string.bytes == NULL) continue;
             ds_frequent_items_string_bounds(&sketch->handle, place->string.bytes, place->string.length, &bounds);
             raise_estimate(sketch, bounds.estimate > place->weight ? bounds.estimate - place->weight : 0, bounds.estimate);
@@ -208,20 +208,19 @@ typedef struct Known {
 } Known;
 
 /* Returns what is known without a look at the counters. If there are at most k, each is one of the first k. */
-static Known known_kth(const Sketch *sketch, const ds_status *status)
+static Known known_kth(Sketch *sketch)
 {
-    if (status->num_active_items <= sketch->capacity) return (Known){1, 1};
+    if (number_of(sketch, DS_NUMBER_NUM_ACTIVE_ITEMS) <= sketch->capacity) return (Known){1, 1};
     if (sketch->top != NULL) return (Known){sketch->top[sketch->capacity - 1], sketch->top[sketch->capacity - 1]};
 
     /* A counter whose estimate is above the error was not purged. */
-    if (sketch->kth <= status->maximum_error) return (Known){1, UINT64_MAX};
-    return (Known){sketch->kth, sketch->kth + (status->total_weight - sketch->kth_total)};
+    if (sketch->kth <= number_of(sketch, DS_NUMBER_MAXIMUM_ERROR)) return (Known){1, UINT64_MAX};
+    return (Known){sketch->kth, sketch->kth + (number_of(sketch, DS_NUMBER_TOTAL_WEIGHT) - sketch->kth_total)};
 }
 
-int32_t least_of_top(Sketch *sketch, const ds_frequent_items_bounds *bounds, size_t count, uint64_t *least)
+int32_t least_of_top(Sketch *sketch, const ds_item_bounds *bounds, size_t count, uint64_t *least)
 {
-    ds_status status = status_of(sketch);
-    Known known = known_kth(sketch, &status);
+    Known known = known_kth(sketch);
     size_t i = 0;
     *least = known.most;
     while (i < count && (bounds[i].estimate < known.least || bounds[i].estimate >= known.most)) i++;

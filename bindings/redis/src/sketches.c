@@ -54,6 +54,13 @@ RedisModuleType *type_of(Kind kind)
     }
 }
 
+uint64_t number_of(Sketch *sketch, int32_t which)
+{
+    uint64_t number = 0;
+    ds_number(&sketch->handle, which, &number);
+    return number;
+}
+
 ds_status status_of(Sketch *sketch)
 {
     ds_status status = {0};
@@ -86,8 +93,7 @@ uint64_t random_seed(void)
 
 void count_strings(Sketch *sketch)
 {
-    ds_status status = status_of(sketch);
-    size_t bytes = 0, slots = status.current_map_capacity / 3 * 4;
+    size_t bytes = 0, slots = number_of(sketch, DS_NUMBER_CURRENT_MAP_CAPACITY) / 3 * 4;
     ds_memory_bytes(&sketch->handle, &bytes);
     sketch->string_bytes = bytes - slots * BYTES_OF_SLOT;
     sketch->spare_bytes = 0;

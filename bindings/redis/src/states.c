@@ -116,7 +116,7 @@ Sketch *read_state(const uint8_t *bytes, size_t length, size_t limit, int32_t *r
     ds_image_options options = {limit_of_image(sketch->kind, bytes + HEADER_BYTES, image, limit), sketch->seed, &sketch->table_key};
     *result = ds_deserialize_prefix(&sketch->handle, sketch->kind, bytes + HEADER_BYTES, image, &options, &used);
     if (*result == DS_OK && (used != image || numbers[LENGTH] != length || !is_sound(sketch))) *result = DS_VALUE_OUT_OF_RANGE;
-    if (*result == DS_OK && limit != SIZE_MAX && status_of(sketch).num_hashes > max_hashes) *result = TOO_MANY_HASHES;
+    if (*result == DS_OK && limit != SIZE_MAX && number_of(sketch, DS_NUMBER_NUM_HASHES) > max_hashes) *result = TOO_MANY_HASHES;
     if (*result != DS_OK) {
         free_value(sketch);
         return NULL;
@@ -394,7 +394,7 @@ static size_t free_effort(RedisModuleString *key, const void *value)
 {
     Sketch *sketch = (Sketch *)value;
     (void)key;
-    if (sketch->kind == DS_FREQUENT_ITEMS_STRING) return (size_t)status_of(sketch).num_active_items + 1;
+    if (sketch->kind == DS_FREQUENT_ITEMS_STRING) return (size_t)number_of(sketch, DS_NUMBER_NUM_ACTIVE_ITEMS) + 1;
     return memory(value) >> 14;
 }
 

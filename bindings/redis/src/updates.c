@@ -11,18 +11,33 @@ typedef struct Stored {
     bool is_weighed;               /* whether items were looked up */
 } Stored;
 
-/* Returns the slots of the table that a sketch has after updates with new items, at most. */
-static uint64_t slots_after(const ds_status *status, size_t items)
+/* The numbers of a sketch before updates. */
+typedef struct Before {
+    uint64_t total, error, items, slots, most_slots;
+} Before;
+
+/* Reads these numbers: fewer calls than `status_of`, since each update needs them. */
+static Before read_before(Sketch *sketch)
 {
-    uint64_t slots = status->current_map_capacity / 3 * 4;
-    while (slots < status->max_map_size && slots / 4 * 3 < status->num_active_items + items) slots *= 2;
+    return (Before){.total = number_of(sketch, DS_NUMBER_TOTAL_WEIGHT),
+                    .error = number_of(sketch, DS_NUMBER_MAXIMUM_ERROR),
+                    .items = number_of(sketch, DS_NUMBER_NUM_ACTIVE_ITEMS),
+                    .slots = number_of(sketch, DS_NUMBER_CURRENT_MAP_CAPACITY) / 3 * 4,
+                    .most_slots = number_of(sketch, DS_NUMBER_MAX_MAP_SIZE)};
+}
+
+/* Returns the slots of the table that a sketch has after updates with new items, at most. */
+static uint64_t slots_after(const Before *before, size_t items)
+{
+    uint64_t slots = before->slots;
+    while (slots < before->most_slots && slots / 4 * 3 < before->items + items) slots *= 2;
     return slots;
 }
 
 /* Returns the bytes that updates may allocate: for strings, and for each table that the sketch grows into. */
-static size_t bytes_for(const ds_status *status, const Stored *stored)
+static size_t bytes_for(const Before *before, const Stored *stored)
 {
-    uint64_t slots = status->current_map_capacity / 3 * 4, most = slots_after(status, stored->count);
+    uint64_t slots = before->slots, most = slots_after(before, stored->count);
     size_t bytes = stored->allocated + stored->allocations * reserve_for(1);
     while (slots < most) {
         slots *= 2;
@@ -32,19 +47,19 @@ static size_t bytes_for(const ds_status *status, const Stored *stored)
 }
 
 /* Returns whether a sketch with these bytes of strings takes at most `limit` bytes after the updates. */
-static bool fits(const ds_status *status, size_t string_bytes, const Stored *stored, size_t limit)
+static bool fits(const Before *before, size_t string_bytes, const Stored *stored, size_t limit)
 {
-    return string_bytes + stored->bytes + slots_after(status, stored->count) * BYTES_OF_SLOT <= limit;
+    return string_bytes + stored->bytes + slots_after(before, stored->count) * BYTES_OF_SLOT <= limit;
 }
 
 /* Looks the items up, and writes what updates with them store. If they are more than the counters, a purge drops some, which may
  * come again: then the bytes are those of the longest one for each counter. Stops if they exceed the limit for certain. */
-static int32_t weigh(Sketch *sketch, const ds_status *status, const Items *items, const uint64_t *weights, size_t limit,
+static int32_t weigh(Sketch *sketch, const Before *before, const Items *items, const uint64_t *weights, size_t limit,
                      Stored *stored)
 {
     ds_string strings[MOST_STRINGS];
-    ds_frequent_items_bounds bounds[MOST_STRINGS];
-    size_t at = 0, count, first = 0, longest = 0, all = 0, most = (size_t)status->maximum_map_capacity;
+    ds_item_bounds bounds[MOST_STRINGS];
+    size_t at = 0, count, first = 0, longest = 0, all = 0, most = (size_t)number_of(sketch, DS_NUMBER_MAXIMUM_MAP_CAPACITY);
     Distinct set;
     int32_t result = DS_OK;
     bool is_purged = false, is_too_much = false;
@@ -59,11 +74,11 @@ static int32_t weigh(Sketch *sketch, const ds_status *status, const Items *items
             if (strings[i].length > longest) longest = strings[i].length;
             if (!is_purged) result = add_distinct(&set, strings[i], 1);
             if (!is_purged && result == DS_YES) stored->bytes += strings[i].length;
-            is_purged = status->num_active_items + set.count > most;
+            is_purged = before->items + set.count > most;
         }
         first += count;
         stored->count = set.count;
-        is_too_much = stored->count > 0 && !is_purged && !fits(status, sketch->string_bytes - sketch->spare_bytes, stored, limit);
+        is_too_much = stored->count > 0 && !is_purged && !fits(before, sketch->string_bytes - sketch->spare_bytes, stored, limit);
     }
     free_distinct(&set);
     stored->allocated = is_purged ? items->bytes : stored->bytes;
@@ -75,35 +90,34 @@ static int32_t weigh(Sketch *sketch, const ds_status *status, const Items *items
 /* Finds out what updates store, and whether the sketch stays within the limit then. Items are looked up only if it is not clear
  * without that. The strings are counted again only if that decides, or if many came since they were counted. So a count costs no
  * more than the items before it. Returns false after an error. */
-static bool check_stored(Call *call, const Items *items, const uint64_t *weights, Stored *stored)
+static bool check_stored(Call *call, const Before *before, const Items *items, const uint64_t *weights, Stored *stored)
 {
     Sketch *sketch = call->sketch;
-    ds_status status = status_of(sketch);
     size_t limit;
     int32_t result;
     *stored = (Stored){items->bytes, items->count, items->bytes, items->count, false};
-    if (bytes_for(&status, stored) <= max_bytes) {
-        if (fits(&status, sketch->string_bytes, stored, max_bytes)) return true;
+    if (bytes_for(before, stored) <= max_bytes) {
+        if (fits(before, sketch->string_bytes, stored, max_bytes)) return true;
         if (sketch->spare_bytes > max_bytes / 64) count_strings(sketch);
-        if (fits(&status, sketch->string_bytes, stored, max_bytes)) return true;
+        if (fits(before, sketch->string_bytes, stored, max_bytes)) return true;
     }
     limit = limit_of(call);
-    result = weigh(sketch, &status, items, weights, limit, stored);
+    result = weigh(sketch, before, items, weights, limit, stored);
     if (result < 0) {
         reply_result(call, result);
         return false;
     }
-    if (stored->count == 0 || fits(&status, sketch->string_bytes, stored, limit)) return true;
-    if (fits(&status, sketch->string_bytes - sketch->spare_bytes, stored, limit)) count_strings(sketch);
-    if (fits(&status, sketch->string_bytes, stored, limit)) return true;
+    if (stored->count == 0 || fits(before, sketch->string_bytes, stored, limit)) return true;
+    if (fits(before, sketch->string_bytes - sketch->spare_bytes, stored, limit)) count_strings(sketch);
+    if (fits(before, sketch->string_bytes, stored, limit)) return true;
     reply_error(call, too_much);
     return false;
 }
 
 /* Returns whether the total has room for weights, or for 1 for each item if they are null. */
-static bool has_room(const ds_status *status, const Items *items, const uint64_t *weights)
+static bool has_room(const Before *before, const Items *items, const uint64_t *weights)
 {
-    uint64_t room = INT64_MAX - status->total_weight;
+    uint64_t room = INT64_MAX - before->total;
     if (weights == NULL) return items->count <= room;
     for (size_t i = 0; i < items->count; i++) {
         if (weights[i] > room) return false;
@@ -115,15 +129,14 @@ static bool has_room(const ds_status *status, const Items *items, const uint64_t
 bool update(Call *call, const Items *items, const uint64_t *weights)
 {
     Sketch *sketch = call->sketch;
-    ds_status before = status_of(sketch);
-    ds_status after;
+    Before before = read_before(sketch);
     Stored stored;
     int32_t result;
     if (!has_room(&before, items, weights)) {
         reply_result(call, DS_WEIGHT_OVERFLOW);
         return false;
     }
-    if (!check_stored(call, items, weights, &stored)) return false;
+    if (!check_stored(call, &before, items, weights, &stored)) return false;
     result = DS_NO_MEMORY;
     if (begin_reserve(bytes_for(&before, &stored))) {
         result = weights != NULL ? ds_update_all_weighted(&sketch->handle, &items->rows, weights, items->count)
@@ -134,15 +147,14 @@ bool update(Call *call, const Items *items, const uint64_t *weights)
         reply_result(call, result);
         return false;
     }
-    after = status_of(sketch);
-    if (after.total_weight == before.total_weight) return true; /* all weights were 0 */
+    if (number_of(sketch, DS_NUMBER_TOTAL_WEIGHT) == before.total) return true; /* all weights were 0 */
     sketch->string_bytes += stored.bytes;
     if (!stored.is_weighed) sketch->spare_bytes += stored.bytes;
     if (sketch->top != NULL) follow_top(sketch, items, weights);
 
     /* What a purge removes depends on where items are in the table, so it is replicated as the sketch after it. All else is the same
      * in any table with the same counters, and is replicated as it came. */
-    if (after.maximum_error != before.maximum_error) {
+    if (number_of(sketch, DS_NUMBER_MAXIMUM_ERROR) != before.error) {
         sketch->spare_bytes = sketch->string_bytes;
         replicate_state(call, sketch);
     } else {

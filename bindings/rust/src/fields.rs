@@ -150,7 +150,7 @@ impl BloomFilter {
     /// Returns an error as `update_fields` of other sketches does. Then nothing is inserted.
     pub fn insert_fields(&mut self, bytes: &[u8], fields: Fields) -> Result<FieldsRead, FieldsError> {
         let fields = fields.for_c().map_err(|error| FieldsError { error, offset: None })?;
-        let (result, read) = self.handle_mut().insert_fields(bytes, &fields);
+        let (result, read) = self.handle_mut().update_fields(bytes, &fields);
         read_of(result, read)
     }
 }

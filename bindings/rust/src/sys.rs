@@ -17,24 +17,6 @@ pub struct ds_string {
     pub length: usize,
 }
 
-#[derive(Clone, Copy, Default)]
-#[repr(C)]
-pub struct ds_status {
-    pub seed: u64,
-    pub num_bits: u64,
-    pub bits_used: u64,
-    pub total_weight: u64,
-    pub maximum_error: u64,
-    pub num_active_items: u64,
-    pub maximum_map_capacity: u64,
-    pub current_map_capacity: u64,
-    pub max_map_size: u64,
-    pub sample_size: u64,
-    pub num_buckets: u32,
-    pub num_hashes: u16,
-    pub kind: u16,
-}
-
 #[derive(Clone, Copy)]
 #[repr(C)]
 pub struct ds_key {
@@ -68,6 +50,15 @@ pub struct ds_image_options {
 
 #[derive(Clone, Copy)]
 #[repr(C)]
+pub struct ds_item {
+    pub kind: i32,
+    pub number: u64,
+    pub bytes: *const u8,
+    pub length: usize,
+}
+
+#[derive(Clone, Copy)]
+#[repr(C)]
 pub struct ds_items {
     pub kind: i32,
     pub u64s: *const u64,
@@ -89,7 +80,7 @@ pub struct ds_items {
     pub first_bit: usize,
 }
 
-pub type ds_frequent_items_bounds = crate::frequencies::ItemBounds;
+pub type ds_item_bounds = crate::frequencies::ItemBounds;
 
 pub const DS_NO_ROOM: i32 = -3;
 pub const DS_BAD_FRACTION: i32 = -4;
@@ -116,6 +107,28 @@ pub const DS_FREQUENT_ITEMS_U64: i32 = 4;
 pub const DS_FREQUENT_ITEMS_I64: i32 = 5;
 pub const DS_FREQUENT_ITEMS_STRING: i32 = 6;
 
+pub const DS_JOIN_MERGE: i32 = 1;
+pub const DS_JOIN_INTERSECTION: i32 = 2;
+pub const DS_JOIN_DIFFERENCE: i32 = 3;
+
+pub const DS_NUMBER_SEED: i32 = 1;
+pub const DS_NUMBER_NUM_BITS: i32 = 2;
+pub const DS_NUMBER_BITS_USED: i32 = 3;
+pub const DS_NUMBER_TOTAL_WEIGHT: i32 = 4;
+pub const DS_NUMBER_MAXIMUM_ERROR: i32 = 5;
+pub const DS_NUMBER_NUM_ACTIVE_ITEMS: i32 = 6;
+pub const DS_NUMBER_MAXIMUM_MAP_CAPACITY: i32 = 7;
+pub const DS_NUMBER_CURRENT_MAP_CAPACITY: i32 = 8;
+pub const DS_NUMBER_MAX_MAP_SIZE: i32 = 9;
+pub const DS_NUMBER_SAMPLE_SIZE: i32 = 10;
+pub const DS_NUMBER_NUM_BUCKETS: i32 = 11;
+pub const DS_NUMBER_NUM_HASHES: i32 = 12;
+
+pub const DS_ITEM_U64: i32 = 0;
+pub const DS_ITEM_I64: i32 = 1;
+pub const DS_ITEM_STRING: i32 = 2;
+pub const DS_ITEM_FED: i32 = 3;
+
 pub const DS_ITEMS_U64: i32 = 0;
 pub const DS_ITEMS_I64: i32 = 1;
 pub const DS_ITEMS_OFFSETS: i32 = 2;
@@ -125,6 +138,14 @@ pub const DS_ITEMS_WORDS: i32 = 5;
 pub const DS_ITEMS_LINES: i32 = 6;
 pub const DS_ITEMS_FED: i32 = 7;
 
+pub const DS_CHUNK_WORDS: i32 = 1;
+pub const DS_CHUNK_LINES: i32 = 2;
+
+pub const DS_SIZE_MAX_MAP_SIZE: i32 = 1;
+pub const DS_SIZE_NUM_BITS: i32 = 4;
+pub const DS_SIZE_MIN_NUM_BITS: i32 = 5;
+pub const DS_SIZE_FILTER_HASHES: i32 = 6;
+
 extern "C" {
     pub fn ds_version() -> *const c_char;
     pub fn ds_result_name(result: i32) -> *const c_char;
@@ -133,11 +154,11 @@ extern "C" {
     pub fn ds_free(handle: *mut ds_sketch);
     pub fn ds_clone(handle: *mut ds_sketch, other: *mut ds_sketch) -> i32;
     pub fn ds_reset(handle: *mut ds_sketch) -> i32;
-    pub fn ds_merge(handle: *mut ds_sketch, other: *mut ds_sketch) -> i32;
+    pub fn ds_join(handle: *mut ds_sketch, other: *mut ds_sketch, join: i32) -> i32;
     pub fn ds_merge_all(handle: *mut ds_sketch, others: *mut ds_sketch, count: usize) -> i32;
     pub fn ds_equal(handle: *mut ds_sketch, other: *mut ds_sketch) -> i32;
     pub fn ds_memory_bytes(handle: *mut ds_sketch, bytes: *mut usize) -> i32;
-    pub fn ds_get_status(handle: *mut ds_sketch, status: *mut ds_status) -> i32;
+    pub fn ds_number(handle: *mut ds_sketch, which: i32, value: *mut u64) -> i32;
     pub fn ds_serialized_bytes(handle: *mut ds_sketch, bytes: *mut usize) -> i32;
     pub fn ds_serialize(handle: *mut ds_sketch, out: *mut u8, capacity: usize, written: *mut usize) -> i32;
     pub fn ds_deserialize_prefix(
@@ -154,38 +175,23 @@ extern "C" {
     pub fn ds_num_items(items: *const ds_items, count: *mut usize) -> i32;
 
     pub fn ds_bloom_new(handle: *mut ds_sketch, num_bits: u64, num_hashes: u16, seed: u64) -> i32;
-    pub fn ds_bloom_insert_u64(handle: *mut ds_sketch, item: u64) -> i32;
-    pub fn ds_bloom_insert_string(handle: *mut ds_sketch, item: *const u8, length: usize) -> i32;
-    pub fn ds_bloom_insert_fed(handle: *mut ds_sketch, item: *const u8, length: usize) -> i32;
+    pub fn ds_bloom_insert(handle: *mut ds_sketch, item: *const ds_item) -> i32;
     pub fn ds_bloom_insert_all(handle: *mut ds_sketch, items: *const ds_items) -> i32;
-    pub fn ds_bloom_contains_u64(handle: *mut ds_sketch, item: u64) -> i32;
-    pub fn ds_bloom_contains_string(handle: *mut ds_sketch, item: *const u8, length: usize) -> i32;
-    pub fn ds_bloom_contains_fed(handle: *mut ds_sketch, item: *const u8, length: usize) -> i32;
+    pub fn ds_bloom_contains(handle: *mut ds_sketch, item: *const ds_item) -> i32;
     pub fn ds_bloom_contains_all(
         handle: *mut ds_sketch,
         items: *const ds_items,
         results: *mut bool,
         num_results: usize,
     ) -> i32;
-    pub fn ds_bloom_contains_and_insert_u64(handle: *mut ds_sketch, item: u64) -> i32;
-    pub fn ds_bloom_contains_and_insert_string(handle: *mut ds_sketch, item: *const u8, length: usize)
-        -> i32;
-    pub fn ds_bloom_contains_and_insert_fed(handle: *mut ds_sketch, item: *const u8, length: usize) -> i32;
+    pub fn ds_bloom_contains_and_insert(handle: *mut ds_sketch, item: *const ds_item) -> i32;
     pub fn ds_bloom_contains_and_insert_all(
         handle: *mut ds_sketch,
         items: *const ds_items,
         results: *mut bool,
         num_results: usize,
     ) -> i32;
-    pub fn ds_bloom_intersect(handle: *mut ds_sketch, other: *mut ds_sketch) -> i32;
-    pub fn ds_bloom_difference(handle: *mut ds_sketch, other: *mut ds_sketch) -> i32;
-    pub fn ds_bloom_image_contains_u64(image: *const u8, length: usize, item: u64) -> i32;
-    pub fn ds_bloom_image_contains_string(
-        image: *const u8,
-        length: usize,
-        item: *const u8,
-        item_length: usize,
-    ) -> i32;
+    pub fn ds_bloom_image_contains(image: *const u8, length: usize, item: *const ds_item) -> i32;
     pub fn ds_bloom_image_contains_all(
         image: *const u8,
         length: usize,
@@ -194,6 +200,7 @@ extern "C" {
         num_results: usize,
     ) -> i32;
 
+    pub fn ds_update(handle: *mut ds_sketch, item: *const ds_item, weight: u64) -> i32;
     pub fn ds_update_all(handle: *mut ds_sketch, items: *const ds_items) -> i32;
     pub fn ds_update_all_weighted(
         handle: *mut ds_sketch,
@@ -209,13 +216,6 @@ extern "C" {
         fields: *const ds_fields,
         read: *mut ds_fields_read,
     ) -> i32;
-    pub fn ds_bloom_insert_fields(
-        handle: *mut ds_sketch,
-        bytes: *const u8,
-        length: usize,
-        fields: *const ds_fields,
-        read: *mut ds_fields_read,
-    ) -> i32;
 
     pub fn ds_count_min_new(
         handle: *mut ds_sketch,
@@ -224,148 +224,47 @@ extern "C" {
         num_buckets: u32,
         seed: u64,
     ) -> i32;
-    pub fn ds_count_min_u64_update_u64(handle: *mut ds_sketch, item: u64, weight: u64) -> i32;
-    pub fn ds_count_min_u64_update_string(
-        handle: *mut ds_sketch,
-        item: *const u8,
-        length: usize,
-        weight: u64,
-    ) -> i32;
-    pub fn ds_count_min_u64_update_fed(
-        handle: *mut ds_sketch,
-        item: *const u8,
-        length: usize,
-        weight: u64,
-    ) -> i32;
-    pub fn ds_count_min_u64_estimate_u64(handle: *mut ds_sketch, item: u64, estimate: *mut u64) -> i32;
-    pub fn ds_count_min_u64_estimate_string(
-        handle: *mut ds_sketch,
-        item: *const u8,
-        length: usize,
-        estimate: *mut u64,
-    ) -> i32;
-    pub fn ds_count_min_u64_estimate_fed(
-        handle: *mut ds_sketch,
-        item: *const u8,
-        length: usize,
-        estimate: *mut u64,
-    ) -> i32;
+    pub fn ds_count_min_u64_estimate(handle: *mut ds_sketch, item: *const ds_item, estimate: *mut u64)
+        -> i32;
     pub fn ds_count_min_u64_estimate_all(
         handle: *mut ds_sketch,
         items: *const ds_items,
         estimates: *mut u64,
         num_estimates: usize,
     ) -> i32;
-    pub fn ds_count_min_u64_upper_bound_u64(handle: *mut ds_sketch, item: u64, bound: *mut u64) -> i32;
-    pub fn ds_count_min_u64_upper_bound_string(
-        handle: *mut ds_sketch,
-        item: *const u8,
-        length: usize,
-        bound: *mut u64,
-    ) -> i32;
-    pub fn ds_count_min_u64_upper_bound_fed(
-        handle: *mut ds_sketch,
-        item: *const u8,
-        length: usize,
-        bound: *mut u64,
-    ) -> i32;
+    pub fn ds_count_min_u64_upper_bound(handle: *mut ds_sketch, item: *const ds_item, bound: *mut u64)
+        -> i32;
     pub fn ds_count_min_u64_halve(handle: *mut ds_sketch) -> i32;
     pub fn ds_count_min_u64_decay(handle: *mut ds_sketch, numerator: u64, denominator: u64) -> i32;
-    pub fn ds_count_min_u64_image_estimate_u64(
+    pub fn ds_count_min_u64_image_estimate(
         image: *const u8,
         length: usize,
         seed: u64,
-        item: u64,
+        item: *const ds_item,
         estimate: *mut u64,
     ) -> i32;
-    pub fn ds_count_min_u64_image_estimate_string(
-        image: *const u8,
-        length: usize,
-        seed: u64,
-        item: *const u8,
-        item_length: usize,
-        estimate: *mut u64,
-    ) -> i32;
-    pub fn ds_count_min_u64_image_estimate_fed(
-        image: *const u8,
-        length: usize,
-        seed: u64,
-        item: *const u8,
-        item_length: usize,
-        estimate: *mut u64,
-    ) -> i32;
-    pub fn ds_count_min_i64_update_u64(handle: *mut ds_sketch, item: u64, weight: i64) -> i32;
-    pub fn ds_count_min_i64_update_string(
-        handle: *mut ds_sketch,
-        item: *const u8,
-        length: usize,
-        weight: i64,
-    ) -> i32;
-    pub fn ds_count_min_i64_update_fed(
-        handle: *mut ds_sketch,
-        item: *const u8,
-        length: usize,
-        weight: i64,
-    ) -> i32;
+    pub fn ds_count_min_i64_update(handle: *mut ds_sketch, item: *const ds_item, weight: i64) -> i32;
     pub fn ds_count_min_i64_update_all_weighted(
         handle: *mut ds_sketch,
         items: *const ds_items,
         weights: *const i64,
         num_weights: usize,
     ) -> i32;
-    pub fn ds_count_min_i64_estimate_u64(handle: *mut ds_sketch, item: u64, estimate: *mut i64) -> i32;
-    pub fn ds_count_min_i64_estimate_string(
-        handle: *mut ds_sketch,
-        item: *const u8,
-        length: usize,
-        estimate: *mut i64,
-    ) -> i32;
-    pub fn ds_count_min_i64_estimate_fed(
-        handle: *mut ds_sketch,
-        item: *const u8,
-        length: usize,
-        estimate: *mut i64,
-    ) -> i32;
+    pub fn ds_count_min_i64_estimate(handle: *mut ds_sketch, item: *const ds_item, estimate: *mut i64)
+        -> i32;
     pub fn ds_count_min_i64_estimate_all(
         handle: *mut ds_sketch,
         items: *const ds_items,
         estimates: *mut i64,
         num_estimates: usize,
     ) -> i32;
-    pub fn ds_count_min_i64_upper_bound_u64(handle: *mut ds_sketch, item: u64, bound: *mut i64) -> i32;
-    pub fn ds_count_min_i64_upper_bound_string(
-        handle: *mut ds_sketch,
-        item: *const u8,
-        length: usize,
-        bound: *mut i64,
-    ) -> i32;
-    pub fn ds_count_min_i64_upper_bound_fed(
-        handle: *mut ds_sketch,
-        item: *const u8,
-        length: usize,
-        bound: *mut i64,
-    ) -> i32;
-    pub fn ds_count_min_i64_image_estimate_u64(
+    pub fn ds_count_min_i64_upper_bound(handle: *mut ds_sketch, item: *const ds_item, bound: *mut i64)
+        -> i32;
+    pub fn ds_count_min_i64_image_estimate(
         image: *const u8,
         length: usize,
         seed: u64,
-        item: u64,
-        estimate: *mut i64,
-    ) -> i32;
-    pub fn ds_count_min_i64_image_estimate_string(
-        image: *const u8,
-        length: usize,
-        seed: u64,
-        item: *const u8,
-        item_length: usize,
-        estimate: *mut i64,
-    ) -> i32;
-    pub fn ds_count_min_i64_image_estimate_fed(
-        image: *const u8,
-        length: usize,
-        seed: u64,
-        item: *const u8,
-        item_length: usize,
+        item: *const ds_item,
         estimate: *mut i64,
     ) -> i32;
 
@@ -376,34 +275,15 @@ extern "C" {
         sample_size: usize,
         key: *const ds_key,
     ) -> i32;
-    pub fn ds_frequent_items_u64_update(handle: *mut ds_sketch, item: u64, weight: u64) -> i32;
-    pub fn ds_frequent_items_i64_update(handle: *mut ds_sketch, item: i64, weight: u64) -> i32;
-    pub fn ds_frequent_items_string_update(
+    pub fn ds_frequent_items_bounds(
         handle: *mut ds_sketch,
-        item: *const u8,
-        length: usize,
-        weight: u64,
-    ) -> i32;
-    pub fn ds_frequent_items_u64_bounds(
-        handle: *mut ds_sketch,
-        item: u64,
-        bounds: *mut ds_frequent_items_bounds,
-    ) -> i32;
-    pub fn ds_frequent_items_i64_bounds(
-        handle: *mut ds_sketch,
-        item: i64,
-        bounds: *mut ds_frequent_items_bounds,
-    ) -> i32;
-    pub fn ds_frequent_items_string_bounds(
-        handle: *mut ds_sketch,
-        item: *const u8,
-        length: usize,
-        bounds: *mut ds_frequent_items_bounds,
+        item: *const ds_item,
+        bounds: *mut ds_item_bounds,
     ) -> i32;
     pub fn ds_frequent_items_bounds_all(
         handle: *mut ds_sketch,
         items: *const ds_items,
-        bounds: *mut ds_frequent_items_bounds,
+        bounds: *mut ds_item_bounds,
         num_bounds: usize,
     ) -> i32;
     pub fn ds_frequent_items_set_sample_size(handle: *mut ds_sketch, sample_size: usize) -> i32;
@@ -414,7 +294,7 @@ extern "C" {
         limit: usize,
         items: *mut u64,
         num_items: usize,
-        bounds: *mut ds_frequent_items_bounds,
+        bounds: *mut ds_item_bounds,
         num_bounds: usize,
         count: *mut usize,
     ) -> i32;
@@ -425,7 +305,7 @@ extern "C" {
         limit: usize,
         items: *mut i64,
         num_items: usize,
-        bounds: *mut ds_frequent_items_bounds,
+        bounds: *mut ds_item_bounds,
         num_bounds: usize,
         count: *mut usize,
     ) -> i32;
@@ -438,19 +318,15 @@ extern "C" {
         room_for_bytes: usize,
         offsets: *mut u64,
         num_offsets: usize,
-        bounds: *mut ds_frequent_items_bounds,
+        bounds: *mut ds_item_bounds,
         num_bounds: usize,
         count: *mut usize,
         num_bytes: *mut usize,
     ) -> i32;
 
-    pub fn ds_finished_words(text: *const u8, length: usize) -> usize;
-    pub fn ds_finished_lines(text: *const u8, length: usize) -> usize;
+    pub fn ds_finished(chunk: i32, bytes: *const u8, length: usize, delimiter: u8) -> usize;
     pub fn ds_valid_utf8(text: *const u8, length: usize) -> usize;
     pub fn ds_keyed_hash(bytes: *const u8, length: usize, k0: u64, k1: u64) -> u64;
 
-    pub fn ds_frequent_items_suggest_max_map_size(parts: usize, max_map_size: *mut usize) -> i32;
-    pub fn ds_bloom_suggest_num_bits(num_items: u64, questions: u64, num_bits: *mut u64) -> i32;
-    pub fn ds_bloom_min_num_bits(num_items: u64, questions: u64, num_bits: *mut u64) -> i32;
-    pub fn ds_bloom_suggest_num_hashes(num_bits: u64, num_items: u64, num_hashes: *mut u16) -> i32;
+    pub fn ds_suggest(size: i32, first: u64, second: u64, found: *mut u64) -> i32;
 }

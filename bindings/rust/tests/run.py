@@ -113,9 +113,9 @@ def in_c(kind):
 def declared():
     """Returns the functions, the structures and the constants of `sys.rs`."""
     text = read(f"{RUST}/src/sys.rs")
-    text += read(f"{RUST}/src/frequencies/row.rs").replace("ItemBounds", "ds_frequent_items_bounds")
+    text += read(f"{RUST}/src/frequencies/row.rs").replace("ItemBounds", "ds_item_bounds")
     calls = {}
-    for name, inside, result in re.findall(r"pub fn (\w+)\(([^)]*)\)(?: -> ([^;]+))?;", text):
+    for name, inside, result in re.findall(r"pub fn (\w+)\(([^)]*)\)(?:\s+-> ([^;]+))?;", text):
         kinds = [in_c(it.split(":")[1].strip()) for it in inside.split(",") if it.strip()]
         calls[name] = (in_c(result) if result else "void", kinds)
     structures = {name: [(in_c(kind), member) for member, kind in re.findall(r"pub (\w+): (.*),", inside)]
@@ -266,9 +266,9 @@ class Tests(checks.Checks):
         write(f"{folder}/more/0", "changed")
         built = build()
         self.check("a file beside the library builds nothing", "Fresh datasketches-rattle" in built.stderr, built.stderr[-2000:])
-        write(f"{crate}/old.c", 'const char *ds_version(void) { return "0.2.9"; }\nvoid ds_update_fields(void) {}\n')
+        write(f"{crate}/old.c", 'const char *ds_version(void) { return "0.2.9"; }\nvoid ds_update(void) {}\n')
         write(f"{crate}/older.c", 'const char *ds_version(void) { return "0.3.0"; }\n')
-        for name, said in [("old", "is version 0.2.9, and not 0.3 or later"), ("older", "has no call ds_update_fields")]:
+        for name, said in [("old", "is version 0.2.9, and not 0.3 or later"), ("older", "has no call ds_update")]:
             os.makedirs(f"{crate}/{name}")
             subprocess.run(["cc", "-shared", "-fPIC", "-o", f"{crate}/{name}/libdatasketches.so", f"{crate}/{name}.c"], check=True)
             built = build(DATASKETCHES_DIR=name)

@@ -21,8 +21,8 @@ use Rattle.std.proofs.alloc.Global.TheLaws as heap_laws
 use Rattle.std.proofs.GlobalToken.{dealloc_token-Testable}
 use Rattle.std_alloc.specs.Box.Ownership.{box_owns}
 use Rattle.datasketches_c.specs.Holding.{holds}
-use Rattle.datasketches_c.specs.declared.any_sketch.HeldSketch as sketch
-use Rattle.datasketches_c.specs.contracts.any_sketch.HeldSketch as held_sketch
+use Rattle.datasketches_c.specs.declared.held_sketch.HeldSketch as sketch
+use Rattle.datasketches_c.specs.contracts.held_sketch.HeldSketch as held_sketch
 use Rattle.datasketches_c.specs.contracts.handle.SketchHandle as handle
 use Rattle.datasketches_c.specs.contracts.raw_box.RawBox as raw_box
 use Rattle.datasketches_c.proofs.Words.{pair, word_out, word_in}

@@ -6,7 +6,7 @@ use Rattle.datasketches_c.specs.Kinds.{OnKind, OnPartOr}
 use Rattle.datasketches_c.specs.ManyHandles.{OnEachKind, found_in}
 use Rattle.datasketches_c.specs.Numbers.{ok, no_sketch, wrong_kind}
 use Rattle.datasketches_c.specs.Sharing.{unreadable}
-use Rattle.datasketches_c.specs.declared.any_sketch.HeldSketch.{HeldSketch}
+use Rattle.datasketches_c.specs.declared.held_sketch.HeldSketch.{HeldSketch}
 use Rattle.datasketches_c.proofs.KindLemmas.{on_kind_less}
 
 module _ {S : Type 0} (part : HeldSketch → Option S) where

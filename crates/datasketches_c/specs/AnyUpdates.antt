@@ -7,12 +7,13 @@ use Rattle.datasketches_c.specs.FrequentCalls.{StopsOnlyIfFull, StopsOnlyToGrow,
 use Rattle.datasketches_c.specs.FrequentStrings.{strings_eq}
 use Rattle.datasketches_c.specs.Kinds.{HoldsKind, count_i64_of, count_u64_of, frequent_i64_of, frequent_strings_of, frequent_u64_of}
 use Rattle.datasketches_c.specs.ManyItems.{ManyItems, OnI64s, OnStrings, OnU64s, fed_items}
-use Rattle.datasketches_c.specs.Numbers.{max_i64, max_u64, no_sketch, ok, wrong_kind}
+use Rattle.datasketches_c.specs.Numbers.{no_sketch, ok, wrong_kind}
+use Rattle.any_sketch.specs.Updates.{max_i64, max_u64}
 use Rattle.datasketches_c.specs.Sharing.{unchangeable, unshared}
 use Rattle.datasketches_c.specs.ValidRows.{OnRows}
-use Rattle.datasketches_c.specs.declared.any_sketch.HeldSketch.{HeldSketch}
-use Rattle.datasketches_c.specs.declared.any_sketch.AnySketch.TheVariants.{CountI64, CountU64, FrequentI64, FrequentStrings, FrequentU64}
-use Rattle.datasketches_c.specs.declared.any_sketch.HeldSketch.TheVariants.{Own}
+use Rattle.datasketches_c.specs.declared.held_sketch.HeldSketch.{HeldSketch}
+use Rattle.any_sketch.specs.declared.any_sketch.AnySketch.TheVariants.{CountI64, CountU64, FrequentI64, FrequentStrings, FrequentU64}
+use Rattle.datasketches_c.specs.declared.held_sketch.HeldSketch.TheVariants.{Own}
 use Rattle.sketch_frequencies.specs.declared.item_bounds.ItemBounds.{ItemBounds}
 
 -- 1 was added to the weight of each item, in order, as far as the sketch took them. One that is shared is not changed

@@ -2,18 +2,13 @@
 -- holds, if any. `greatest` is the maximum of the type. Items are the bytes that their hash feeds.
 use Rattle.std.specs.Prelude.{◌≡◌, ℕ, ℤ, ◌+◌, ◌-◌, ◌<◌, ◌≤◌, Bool, List, Option, length, map, sum_by, take, unsigned_abs}
 use Rattle.sketch_base.specs.declared.fault.Fault.TheVariants.{WeightOverflow}
-use Rattle.sketch_countmin.specs.State.{CountState, IsMinCell, upper_bound_of}
-use Rattle.datasketches_c.specs.CountSteps.{Weighs, WeighsAll, WeighsEach}
-use Rattle.datasketches_c.specs.Estimates.{IsEstimate, AreEstimates}
-use Rattle.datasketches_c.specs.Kinds.{ChangesKind, OnKind, HoldsKind}
+use Rattle.sketch_countmin.specs.State.{CountState}
+use Rattle.datasketches_c.specs.CountSteps.{WeighsAll, WeighsEach}
+use Rattle.any_sketch.specs.Estimates.{AreEstimates}
+use Rattle.datasketches_c.specs.Kinds.{OnKind}
 use Rattle.datasketches_c.specs.Numbers.{OnRefused, ok, refusal_number}
 use Rattle.datasketches_c.specs.ValidRows.{OnRows}
-use Rattle.datasketches_c.specs.declared.any_sketch.HeldSketch.{HeldSketch}
-
--- the call wrote the sketch's estimate of the item's weight
-abbrev pub Estimates :
-    (part : HeldSketch → Option CountState) → (old new : Option HeldSketch) → ℤ → (bytes : List ℕ) → (estimate : ℤ) → Type 0
-Estimates part old new result bytes estimate = OnKind part old new result (λ s. (result ≡ ok) × IsEstimate s bytes estimate)
+use Rattle.datasketches_c.specs.declared.held_sketch.HeldSketch.{HeldSketch}
 
 -- the call wrote each item's estimate at the item's row
 abbrev pub EstimatesAll :
@@ -22,10 +17,6 @@ abbrev pub EstimatesAll :
 EstimatesAll number zero part old new result validity items by_row =
     OnKind part old new result (λ s.
     (result ≡ ok) × OnRows validity zero by_row (λ estimates. AreEstimates s items (map number estimates)))
-
--- the bound is the estimate plus the margin, or the maximum of the type if this exceeds it
-abbrev pub IsBound : (greatest : ℕ) → (bytes : List ℕ) → (bound : ℤ) → CountState → Type 0
-IsBound greatest bytes bound s = (estimate : ℤ) → IsMinCell s bytes estimate → bound ≡ upper_bound_of greatest s estimate
 
 -- 1 was added to the weight of each item while the total had room. If it had no room for all, the result is `WeightOverflow`
 pub record AddsEach (greatest : ℕ) (old : CountState) (items : List (List ℕ)) (new : CountState) (result : ℤ) : Type 0 where
@@ -43,15 +34,3 @@ pub record AddsWeights
   pub overflow :
       greatest < old.total + sum_by (λ weight. unsigned_abs (number weight)) weights → result ≡ refusal_number WeightOverflow
   pub refused : OnRefused result (new ≡ old)
-
-module _ (part : HeldSketch → Option CountState) (greatest : ℕ) where
-  -- the weight was added to the item's, or the result is `WeightOverflow` if the total has no room for it
-  abbrev pub AddsWeight : (old new : Option HeldSketch) → ℤ → (bytes : List ℕ) → (weight : ℤ) → Type 0
-  AddsWeight old new result bytes weight =
-      ChangesKind part old new result (λ s.
-      (s.total + unsigned_abs weight ≤ greatest → (result ≡ ok) × HoldsKind part new (Weighs s bytes weight))
-      × (greatest < s.total + unsigned_abs weight → result ≡ refusal_number WeightOverflow))
-
-  -- the call wrote the upper bound of the item's weight in the handle's sketch
-  abbrev pub Bounds : (old new : Option HeldSketch) → ℤ → (bytes : List ℕ) → (bound : ℤ) → Type 0
-  Bounds old new result bytes bound = OnKind part old new result (λ s. (result ≡ ok) × IsBound greatest bytes bound s)

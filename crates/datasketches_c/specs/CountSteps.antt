@@ -2,14 +2,8 @@
 use Rattle.std.specs.Prelude.{ℕ, ℤ, List, map}
 use Rattle.std.specs.List.{zip}
 use Rattle.sketch_countmin.specs.History.{all_updated, each_updated}
-use Rattle.sketch_countmin.specs.History.CountHistory.{Update, Merge}
-use Rattle.sketch_countmin.specs.Stands.{Extends, ExtendsBoth}
-use Rattle.sketch_countmin.specs.State.{CountState, Counts, CountsAll, CountsEach, Joins}
-
--- new is old with the weight counted for the byte list, and stands for the history with that update
-pub record Weighs (old : CountState) (bytes : List ℕ) (weight : ℤ) (new : CountState) : Type 0 where
-  pub counted : Counts old bytes weight new
-  pub stands : Extends old new (λ h. Update h bytes weight)
+use Rattle.sketch_countmin.specs.Stands.{Extends}
+use Rattle.sketch_countmin.specs.State.{CountState, CountsAll, CountsEach}
 
 -- new is old with each byte list counted with weight 1, and stands for the history with these updates
 pub record WeighsAll (old : CountState) (items : List (List ℕ)) (new : CountState) : Type 0 where
@@ -22,8 +16,3 @@ pub record WeighsEach
     : Type 0 where
   pub counted : CountsEach old (zip items (map number weights)) new
   pub stands : Extends old new (λ h. each_updated h (zip items (map number weights)))
-
--- new is old with the other's cells and total added, and stands for the merge of both histories
-pub record Merges (old other new : CountState) : Type 0 where
-  pub joined : Joins old other new
-  pub stands : ExtendsBoth old other new Merge

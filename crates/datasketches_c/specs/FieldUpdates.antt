@@ -17,11 +17,12 @@ use Rattle.datasketches_c.specs.FilterCalls.{InsertsAll}
 use Rattle.datasketches_c.specs.Kinds.{HoldsKind, count_i64_of}
 use Rattle.datasketches_c.specs.ManyItems.{ManyItems}
 use Rattle.datasketches_c.specs.ManyItems.Rows.{strings}
-use Rattle.datasketches_c.specs.Numbers.{bad_argument, max_i64, no_sketch, refusal_number}
+use Rattle.datasketches_c.specs.Numbers.{bad_argument, no_sketch, refusal_number}
+use Rattle.any_sketch.specs.Updates.{max_i64}
 use Rattle.datasketches_c.specs.Sharing.{unchangeable}
-use Rattle.datasketches_c.specs.declared.any_sketch.HeldSketch.{HeldSketch}
-use Rattle.datasketches_c.specs.declared.any_sketch.AnySketch.TheVariants.{CountI64, CountU64, Filter, FrequentStrings}
-use Rattle.datasketches_c.specs.declared.any_sketch.HeldSketch.TheVariants.{Own}
+use Rattle.datasketches_c.specs.declared.held_sketch.HeldSketch.{HeldSketch}
+use Rattle.any_sketch.specs.declared.any_sketch.AnySketch.TheVariants.{CountI64, CountU64, Filter, FrequentStrings}
+use Rattle.datasketches_c.specs.declared.held_sketch.HeldSketch.TheVariants.{Own}
 use Rattle.datasketches_c.specs.declared.fields_argument.FieldsArgument.{FieldsArgument}
 use Rattle.datasketches_c.specs.declared.fields_argument.FieldsRead.{FieldsRead}
 
@@ -98,8 +99,8 @@ all_strings items = record { rows = strings items; validity = None }
 abbrev pub fed_strings : List (List ℕ) → List (List ℕ)
 fed_strings items = map (fed_bytes fed.str) items
 
--- The items of records were added to the sketch of a handle with their weights, in order. Weights have a sign if those of the sketch do.
--- Without a sketch, or with one that is shared or takes no strings with weights, nothing is read and nothing is written.
+-- The items of records were added to the sketch of a handle with their weights, in order, or inserted into a filter. Weights have a sign if
+-- those of the sketch do. Without a sketch, or with one that is shared or takes no strings, nothing is read and nothing is written.
 abbrev pub UpdatesFields : WeighedRecord → List ℕ → (old new : Option HeldSketch) → (read_old read_new : FieldsRead) → ℤ → Type 0
 UpdatesFields chosen bytes None new a b result = (result ≡ no_sketch) × (new ≡ None) × (b ≡ a)
 UpdatesFields chosen bytes (Some (Own (CountI64 s))) new a b result =
@@ -111,13 +112,7 @@ UpdatesFields chosen bytes (Some (Own (CountU64 s))) new a b result =
 UpdatesFields chosen bytes (Some (Own (FrequentStrings s))) new a b result =
     OnRead number_in 1 chosen bytes result a b (new ≡ Some (Own (FrequentStrings s))) (λ found.
     WeighsAny (Some (Own (FrequentStrings s))) new (all_strings found.items) found.weights result)
-UpdatesFields chosen bytes (Some old) new a b result = (result ≡ unchangeable old) × (new ≡ Some old) × (b ≡ a)
-
--- The items of records were inserted into the handle's filter, one after another. Without a filter, or with a shared one, nothing is read
--- and nothing is written.
-abbrev pub InsertsFields : WeighedRecord → List ℕ → (old new : Option HeldSketch) → (read_old read_new : FieldsRead) → ℤ → Type 0
-InsertsFields chosen bytes None new a b result = (result ≡ no_sketch) × (new ≡ None) × (b ≡ a)
-InsertsFields chosen bytes (Some (Own (Filter s))) new a b result =
+UpdatesFields chosen bytes (Some (Own (Filter s))) new a b result =
     OnRead number_in 1 chosen bytes result a b (new ≡ Some (Own (Filter s))) (λ found.
     InsertsAll (Some (Own (Filter s))) new result (fed_strings found.items))
-InsertsFields chosen bytes (Some old) new a b result = (result ≡ unchangeable old) × (new ≡ Some old) × (b ≡ a)
+UpdatesFields chosen bytes (Some old) new a b result = (result ≡ unchangeable old) × (new ≡ Some old) × (b ≡ a)

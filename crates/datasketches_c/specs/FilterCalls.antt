@@ -1,15 +1,14 @@
 -- Results and effects of calls on filters.
-use Rattle.std.specs.Prelude.{◌≡◌, ℤ, Bool, false, List, ℕ, Option, Some, if◌then◌else◌}
+use Rattle.std.specs.Prelude.{◌≡◌, ℤ, Bool, false, List, ℕ, Option, Some}
 use Rattle.sketch_bloom.specs.History.{all_inserted_after}
-use Rattle.sketch_bloom.specs.History.BloomHistory.{Insert}
 use Rattle.sketch_bloom.specs.Stands.{Extends}
-use Rattle.sketch_bloom.specs.State.{FilterState, all_inserted, answers_in_turn, contains_item, inserted}
+use Rattle.sketch_bloom.specs.State.{FilterState, all_inserted, answers_in_turn}
 use Rattle.datasketches_c.specs.Kinds.{ChangesFilter}
-use Rattle.datasketches_c.specs.Numbers.{no, ok, yes}
+use Rattle.datasketches_c.specs.Numbers.{ok}
 use Rattle.datasketches_c.specs.ValidRows.{OnRows}
-use Rattle.datasketches_c.specs.declared.any_sketch.HeldSketch.{HeldSketch}
-use Rattle.datasketches_c.specs.declared.any_sketch.HeldSketch.TheVariants.{Own}
-use Rattle.datasketches_c.specs.declared.any_sketch.AnySketch.TheVariants.{Filter}
+use Rattle.datasketches_c.specs.declared.held_sketch.HeldSketch.{HeldSketch}
+use Rattle.datasketches_c.specs.declared.held_sketch.HeldSketch.TheVariants.{Own}
+use Rattle.any_sketch.specs.declared.any_sketch.AnySketch.TheVariants.{Filter}
 
 -- the items were inserted into the filter, one after another
 abbrev pub InsertsInto : (old new : FilterState) → List (List ℕ) → ℤ → Type 0
@@ -20,13 +19,6 @@ abbrev pub InsertsAll : (old new : Option HeldSketch) → ℤ → List (List ℕ
 InsertsAll old new result items =
     ChangesFilter old new result (λ s.
     (result ≡ ok) × (new ≡ Some (Own (Filter (all_inserted s items)))) × Extends s (all_inserted s items) (λ h. all_inserted_after h items))
-
--- the item was inserted into the handle's filter, and the result tells whether it was there
-abbrev pub TellsAndInserts : (old new : Option HeldSketch) → ℤ → List ℕ → Type 0
-TellsAndInserts old new result bytes =
-    ChangesFilter old new result (λ s.
-    (result ≡ (if contains_item s bytes then yes else no)) × (new ≡ Some (Own (Filter (inserted s bytes))))
-    × Extends s (inserted s bytes) (λ h. Insert h bytes))
 
 -- the items were inserted into the handle's filter in turn, and the answers of their rows tell for each whether it was there in its turn
 abbrev pub TellsAndInsertsAll : (old new : Option HeldSketch) → ℤ → Option (List Bool) → List (List ℕ) → (by_row : List Bool) → Type 0

@@ -1,11 +1,8 @@
--- Questions to sketches in the bytes of their images.
+-- Questions to filters in the bytes of their images.
 use Rattle.std.specs.Prelude.{◌≡◌, ℕ, ℤ, List, Option, Some, None}
 use Rattle.sketch_base.specs.declared.fault.Fault.{Fault}
 use Rattle.sketch_bloom.specs.Image as filter_image
 use Rattle.sketch_bloom.specs.State.{FilterState}
-use Rattle.sketch_countmin.specs.Image as count_image
-use Rattle.sketch_countmin.specs.State.{CountState}
-use Rattle.sketch_countmin.specs.View.{view_at, view_fault}
 use Rattle.datasketches_c.specs.Numbers.{OnDone, OnRefused, refusal_number}
 
 -- the call answered for the sketch that the image shows, and so for each sketch that reading the image gives. If a check failed,
@@ -21,8 +18,3 @@ pub record Asks
 -- `Asks` of the image of a filter. The count of its bits is not checked
 abbrev pub AsksFilter : List ℕ → (FilterState → Type 0) → ℤ → Type 0
 AsksFilter image = Asks (filter_image.value_at image) (filter_image.IsImage image) (filter_image.early_fault image)
-
--- `Asks` of the image of a Count-Min sketch with this seed. Its cells are not checked
-abbrev pub AsksCount : (least : ℤ) → (greatest seed : ℕ) → List ℕ → (CountState → Type 0) → ℤ → Type 0
-AsksCount least greatest seed image =
-    Asks (view_at least seed image) (count_image.IsImage least greatest seed image) (view_fault least greatest seed image)

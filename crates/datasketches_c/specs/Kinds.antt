@@ -5,11 +5,11 @@ use Rattle.std.specs.declared.string.String.{String}
 use Rattle.sketch_bloom.specs.State.{FilterState}
 use Rattle.sketch_countmin.specs.State.{CountState}
 use Rattle.sketch_frequencies.specs.State.{FrequentState}
-use Rattle.datasketches_c.specs.Numbers.{OnRefused, ok, no_sketch}
+use Rattle.datasketches_c.specs.Numbers.{no_sketch}
 use Rattle.datasketches_c.specs.Sharing.{reads, unchangeable, unreadable}
-use Rattle.datasketches_c.specs.declared.any_sketch.HeldSketch.{HeldSketch}
-use Rattle.datasketches_c.specs.declared.any_sketch.HeldSketch.TheVariants.{Own}
-use Rattle.datasketches_c.specs.declared.any_sketch.AnySketch.TheVariants.{Filter, CountI64, CountU64, FrequentI64, FrequentStrings, FrequentU64}
+use Rattle.datasketches_c.specs.declared.held_sketch.HeldSketch.{HeldSketch}
+use Rattle.datasketches_c.specs.declared.held_sketch.HeldSketch.TheVariants.{Own}
+use Rattle.any_sketch.specs.declared.any_sketch.AnySketch.TheVariants.{Filter, CountI64, CountU64, FrequentI64, FrequentStrings, FrequentU64}
 
 -- the statement holds of the sketch of this kind. If there is none, the result is the error that `refusal` has for the sketch, and the
 -- handle is unchanged. `OnKindOr` states this of a handle, and `no_sketch` if the handle is empty
@@ -39,14 +39,6 @@ module _ {S : Type 0} (part : HeldSketch → Option S) where
   abbrev pub HoldsKind : Option HeldSketch → (S → Type 0) → Type 0
   HoldsKind (Some held) said = OfPart (part held) said
   HoldsKind None said = ⊥
-
--- the call wrote what it computed from the handle's sketch, which is unchanged. If it failed, the output is unchanged too
-pub record WritesDown
-    {S P : Type 0} (part : HeldSketch → Option S) (old new : Option HeldSketch) (result : ℤ) (place_old place_new : P) (said : S → Type 0)
-    : Type 0 where
-  pub kept : new ≡ old
-  pub told : OnKind part old new result (λ s. (result ≡ ok) × said s)
-  pub untouched : OnRefused result (place_new ≡ place_old)
 
 -- the filter, if the sketch is one
 abbrev pub filter_of : HeldSketch → Option FilterState
@@ -78,34 +70,9 @@ abbrev pub frequent_strings_of : HeldSketch → Option (FrequentState (String Gl
 frequent_strings_of (Own (FrequentStrings s)) = Some s
 frequent_strings_of held = None
 
--- `ChangesKind` for filters; below, for the other kinds
+-- `ChangesKind` for filters
 abbrev pub ChangesFilter : (old new : Option HeldSketch) → ℤ → (FilterState → Type 0) → Type 0
 ChangesFilter = ChangesKind filter_of
-
-abbrev pub ChangesCountU64 : (old new : Option HeldSketch) → ℤ → (CountState → Type 0) → Type 0
-ChangesCountU64 = ChangesKind count_u64_of
-
-abbrev pub ChangesFrequentI64 : (old new : Option HeldSketch) → ℤ → (FrequentState ℤ → Type 0) → Type 0
-ChangesFrequentI64 = ChangesKind frequent_i64_of
-
-abbrev pub ChangesFrequentU64 : (old new : Option HeldSketch) → ℤ → (FrequentState ℕ → Type 0) → Type 0
-ChangesFrequentU64 = ChangesKind frequent_u64_of
-
-abbrev pub ChangesFrequentStrings : (old new : Option HeldSketch) → ℤ → (FrequentState (String Global) → Type 0) → Type 0
-ChangesFrequentStrings = ChangesKind frequent_strings_of
-
--- `HoldsKind` for filters; below, for the other kinds
-abbrev pub HoldsFilter : Option HeldSketch → (FilterState → Type 0) → Type 0
-HoldsFilter = HoldsKind filter_of
-
-abbrev pub HoldsFrequentI64 : Option HeldSketch → (FrequentState ℤ → Type 0) → Type 0
-HoldsFrequentI64 = HoldsKind frequent_i64_of
-
-abbrev pub HoldsFrequentU64 : Option HeldSketch → (FrequentState ℕ → Type 0) → Type 0
-HoldsFrequentU64 = HoldsKind frequent_u64_of
-
-abbrev pub HoldsFrequentStrings : Option HeldSketch → (FrequentState (String Global) → Type 0) → Type 0
-HoldsFrequentStrings = HoldsKind frequent_strings_of
 
 -- `OnKind` for calls that read a sketch of a kind, which may be shared; below, for each kind
 abbrev pub ReadsKind : {S : Type 0} → (HeldSketch → Option S) → (old new : Option HeldSketch) → ℤ → (S → Type 0) → Type 0

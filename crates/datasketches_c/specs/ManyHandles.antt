@@ -3,7 +3,7 @@ use Rattle.std.specs.Prelude.{◌≡◌, ◌⊎◌, ◌<◌, ℤ, List, [], ◌�
 use Rattle.sketch_base.specs.declared.fault.Fault.TheVariants.{NoMemory}
 use Rattle.datasketches_c.specs.Kinds.{OnKind}
 use Rattle.datasketches_c.specs.Numbers.{refusal_number}
-use Rattle.datasketches_c.specs.declared.any_sketch.HeldSketch.{HeldSketch}
+use Rattle.datasketches_c.specs.declared.held_sketch.HeldSketch.{HeldSketch}
 
 -- the statement holds. Or the result is `NoMemory`, which comes only if there are other sketches
 abbrev pub OrNoMemory : {S : Type 0} → ℤ → (others : List S) → Type 0 → Type 0

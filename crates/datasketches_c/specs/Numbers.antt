@@ -1,5 +1,5 @@
 -- Results of calls, as numbers. Errors are below 0.
-use Rattle.std.specs.Prelude.{ℕ, ℤ, pos, negsuc}
+use Rattle.std.specs.Prelude.{ℤ, pos, negsuc}
 use Rattle.sketch_base.specs.declared.fault.Fault.{Fault}
 use Rattle.sketch_base.specs.declared.fault.Fault.TheVariants as fault
 
@@ -95,14 +95,3 @@ refusal_number fault.BadSampleSize = negsuc 42
 refusal_number fault.BadWindows = negsuc 43
 refusal_number fault.BadOffsets = bad_offsets
 refusal_number fault.BadWeight = negsuc 44
-
--- the maximum of `i64`, and of `u64`
-abbrev pub max_i64 : ℕ
-max_i64 = 9223372036854775807
-
-abbrev pub max_u64 : ℕ
-max_u64 = 18446744073709551615
-
--- the minimum of `i64`
-abbrev pub min_i64 : ℤ
-min_i64 = negsuc 9223372036854775807

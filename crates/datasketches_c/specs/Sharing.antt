@@ -3,8 +3,8 @@ use Rattle.std.specs.Prelude.{◌≡◌, ◌⊎◌, Bool, true, false, Option, S
 use Rattle.std.specs.Arc.{arc_value}
 use Rattle.sketch_base.specs.declared.fault.Fault.TheVariants.{NoMemory}
 use Rattle.datasketches_c.specs.Numbers.{no_sketch, not_shared, refusal_number, shared, wrong_kind}
-use Rattle.datasketches_c.specs.declared.any_sketch.HeldSketch.{HeldSketch}
-use Rattle.datasketches_c.specs.declared.any_sketch.HeldSketch.TheVariants.{Moved, Own, Shared}
+use Rattle.datasketches_c.specs.declared.held_sketch.HeldSketch.{HeldSketch}
+use Rattle.datasketches_c.specs.declared.held_sketch.HeldSketch.TheVariants.{Moved, Own, Shared}
 
 -- the sketch as one that is not shared
 abbrev pub unshared : HeldSketch → HeldSketch

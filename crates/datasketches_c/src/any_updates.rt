@@ -6,16 +6,17 @@ ghost use Rattle.datasketches_c.specs.Numbers.{OnRefused, no_room};
 ghost use Rattle.datasketches_c.specs.Sharing.{unshared};
 ghost use Rattle.datasketches_c.specs.ValidRows.{OnWeights};
 
-use crate::any_sketch::{AnySketch, HeldSketch};
 use crate::count_items::{add_given, add_given_weighted};
 use crate::frequent_batches::{
     add_i64s, add_i64s_weighted, add_strings, add_strings_weighted, add_u64s, add_u64s_weighted,
     bounds_of_i64s, bounds_of_strings, bounds_of_u64s,
 };
 use crate::handle::SketchHandle;
+use crate::held_sketch::HeldSketch;
 use crate::items_argument::{GivenItems, ItemsArgument, num_rows, on_given};
 use crate::status_code::{NO_ROOM, NO_SKETCH, WRONG_KIND};
 use crate::valid_rows::on_weights;
+use any_sketch::AnySketch;
 use sketch_frequencies::ItemBounds;
 use std::alloc::Global;
 

@@ -1,5 +1,5 @@
-//! Calls that create sketches of a kind that a number selects, and that reset sketches of any kind.
-ghost use Rattle.std.specs.Prelude.{◌≡◌, None, Some};
+//! Calls that create Count-Min sketches and sketches of frequent items of a kind that a number selects.
+ghost use Rattle.std.specs.Prelude.{◌≡◌, None};
 ghost use Rattle.counter_table.specs.declared.table_key.TableKey.TheVariants.{Keyed};
 ghost use Rattle.sketch_base.specs.Errors.{refusal_of};
 ghost use Rattle.sketch_countmin.specs.History.CountHistory.{New};
@@ -7,20 +7,17 @@ ghost use Rattle.sketch_countmin.specs.Shapes.{shape_fault};
 ghost use Rattle.sketch_countmin.specs.Stands.{StandsFor};
 ghost use Rattle.sketch_countmin.specs.State.{empty_state};
 ghost use Rattle.sketch_frequencies.specs.Sizes.{sizes_fault};
-ghost use Rattle.datasketches_c.specs.Changes.{Clears, HoldsNew, IsNew, Resampled, ResamplesAny, Resets, ResetsAny, Restarts};
-ghost use Rattle.datasketches_c.specs.FrequentCalls.{Empties};
+ghost use Rattle.datasketches_c.specs.Changes.{HoldsNew, IsNew};
 ghost use Rattle.datasketches_c.specs.Kinds.{HoldsKind};
 ghost use Rattle.datasketches_c.specs.Numbers.{OnDone, OnRefused, ok, refusal_number};
-ghost use Rattle.datasketches_c.specs.SketchKinds.{HoldsCount, OfCount, OfFrequent, kind_numbered};
+ghost use Rattle.any_sketch.specs.KindNumbers.{kind_numbered};
+ghost use Rattle.datasketches_c.specs.SketchKinds.{HoldsCount, OfCount, OfFrequent};
 
-use crate::any_sketch::{AnySketch, HeldSketch};
-use crate::frequent::resample;
 use crate::handle::SketchHandle;
 use crate::kind::Kind;
 use crate::making::put_made;
-use crate::sketch_kind::{SketchKind, kind_numbered};
-use crate::status_code::{NO_SKETCH, OK, WRONG_KIND};
-use sketch_bloom::BloomFilter;
+use crate::status_code::WRONG_KIND;
+use any_sketch::Kind as SketchKind;
 use sketch_countmin::{CountMinSizes, CountMinSketch, CountMinValue};
 use sketch_frequencies::{FrequentItemsSizes, FrequentItemsSketch, HashKey, TableKey};
 use std::alloc::Global;
@@ -79,7 +76,7 @@ pub extern "C" fn ds_count_min_new(
         num_buckets,
         seed,
     };
-    match kind_numbered(kind) {
+    match SketchKind::of_number(kind) {
         Some(SketchKind::CountU64) => put_count::<u64>(alloc, handle, sizes),
         Some(SketchKind::CountI64) => put_count::<i64>(alloc, handle, sizes),
         _ => WRONG_KIND,
@@ -139,104 +136,10 @@ pub extern "C" fn ds_new_frequent_items(
         max_map_size,
         sample_size,
     };
-    match kind_numbered(kind) {
+    match SketchKind::of_number(kind) {
         Some(SketchKind::FrequentU64) => put_frequent::<u64>(alloc, handle, sizes, key),
         Some(SketchKind::FrequentI64) => put_frequent::<i64>(alloc, handle, sizes, key),
         Some(SketchKind::FrequentStrings) => put_frequent::<String>(alloc, handle, sizes, key),
         _ => WRONG_KIND,
     }
-}
-
-/// Removes all positions of a filter. Returns the result's number.
-fn clear_filter(sketch: &mut BloomFilter) -> i32
-    ensures { Clears sketch.old sketch.new result }
-{
-    sketch.reset();
-    OK
-}
-
-/// Sets all cells and the total of a Count-Min sketch to 0. Returns the result's number.
-fn clear_count<V: CountMinValue>(sketch: &mut CountMinSketch<V>) -> i32
-    ensures { Restarts sketch.old sketch.new result }
-{
-    sketch.reset();
-    OK
-}
-
-/// Removes all items and weights of a sketch of frequent items. Returns the result's number.
-fn empty_frequent<T: Eq + Hash + Drop>(sketch: &mut FrequentItemsSketch<T>) -> i32
-    ensures done { result ≡ ok }
-    ensures emptied { Empties T.eq sketch.old sketch.new }
-{
-    sketch.reset();
-    OK
-}
-
-/// Empties a sketch. Returns the result's number.
-fn reset(sketch: &mut HeldSketch) -> i32
-    ensures call { Resets sketch.old sketch.new result }
-    ensures refused { OnRefused result (sketch.new ≡ sketch.old) }
-{
-    match sketch {
-        HeldSketch::Own(AnySketch::FrequentStrings(sketch)) => empty_frequent(sketch),
-        HeldSketch::Own(AnySketch::FrequentI64(sketch)) => empty_frequent(sketch),
-        HeldSketch::Own(AnySketch::FrequentU64(sketch)) => empty_frequent(sketch),
-        HeldSketch::Own(AnySketch::CountI64(sketch)) => clear_count(sketch),
-        HeldSketch::Own(AnySketch::CountU64(sketch)) => clear_count(sketch),
-        HeldSketch::Own(AnySketch::Filter(sketch)) => clear_filter(sketch),
-        _ => sketch.refusal_of_change(),
-    }
-}
-
-/// Removes all items and weights from the handle's sketch, of any kind. Its sizes, its seed and its key stay as they were. Does not
-/// allocate.
-///
-/// Returns `NO_SKETCH` if the handle has no sketch, and `SHARED` if its sketch is shared. Then nothing changes.
-#[unsafe(no_mangle)]
-pub extern "C" fn ds_reset(alloc: Global, handle: &mut SketchHandle) -> i32
-    ensures call { ResetsAny handle.old.value handle.new.value result }
-    ensures refused { OnRefused result (handle.new.value ≡ handle.old.value) }
-{
-    let Some(mut sketch) = handle.take(alloc) else {
-        return NO_SKETCH;
-    };
-    let answer = reset(&mut *sketch);
-    handle.give(sketch);
-    answer
-}
-
-/// Sets how many counters purges of a sketch sample. Returns the result's number.
-fn resample_any(sketch: &mut HeldSketch, sample_size: usize) -> i32
-    ensures call { Resampled sketch.old sample_size sketch.new result }
-    ensures refused { OnRefused result (sketch.new ≡ sketch.old) }
-{
-    match sketch {
-        HeldSketch::Own(AnySketch::FrequentStrings(sketch)) => resample(sketch, sample_size),
-        HeldSketch::Own(AnySketch::FrequentI64(sketch)) => resample(sketch, sample_size),
-        HeldSketch::Own(AnySketch::FrequentU64(sketch)) => resample(sketch, sample_size),
-        _ => sketch.refusal_of_change(),
-    }
-}
-
-/// Sets the number of counters that later purges of a sketch of frequent items sample. Nothing else changes.
-///
-/// Returns the first of these errors, and then changes nothing:
-///
-/// - `NO_SKETCH` if the handle has no sketch, `SHARED` if its sketch is shared, and `WRONG_KIND` if it is of another kind.
-/// - `BadSampleSize` unless `sample_size` is even, and from 2 to three quarters of the maximum size, at most 1024.
-#[unsafe(no_mangle)]
-pub extern "C" fn ds_frequent_items_set_sample_size(
-    alloc: Global,
-    handle: &mut SketchHandle,
-    sample_size: usize,
-) -> i32
-    ensures call { ResamplesAny handle.old.value sample_size handle.new.value result }
-    ensures refused { OnRefused result (handle.new.value ≡ handle.old.value) }
-{
-    let Some(mut sketch) = handle.take(alloc) else {
-        return NO_SKETCH;
-    };
-    let answer = resample_any(&mut *sketch, sample_size);
-    handle.give(sketch);
-    answer
 }

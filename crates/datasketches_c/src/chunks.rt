@@ -1,52 +1,56 @@
-//! Calls for a chunk of a stream: where its last finished word or line ends, and where its first invalid UTF-8 begins.
+//! Calls for a chunk of a stream: where its last finished word, line or record ends, and where its first invalid UTF-8 begins.
 ghost use Rattle.std.specs.Prelude.{◌≡◌, ◌≤◌, length};
 ghost use Rattle.std.specs.Str.{IsUtf8};
 ghost use Rattle.core.specs.Str.{IsValidUpTo};
-ghost use Rattle.std.specs.Str.Lines.{lines};
-ghost use Rattle.sketch_base.specs.Split.{CutsUtf8, IsBehindLast, SplitsAt, separates, words_by};
-ghost use Rattle.sketch_base.specs.declared.separator.Separator.TheVariants.{AsciiWhitespace, LineFeed};
-ghost use Rattle.sketch_text.specs.Csv.{IsBehindLastEnd, csv_records};
-ghost use Rattle.sketch_text.specs.declared.place.Place.TheVariants.{Start};
+ghost use Rattle.datasketches_c.specs.Chunks.{IsFinishedIn, chunk_numbered};
 
 use sketch_base::{Separator, finished_lines, finished_words};
 use sketch_text::{Place, finished_csv_records};
 
-/// Returns the number of bytes through the last byte of ASCII white space, or 0 if there is none. The words of these
-/// bytes are finished, whatever comes after them.
-#[unsafe(no_mangle)]
-pub extern "C" fn ds_finished_words(text: &[u8]) -> usize
-    ensures bound { result ≤ length text.now }
-    ensures last { IsBehindLast (separates AsciiWhitespace) text.now result }
-    ensures words { SplitsAt (words_by AsciiWhitespace) text.now result }
-    ensures utf8 { CutsUtf8 text.now result }
-{
-    finished_words(text, Separator::AsciiWhitespace)
+/// What a chunk of a stream has.
+#[derive(Clone, Copy)]
+pub enum Chunk {
+    /// Words between ASCII white space.
+    Words,
+    /// Lines.
+    Lines,
+    /// Records of CSV.
+    CsvRecords,
 }
 
-/// Returns the number of bytes through the last line feed, or 0 if there is none. The lines of these bytes are finished,
-/// whatever comes after them.
-#[unsafe(no_mangle)]
-pub extern "C" fn ds_finished_lines(text: &[u8]) -> usize
-    ensures bound { result ≤ length text.now }
-    ensures last { IsBehindLast (separates LineFeed) text.now result }
-    ensures lines { SplitsAt lines text.now result }
-    ensures utf8 { CutsUtf8 text.now result }
+/// Returns what chunks have that one of `DS_CHUNK_WORDS` and so on of C names, or `None` if it is none of them.
+fn chunk_numbered(chunk: i32) -> Option<Chunk>
+    ensures { result ≡ chunk_numbered chunk }
 {
-    finished_lines(text)
+    match chunk {
+        1 => Some(Chunk::Words),
+        2 => Some(Chunk::Lines),
+        3 => Some(Chunk::CsvRecords),
+        _ => None,
+    }
 }
 
-/// Returns the number of bytes through the last end of a record of CSV, or 0 if there is none.
+/// Returns how many bytes of a chunk are finished, whatever comes after them, or 0 if none are.
 ///
-/// The bytes begin with a record. A record ends at a line feed outside of quotes. Those after the last end may go on in what follows
-/// these bytes.
+/// - `chunk` 1: the bytes through the last byte of ASCII white space. The words of these bytes are finished.
+/// - `chunk` 2: the bytes through the last line feed. The lines of these bytes are finished.
+/// - `chunk` 3: the bytes through the last end of a record of CSV with this byte between fields. A record ends at a line feed outside of
+///   quotes. The bytes begin with a record, and those after the last end may go on in what follows them.
+/// - Another `chunk`: 0.
 #[unsafe(no_mangle)]
-pub extern "C" fn ds_finished_csv_records(bytes: &[u8], delimiter: u8) -> usize
+pub extern "C" fn ds_finished(chunk: i32, bytes: &[u8], delimiter: u8) -> usize
     ensures bound { result ≤ length bytes.now }
-    ensures last { IsBehindLastEnd delimiter Start bytes.now result }
-    ensures records { SplitsAt (csv_records delimiter) bytes.now result }
+    ensures finished { IsFinishedIn (chunk_numbered chunk) delimiter bytes.now result }
 {
-    let (end, _) = finished_csv_records(delimiter, Place::Start, bytes);
-    end
+    match chunk_numbered(chunk) {
+        Some(Chunk::Words) => finished_words(bytes, Separator::AsciiWhitespace),
+        Some(Chunk::Lines) => finished_lines(bytes),
+        Some(Chunk::CsvRecords) => {
+            let (end, _) = finished_csv_records(delimiter, Place::Start, bytes);
+            end
+        }
+        None => 0,
+    }
 }
 
 /// Returns the number of bytes before the first that is not part of valid UTF-8. It is the number of all bytes if they

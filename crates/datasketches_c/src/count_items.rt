@@ -1,10 +1,11 @@
 //! Calls of Count-Min sketches for many items: add weights and read estimates.
 ghost use Rattle.std.specs.Prelude.{◌≡◌, ◌≢◌, length, map, pos};
 ghost use Rattle.datasketches_c.specs.CountCalls.{AddsEach, AddsWeights, EstimatesAll};
-ghost use Rattle.datasketches_c.specs.Estimates.{AreEstimates};
+ghost use Rattle.any_sketch.specs.Estimates.{AreEstimates};
 ghost use Rattle.datasketches_c.specs.Kinds.{ChangesKind, HoldsKind, count_i64_of, count_u64_of};
 ghost use Rattle.datasketches_c.specs.ManyItems.{OnItems, OnPlaces, fed_items, many, num_items, num_rows};
-ghost use Rattle.datasketches_c.specs.Numbers.{OnRefused, max_i64, no_room};
+ghost use Rattle.datasketches_c.specs.Numbers.{OnRefused, no_room};
+ghost use Rattle.any_sketch.specs.Updates.{max_i64};
 ghost use Rattle.datasketches_c.specs.Sharing.{reads};
 ghost use Rattle.datasketches_c.specs.ValidRows.{OnRows, OnWeights};
 

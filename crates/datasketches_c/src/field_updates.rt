@@ -3,18 +3,20 @@ ghost use Rattle.std.specs.Prelude.{◌≡◌, Some, length, pos};
 ghost use Rattle.sketch_text.specs.Decimals.{number_in, signed_in};
 ghost use Rattle.datasketches_c.specs.AnyUpdates.{WeighsWith};
 ghost use Rattle.datasketches_c.specs.CountCalls.{AddsWeights};
-ghost use Rattle.datasketches_c.specs.FieldUpdates.{InsertsFields, OnFields, OnRead, UpdatesFields, all_strings, fed_strings};
+ghost use Rattle.datasketches_c.specs.FieldUpdates.{OnFields, OnRead, UpdatesFields, all_strings, fed_strings};
 ghost use Rattle.datasketches_c.specs.FilterCalls.{InsertsInto};
-ghost use Rattle.datasketches_c.specs.Numbers.{max_i64, refusal_number};
+ghost use Rattle.datasketches_c.specs.Numbers.{refusal_number};
+ghost use Rattle.any_sketch.specs.Updates.{max_i64};
 
-use crate::any_sketch::{AnySketch, HeldSketch};
 use crate::any_updates::update_weighted_with;
 use crate::count::add_all_weighted;
 use crate::fields_argument::{FieldsArgument, FieldsRead, chosen_record};
 use crate::filter_items::insert_each;
 use crate::handle::SketchHandle;
+use crate::held_sketch::HeldSketch;
 use crate::items_argument::{GivenItems, GivenRows};
 use crate::status_code::{BAD_ARGUMENT, NO_SKETCH, OK, WRONG_KIND, refusal_number};
+use any_sketch::AnySketch;
 use sketch_base::ErrorKind;
 use sketch_bloom::BloomFilter;
 use sketch_countmin::CountMinSketch;
@@ -88,8 +90,33 @@ fn update_unsigned(
     }
 }
 
-/// Adds the items of records with their weights to a sketch that takes strings with weights. Weights have signs if those of the sketch
-/// do.
+/// Inserts the items in a field of records into a filter.
+fn insert_read(
+    alloc: Global,
+    filter: &mut BloomFilter,
+    chosen: WeighedRecord,
+    bytes: &[u8],
+    read: &mut FieldsRead,
+) -> i32
+    ensures { OnRead number_in 1 chosen bytes.now result read.old read.new (filter.new ≡ filter.old) (λ found.
+        InsertsInto filter.old filter.new (fed_strings found.items) result) }
+{
+    match RecordItems::<u64>::read(alloc, bytes, chosen) {
+        Ok(found) => {
+            note(&found, read);
+            let items = GivenItems {
+                rows: GivenRows::Offsets(found.items()),
+                validity: None,
+            };
+            insert_each(filter, items);
+            OK
+        }
+        Err(bad) => refused(bad, read),
+    }
+}
+
+/// Adds the items of records with their weights to a sketch that takes strings, or inserts them into a filter. Weights have signs if
+/// those of the sketch do.
 fn update_with(
     alloc: Global,
     sketch: &mut HeldSketch,
@@ -108,6 +135,9 @@ fn update_with(
         ),
         HeldSketch::Own(AnySketch::FrequentStrings(_)) => update_unsigned(
             alloc, sketch, chosen, bytes, read,
+        ),
+        HeldSketch::Own(AnySketch::Filter(filter)) => insert_read(
+            alloc, filter, chosen, bytes, read,
         ),
         _ => sketch.refusal_of_change(),
     }
@@ -131,8 +161,9 @@ fn update_chosen(
     answer
 }
 
-/// Adds the items in a field of records, in order, each with the weight in another field. The sketch is a Count-Min sketch or one of
-/// frequent strings. A record without the field is left out. Each item has the weight 1 if `weight` names no field.
+/// Adds the items in a field of records, in order, each with the weight in another field, to a Count-Min sketch or one of frequent
+/// strings. Inserts them into a filter, for which weights are only read. A record without the field is left out. Each item has the
+/// weight 1 if `weight` names no field.
 ///
 /// Returns the first of these errors, and then changes no sketch, and of `read` only what the third one says:
 ///
@@ -159,91 +190,4 @@ pub extern "C" fn ds_update_fields(
         return BAD_ARGUMENT;
     };
     update_chosen(alloc, handle, chosen, bytes, read)
-}
-
-/// Inserts the items in a field of records into a filter.
-fn insert_read(
-    alloc: Global,
-    filter: &mut BloomFilter,
-    chosen: WeighedRecord,
-    bytes: &[u8],
-    read: &mut FieldsRead,
-) -> i32
-    ensures { OnRead number_in 1 chosen bytes.now result read.old read.new (filter.new ≡ filter.old) (λ found.
-        InsertsInto filter.old filter.new (fed_strings found.items) result) }
-{
-    match RecordItems::<u64>::read(alloc, bytes, chosen) {
-        Ok(found) => {
-            note(&found, read);
-            let items = GivenItems {
-                rows: GivenRows::Offsets(found.items()),
-                validity: None,
-            };
-            insert_each(filter, items);
-            OK
-        }
-        Err(bad) => refused(bad, read),
-    }
-}
-
-/// Inserts the items in a field of records into a sketch that is a filter.
-fn insert_with(
-    alloc: Global,
-    sketch: &mut HeldSketch,
-    chosen: WeighedRecord,
-    bytes: &[u8],
-    read: &mut FieldsRead,
-) -> i32
-    ensures { InsertsFields chosen bytes.now (Some sketch.old) (Some sketch.new) read.old read.new result }
-{
-    match sketch {
-        HeldSketch::Own(AnySketch::Filter(filter)) => insert_read(
-            alloc, filter, chosen, bytes, read,
-        ),
-        _ => sketch.refusal_of_change(),
-    }
-}
-
-/// Inserts the items in a field of records into the filter of a handle.
-fn insert_chosen(
-    alloc: Global,
-    handle: &mut SketchHandle,
-    chosen: WeighedRecord,
-    bytes: &[u8],
-    read: &mut FieldsRead,
-) -> i32
-    ensures { InsertsFields chosen bytes.now handle.old.value handle.new.value read.old read.new result }
-{
-    let Some(mut sketch) = handle.take(alloc) else {
-        return NO_SKETCH;
-    };
-    let answer = insert_with(alloc, &mut *sketch, chosen, bytes, read);
-    handle.give(sketch);
-    answer
-}
-
-/// Inserts the items in a field of records, in order, into a filter. A record without the field is left out. If `weight` names a
-/// field, each record with an item needs a weight there.
-///
-/// Returns the first of these errors, and then changes no filter, and of `read` only what the third one says:
-///
-/// - `BAD_ARGUMENT` if the format is not known, the whole record of CSV is asked for, or the delimiter is not one of the format.
-/// - `NO_SKETCH` if the handle has no sketch, `SHARED` if its sketch is shared, and `WRONG_KIND` if it is of another kind.
-/// - The error of the first record with one, and writes at which byte it begins: `InvalidUtf8` if its item is not UTF-8, and
-///   `BadWeight` if it has no weight. `NoMemory` if the items of the records cannot be allocated.
-#[unsafe(no_mangle)]
-pub extern "C" fn ds_bloom_insert_fields(
-    alloc: Global,
-    handle: &mut SketchHandle,
-    bytes: &[u8],
-    fields: &FieldsArgument,
-    read: &mut FieldsRead,
-) -> i32
-    ensures { OnFields fields.now result ((handle.new.value ≡ handle.old.value) × (read.new ≡ read.old)) (λ chosen.
-        InsertsFields chosen bytes.now handle.old.value handle.new.value read.old read.new result) }
-{
-    let Some(chosen) = chosen_record(fields) else {
-        return BAD_ARGUMENT;
-    };
-    insert_chosen(alloc, handle, chosen, bytes, read)
 }

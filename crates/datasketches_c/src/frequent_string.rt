@@ -1,10 +1,8 @@
-//! Sketches of frequent strings: updates and bounds of one string, and reports.
+//! Reports on sketches of frequent strings.
 ghost use Rattle.std.specs.List.{concat};
 ghost use Rattle.std.specs.Prelude.{◌≡◌, ◌+◌, length, ◌≤◌, ◌^◌, MatchOption};
-ghost use Rattle.datasketches_c.specs.FrequentBatches.{AreBoundsOfString};
 ghost use Rattle.datasketches_c.specs.FrequentRows.{error_type};
 ghost use Rattle.datasketches_c.specs.FrequentStringRows.{LeavesStringRows, ReportsStrings, WritesStringRows, row_strings};
-ghost use Rattle.datasketches_c.specs.FrequentStrings.{UpdatesString};
 ghost use Rattle.datasketches_c.specs.Numbers.{OnDone, OnRefused, ok, no_room, refusal_number};
 ghost use Rattle.datasketches_c.specs.Strings.{offsets_from};
 
@@ -12,33 +10,6 @@ use crate::frequent_rows::{copy_bounds, error_type_of, first_rows};
 use crate::status_code::{NO_ROOM, OK, on_done, refusal_number};
 use sketch_base::Fault;
 use sketch_frequencies::{FrequentItemsSketch, ItemBounds, Row};
-use std::alloc::Global;
-
-/// Adds a weight to a string's. Returns the result's number. Allocates only if the string is not tracked.
-pub(crate) fn update_string(
-    alloc: Global,
-    sketch: &mut FrequentItemsSketch<String>,
-    item: &str,
-    weight: u64,
-) -> i32
-    ensures updates { UpdatesString sketch.old item.now weight sketch.new result }
-    ensures done { OnDone result (result ≡ ok) }
-    ensures refused { OnRefused result (sketch.new ≡ sketch.old) }
-{
-    on_done!(sketch.update_item_with_count(item, weight))
-}
-
-/// Writes the bounds and the estimate of a string's weight. Does not allocate.
-pub(crate) fn bounds_of_string(
-    sketch: &FrequentItemsSketch<String>,
-    item: &str,
-    bounds: &mut ItemBounds,
-) -> i32
-    ensures { (result ≡ ok) × AreBoundsOfString sketch.now item.now bounds.new }
-{
-    *bounds = sketch.bounds_item(item);
-    OK
-}
 
 /// Returns the number of bytes of all strings of rows, or `None` if it is 2^64 or more.
 fn num_bytes_of(rows: &[Row<String>]) -> Option<usize>

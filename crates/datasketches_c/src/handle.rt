@@ -3,10 +3,10 @@ ghost use Rattle.std.specs.Prelude.{◌≡◌, Option, None, Some, MatchOption};
 ghost use Rattle.std.specs.Coded.{coded_option};
 ghost use Rattle.std.specs.Option.{option_map};
 ghost use Rattle.datasketches_c.specs.Numbers.{OnDone, OnRefused, ok, refusal_number};
-ghost use Rattle.datasketches_c.specs.contracts.any_sketch.HeldSketch as held_sketch;
-ghost use Rattle.datasketches_c.specs.declared.any_sketch.HeldSketch as sketch;
+ghost use Rattle.datasketches_c.specs.contracts.held_sketch.HeldSketch as held_sketch;
+ghost use Rattle.datasketches_c.specs.declared.held_sketch.HeldSketch as sketch;
 
-use crate::any_sketch::HeldSketch;
+use crate::held_sketch::HeldSketch;
 use crate::raw_box::RawBox;
 use crate::status_code::{OK, refusal_number};
 use sketch_base::Fault;
@@ -23,7 +23,7 @@ pub struct SketchHandle {
 
 impl Model for SketchHandle {
     ghost use Rattle.std.specs.contracts.impls.GlobalAllocator.TheImpl.{ghosts};
-    ghost use Rattle.datasketches_c.specs.contracts.any_sketch.HeldSketch as held_sketch;
+    ghost use Rattle.datasketches_c.specs.contracts.held_sketch.HeldSketch as held_sketch;
     ghost use Rattle.datasketches_c.specs.Holding.{holds};
 
     ghost also_owns = { λ handle.

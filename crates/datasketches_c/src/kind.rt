@@ -3,12 +3,13 @@ ghost use Rattle.std.specs.Prelude.{◌≡◌, Option, Some, None, MatchOption, 
 ghost use Rattle.std.specs.Borrow.{sem, LendsIf};
 ghost use Rattle.datasketches_c.specs.Kinds.{filter_of, count_i64_of, count_u64_of, frequent_i64_of, frequent_u64_of, frequent_strings_of};
 ghost use Rattle.datasketches_c.specs.Sharing.{reads};
-ghost use Rattle.datasketches_c.specs.contracts.any_sketch.HeldSketch as held_sketch;
-ghost use Rattle.datasketches_c.specs.declared.any_sketch.AnySketch.TheVariants.{Filter, CountI64, CountU64, FrequentI64, FrequentU64, FrequentStrings};
-ghost use Rattle.datasketches_c.specs.declared.any_sketch.HeldSketch.{HeldSketch as OfAnyKind};
-ghost use Rattle.datasketches_c.specs.declared.any_sketch.HeldSketch.TheVariants.{Own};
+ghost use Rattle.datasketches_c.specs.contracts.held_sketch.HeldSketch as held_sketch;
+ghost use Rattle.any_sketch.specs.declared.any_sketch.AnySketch.TheVariants.{Filter, CountI64, CountU64, FrequentI64, FrequentU64, FrequentStrings};
+ghost use Rattle.datasketches_c.specs.declared.held_sketch.HeldSketch.{HeldSketch as OfAnyKind};
+ghost use Rattle.datasketches_c.specs.declared.held_sketch.HeldSketch.TheVariants.{Own};
 
-use crate::any_sketch::{AnySketch, HeldSketch};
+use crate::held_sketch::HeldSketch;
+use any_sketch::AnySketch;
 use sketch_bloom::BloomFilter;
 use sketch_countmin::CountMinSketch;
 use sketch_frequencies::FrequentItemsSketch;

@@ -1,11 +1,9 @@
-//! Laws of the items that calls take, and of the numbers of kinds.
+//! Laws of the items that calls take.
 ghost use Rattle.std.specs.Hash as fed;
 ghost use Rattle.std.specs.Int.{cast_unsigned, w64};
-ghost use Rattle.std.specs.Prelude.{ℕ, ℤ, pos, Some, ◌≡◌, ◌≤◌};
+ghost use Rattle.std.specs.Prelude.{ℕ, ℤ, pos, ◌≡◌, ◌≤◌};
 ghost use Rattle.sketch_base.specs.Hashes.{fed_bytes};
-ghost use Rattle.datasketches_c.specs.Numbers.{max_i64};
-ghost use Rattle.datasketches_c.specs.SketchKinds.{kind_numbered, number_of};
-ghost use Rattle.datasketches_c.specs.declared.sketch_kind.SketchKind.{SketchKind};
+ghost use Rattle.any_sketch.specs.Updates.{max_i64};
 
 /// States which bytes numbers feed. It does nothing.
 ///
@@ -14,9 +12,4 @@ ghost use Rattle.datasketches_c.specs.declared.sketch_kind.SketchKind.{SketchKin
 pub fn numbers_feed_bytes()
     ensures same { (n : ℕ) → n ≤ max_i64 → fed_bytes fed.u64 n ≡ fed_bytes fed.i64 (pos n) }
     ensures cast { (z : ℤ) → fed_bytes fed.i64 z ≡ fed_bytes fed.u64 (cast_unsigned w64 z) }
-{}
-
-/// States that each kind is the kind of its number. It does nothing.
-pub fn kinds_have_their_numbers()
-    ensures { (kind : SketchKind) → kind_numbered (pos (number_of kind)) ≡ Some kind }
 {}

@@ -1,4 +1,4 @@
-//! Sketches that were created, or read from images, and are put into handles.
+//! Sketches that were created, and are put into handles.
 ghost use Rattle.std.specs.Prelude.{◌≡◌, Some, Ok, MatchResult};
 ghost use Rattle.datasketches_c.specs.Numbers.{OnDone, OnRefused, ok, refusal_number};
 
@@ -22,29 +22,4 @@ pub(crate) fn put_made<K: Kind>(
         × MatchResult made (λ s. result ≡ refusal_number Fault.NoMemory) (λ e. result ≡ refusal_number e.fault)) }
 {
     on_done!(made, sketch => handle.put(alloc, sketch.into_held()))
-}
-
-/// Puts a sketch that was read into the handle, frees what the handle had, writes the number of bytes that were read, and
-/// returns `OK`.
-///
-/// Returns the error's number if no sketch was read, and `NoMemory` if an allocation fails. Then nothing changes.
-pub(crate) fn put_read<K: Kind>(
-    alloc: Global,
-    handle: &mut SketchHandle,
-    read: Result<(K, usize), Error>,
-    used: &mut usize,
-) -> i32
-    ensures done { OnDone result ((result ≡ ok)
-        × ((s : K) × (read ≡ Ok (s, used.new)) × (handle.new.value ≡ Some (K.whole s)))) }
-    ensures refused { OnRefused result ((handle.new.value ≡ handle.old.value)
-        × MatchResult read (λ r. result ≡ refusal_number Fault.NoMemory) (λ e. result ≡ refusal_number e.fault)) }
-    ensures untouched { OnRefused result (used.new ≡ used.old) }
-{
-    on_done!(read, (sketch, length) => {
-            let result = handle.put(alloc, sketch.into_held());
-            if result == OK {
-                *used = length;
-            }
-            result
-        })
 }

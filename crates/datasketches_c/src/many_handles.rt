@@ -6,8 +6,8 @@ ghost use Rattle.datasketches_c.specs.ManyHandles.{OnEachKind, found_in};
 ghost use Rattle.datasketches_c.specs.Numbers.{ok};
 ghost use Rattle.datasketches_c.specs.Sharing.{reads};
 
-use crate::any_sketch::HeldSketch;
 use crate::handle::SketchHandle;
+use crate::held_sketch::HeldSketch;
 use crate::kind::{Kind, reading_kind};
 use crate::status_code::OK;
 use std::alloc::{AllocError, Global};

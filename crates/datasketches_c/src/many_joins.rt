@@ -10,8 +10,8 @@ ghost use Rattle.datasketches_c.specs.ManyJoins.{IsMerged, IsUnited, MergesAllIn
 ghost use Rattle.datasketches_c.specs.Numbers.{OnRefused, ok};
 ghost use Rattle.datasketches_c.specs.Sharing.{reads};
 
-use crate::any_sketch::HeldSketch;
 use crate::handle::SketchHandle;
+use crate::held_sketch::HeldSketch;
 use crate::kind::Kind;
 use crate::many_handles::{give_all, refusal_of_handles, take_all, taken_parts};
 use crate::status_code::{OK, on_done, refusal_number};

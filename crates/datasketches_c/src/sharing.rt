@@ -2,11 +2,12 @@
 ghost use Rattle.std.specs.Prelude.{◌≡◌, ◌⊎◌, true, false, IfOk, IfErr, IsOk, not};
 ghost use Rattle.datasketches_c.specs.Numbers.{OnDone, OnRefused, ok, no, yes, no_sketch, not_shared, wrong_kind, refusal_number};
 ghost use Rattle.datasketches_c.specs.Sharing.{is_shared, unshared, HoldsShared, IsFreezeRefusal, IsShareOf, IsOwnOf, IsShareRefusal};
-ghost use Rattle.datasketches_c.specs.declared.any_sketch.HeldSketch.TheVariants.{Moved};
+ghost use Rattle.datasketches_c.specs.declared.held_sketch.HeldSketch.TheVariants.{Moved};
 
-use crate::any_sketch::{AnySketch, HeldSketch};
 use crate::handle::SketchHandle;
+use crate::held_sketch::HeldSketch;
 use crate::status_code::{NO, NO_SKETCH, NOT_SHARED, OK, WRONG_KIND, YES, refusal_number};
+use any_sketch::AnySketch;
 use sketch_base::Fault;
 use std::alloc::Global;
 use std::sync::Arc;

@@ -24,7 +24,7 @@ use Rattle.sketch_frequencies.specs.WeightedBatches.{all_weighed}
 use Rattle.sketch_frequencies.specs.declared.error_type.ErrorType.TheVariants.{NoFalseNegatives}
 use Rattle.sketch_frequencies.proofs.SuggestedSizes.{error_by_budget}
 use Rattle.sketches.specs.Added.{Sketch, AddsWeighed}
-use Rattle.sketches.specs.Images.{HasItems, IsMergeReport, IsMergedError, KeepsItems, Merges, ReportsItems, StopsMerge, WritesMerge, all_items}
+use Rattle.sketches.specs.Images.{HasItems, IsMergeReport, IsMergedError, KeepsItems, KeepsMerged, Merges, ReportsItems, StopsMerge, WritesMerge, all_items}
 use Rattle.sketches.specs.Inputs.{AreRead}
 use Rattle.sketches.specs.Outputs.{WritesFront}
 use Rattle.sketches.specs.Reports.{Counts, Row, Encloses, HasAll, IsBefore, IsErrorOf, IsListed, IsReport, Precedes, Reports, ShowsTop, WritesReport, WritesReportFront, report_text}
@@ -266,7 +266,7 @@ made_report : (options : Options) (all : List (List ℕ)) (fails : List Bool) (s
 made_report options all fails summary start s text new keeps empty (read, are, added, (grown, skipped)) fits shows =
     let items : Weighed = flat_map (weighed_of options.weighing) read in
     let r = reported_rows options.size items options.layout options.threshold options.rows s text (added_items options.size start s items new keeps added.0) shows in
-    (read, s, r.0, are, omega (arith, grown, fits.0), omega (arith, skipped, fits.1), added.1, subst (λ (t : Sketch). AddsWeighed t items s) empty added.0, r.1, r.2, shows.exactly)
+    (read, s, r.0, are, (omega (arith, grown, fits.0), omega (arith, skipped, fits.1)), added.1, subst (λ (t : Sketch). AddsWeighed t items s) empty added.0, r.1, r.2, shows.exactly)
 
 pub reported : (options : Options) (inputs : Option (List (List ℕ))) (fails : List Bool) (summary : Summary) (held holds : Option (List ℕ)) (start s : Sketch) (text : List ℕ)
     → StandsFor string_eq start (New options.size (max_sample_size options.size)) → KeepsTailBudget string_eq start (New options.size (max_sample_size options.size)) → start ≡ empty_state options.size (max_sample_size options.size) options.key
@@ -281,11 +281,11 @@ reported_front options None fails summary held holds start s text new keeps empt
 reported_front options (Some all) fails summary held holds start s text new keeps empty counted fits shows wrote = (summary, text, made_report options all fails summary start s text new keeps empty counted fits shows, wrote)
 
 -- the error of what was counted
-pub error_of : (options : Options) (inputs : Option (List (List ℕ))) (fails : List Bool) (start s : Sketch) (error : ℕ) (before after : Numbers) → start ≡ empty_state options.size (max_sample_size options.size) options.key
-    → CountsInputs options.weighing inputs fails start s before after → error ≡ s.error → IsErrorOf options inputs fails error
-error_of options None fails start s error before after empty counted is = tt
-error_of options (Some all) fails start s error before after empty (read, are, added, grown) is =
-    (read, s, are, subst (λ (t : Sketch). AddsWeighed t (flat_map (weighed_of options.weighing) read) s) empty added.0, is)
+pub error_of : (options : Options) (inputs : Option (List (List ℕ))) (fails : List Bool) (summary : Summary) (start s : Sketch) (error : ℕ) → start ≡ empty_state options.size (max_sample_size options.size) options.key
+    → CountsInputs options.weighing inputs fails start s (0, 0) (noted summary) → AreNoted summary → error ≡ s.error → IsErrorOf options inputs fails summary error
+error_of options None fails summary start s error empty counted fits is = tt
+error_of options (Some all) fails summary start s error empty (read, are, added, (grown, skipped)) fits is =
+    (read, s, are, (omega (arith, grown, fits.0), omega (arith, skipped, fits.1)), added.1, subst (λ (t : Sketch). AddsWeighed t (flat_map (weighed_of options.weighing) read) s) empty added.0, is)
 
 -- a report on a merged sketch
 made_merge : (options : MergeOptions) (all : List (List ℕ)) (s : Sketch) (text : List ℕ) → Merges options.images.max_bytes all s → ShowsTop s options.layout options.threshold options.rows text → IsMergeReport options all text
@@ -311,6 +311,11 @@ pub merge_kept : (limit : ℕ) (was : Option (List (List ℕ))) (kept : Option S
 merge_kept limit None kept s merges is = tt
 merge_kept limit (Some all) kept s merges is = same_kept (Merges limit all) kept s is merges
 
+-- it is kept with its key
+pub merge_kept_after : (options : MergeOptions) (was : Option (List (List ℕ))) (s : Sketch) (kept : Option Sketch) → IfSome was (λ all. Merges options.images.max_bytes all s) → s.key ≡ options.images.key → IfSome kept (λ t. t ≡ s) → IfSome was (λ all. KeepsMerged options all kept)
+merge_kept_after options None s kept merges key is = tt
+merge_kept_after options (Some all) s kept merges key is = same_kept (λ t. Merges options.images.max_bytes all t × (t.key ≡ options.images.key)) kept s is (merges, key)
+
 pub merge_error : (options : MergeOptions) (was : Option (List (List ℕ))) (s : Sketch) (error : ℕ) → IfSome was (λ all. Merges options.images.max_bytes all s) → error ≡ s.error → IfSome was (λ all. IsMergedError options all error)
 merge_error options None s error merges is = tt
 merge_error options (Some all) s error merges is = (s, merges, is)
@@ -321,7 +326,7 @@ pub merge_stopped : (options : MergeOptions) (was : Option (List (List ℕ))) (s
     → IfSome was (λ all. StopsMerge options all kept write_error held holds error)
 merge_stopped options None s kept write_error held holds error text merges key is shows failed wrote = tt
 merge_stopped options (Some all) s kept write_error held holds error text merges key is shows failed wrote =
-    (failed, (text, made_merge options all s text merges shows, wrote), same_kept (λ t. Merges options.images.max_bytes all t × (t.key ≡ options.images.key)) kept s is (merges, key))
+    (failed, (text, made_merge options all s text merges shows, wrote), merge_kept_after options (Some all) s kept merges key is)
 
 pub items_kept : (options : Options) (inputs : Option (List (List ℕ))) (fails : List Bool) (kept : Option Sketch) (start s : Sketch)
     → StandsFor string_eq start (New options.size (max_sample_size options.size)) → KeepsTailBudget string_eq start (New options.size (max_sample_size options.size)) → start ≡ empty_state options.size (max_sample_size options.size) options.key

@@ -24,6 +24,12 @@ abbrev pub IsOfOutput : Failure → Type 0
 IsOfOutput (Write error) = Unit {0}
 IsOfOutput _ = ⊥
 
+-- the failure may come after the sketch of a run was kept
+abbrev pub ComesAfterKeeping : Failure → Type 0
+ComesAfterKeeping Memory = Unit {0}
+ComesAfterKeeping (Write error) = Unit {0}
+ComesAfterKeeping _ = ⊥
+
 -- while strings are added to a sketch, the memory is exhausted, or the total would exceed `u64::MAX`
 abbrev pub FailsAdding : Sketch → List (List ℕ) → Failure → Type 0
 FailsAdding old strings Memory = Unit {0}

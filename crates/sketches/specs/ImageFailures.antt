@@ -68,6 +68,17 @@ IsWriteFailure TrailingBytes = ⊥
 IsWriteFailure TooManyItems = ⊥
 IsWriteFailure (Write error) = Unit {0}
 
+-- the failure may come after the merged sketch was kept
+abbrev pub ComesAfterKeeping : ImageFailure → Type 0
+ComesAfterKeeping Memory = Unit {0}
+ComesAfterKeeping NoImage = ⊥
+ComesAfterKeeping (Read error) = ⊥
+ComesAfterKeeping TooLong = ⊥
+ComesAfterKeeping (Rejected fault) = ⊥
+ComesAfterKeeping TrailingBytes = ⊥
+ComesAfterKeeping TooManyItems = ⊥
+ComesAfterKeeping (Write error) = Unit {0}
+
 -- the output could not be written, and `output` holds of the error
 abbrev pub IsOfWrite : (output : Error → Type 0) → ImageFailure → Type 0
 IsOfWrite output Memory = ⊥

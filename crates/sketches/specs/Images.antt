@@ -106,11 +106,15 @@ IsMergedError options images error = (s : Sketch) × Merges options.images.max_b
 abbrev pub WritesMerge : MergeOptions → List (List ℕ) → (held holds : Option (List ℕ)) → Type 0
 WritesMerge options images held holds = (text : List ℕ) × IsMergeReport options images text × Appends held holds text
 
+-- the sketch that was kept is the merged sketch, and its table hashes under the key of the run
+abbrev pub KeepsMerged : MergeOptions → List (List ℕ) → (kept : Option Sketch) → Type 0
+KeepsMerged options images kept = IfSome kept (λ s. Merges options.images.max_bytes images s × (s.key ≡ options.images.key))
+
 -- A write has failed with this error. The output received the front of a report on the merged sketch, which was kept before.
 abbrev pub StopsMerge : MergeOptions → List (List ℕ) → (kept : Option Sketch) → (write_error : Option Error) → (held holds : Option (List ℕ)) → Error → Type 0
 StopsMerge options images kept write_error held holds error =
     (write_error ≡ Some error) × ((text : List ℕ) × IsMergeReport options images text × WritesFront held holds text)
-    × IfSome kept (λ s. Merges options.images.max_bytes images s × (s.key ≡ options.images.key))
+    × KeepsMerged options images kept
 
 -- The writer received an image of the sketch, as `serialize` writes it. If the sketch has items, the bytes are an image of a sketch
 -- of these items.

@@ -24,6 +24,7 @@ use Rattle.sketches.specs.Thresholds.{IsAbove}
 use Rattle.sketches.specs.Skipped.{skipped_in}
 use Rattle.sketches.specs.Utf8Lines.{not_utf8_in}
 use Rattle.sketches.specs.Weighed.{Weighed, records_of, splits_of, total_of, unweighed_of, weight_of, weighed_of}
+use Rattle.sketches.specs.declared.item.weighing.Weighing.{Weighing}
 use Rattle.sketches.specs.declared.print.layout.Layout.{Layout}
 use Rattle.sketches.specs.declared.print.layout.Style.{Style}
 use Rattle.sketches.specs.declared.print.layout.Style.TheVariants.{Plain, Escaped, Json}
@@ -128,23 +129,31 @@ abbrev pub Counts : Options → (read : List (List ℕ)) → Sketch → Type 0
 Counts options read s =
     AddsWeighed (empty_state options.size (max_sample_size options.size) options.key) (flat_map (weighed_of options.weighing) read) s
 
+-- the summary has the number of these records whose items are not UTF-8, and the number of those that have an item and no weight, and whose
+-- weight is 0
+abbrev pub HasNumbers : Weighing → (records : List (List ℕ)) → Summary → Type 0
+HasNumbers chosen records summary =
+    (summary.not_utf8 ≡ min (not_utf8_in chosen records) (2 ^ 64 - 1))
+    × (summary.unweighed ≡ min (skipped_in chosen records) (2 ^ 64 - 1))
+
 -- The text is a report on the items of what was read of the inputs, whose records all have weights. Its error is that of the sketch
--- that counts them. If exact numbers are wanted, it is 0. The summary has the number of these records whose items are not UTF-8, and the
--- number of those that have an item and no weight, and whose weight is 0.
+-- that counts them. If exact numbers are wanted, it is 0. The summary has the numbers of these records.
 abbrev pub IsReport : Options → List (List ℕ) → (fails : List Bool) → Summary → List ℕ → Type 0
 IsReport options inputs fails summary text =
     (read : List (List ℕ)) × (s : Sketch) × (rows : List Row) × AreRead (splits_of options.weighing) fails inputs read
-    × (summary.not_utf8 ≡ min (not_utf8_in options.weighing (flat_map (records_of options.weighing) read)) (2 ^ 64 - 1))
-    × (summary.unweighed ≡ min (skipped_in options.weighing (flat_map (records_of options.weighing) read)) (2 ^ 64 - 1))
+    × HasNumbers options.weighing (flat_map (records_of options.weighing) read) summary
     × (flat_map (unweighed_of options.weighing) read ≡ []) × Counts options read s
     × (text ≡ report_text options.layout s.error (total_of (flat_map (weighed_of options.weighing) read)) rows)
     × Reports (flat_map (weighed_of options.weighing) read) options.size options.threshold options.rows s.error rows
     × (options.layout.exact ≡ true → s.error ≡ 0)
 
--- exact numbers are not to be had: the error is that of the sketch that counts what was read
-abbrev pub IsErrorOf : Options → Option (List (List ℕ)) → (fails : List Bool) → (error : ℕ) → Type 0
-IsErrorOf options inputs fails error = IfSome inputs (λ all.
-    (read : List (List ℕ)) × (s : Sketch) × AreRead (splits_of options.weighing) fails all read × Counts options read s × (error ≡ s.error))
+-- Exact numbers are not to be had: the error is that of the sketch that counts what was read, whose records all have weights. The summary has
+-- the numbers of these records.
+abbrev pub IsErrorOf : Options → Option (List (List ℕ)) → (fails : List Bool) → Summary → (error : ℕ) → Type 0
+IsErrorOf options inputs fails summary error = IfSome inputs (λ all.
+    (read : List (List ℕ)) × (s : Sketch) × AreRead (splits_of options.weighing) fails all read
+    × HasNumbers options.weighing (flat_map (records_of options.weighing) read) summary
+    × (flat_map (unweighed_of options.weighing) read ≡ []) × Counts options read s × (error ≡ s.error))
 
 -- the output received a report on these inputs
 abbrev pub WritesReport : Options → Option (List (List ℕ)) → (fails : List Bool) → Summary → Option (List ℕ) → Option (List ℕ) → Type 0

@@ -43,11 +43,8 @@ public:
         return detail::written<std::uint16_t>(ds_bloom_suggest_num_hashes, num_bits, num_items);
     }
 
-    /* Inserts an item: `ds_bloom_insert_u64` and `_string`. */
-    template <class Item> outcome<> insert(const Item &item)
-    {
-        return detail::done(on_item(detail::item_calls{ds_bloom_insert_u64, ds_bloom_insert_string}, item));
-    }
+    /* Inserts an item: `ds_bloom_insert`. */
+    template <class Item> outcome<> insert(const Item &item) { return detail::done(on_item(ds_bloom_insert, item)); }
 
     /* Inserts many items: `ds_bloom_insert_all`. */
     template <class Items> outcome<> insert_all(Items &&items) { return detail::done(on_items(ds_bloom_insert_all, items)); }
@@ -56,18 +53,15 @@ public:
         return detail::done(on_items(ds_bloom_insert_all, items));
     }
 
-    /* Inserts the item of each record: `ds_bloom_insert_fields`. Writes what was read, and where the first record with an error
+    /* Inserts the item of each record: `ds_update_fields`. Writes what was read, and where the first record with an error
      * begins. */
     outcome<> insert_fields(std::string_view bytes, const ds_fields &fields, ds_fields_read &read)
     {
-        return detail::done(ds_check_fields(ds_bloom_insert_fields, &handle_, detail::bytes_of(bytes).bytes, bytes.size(), &fields, &read));
+        return detail::done(ds_check_fields(ds_update_fields, &handle_, detail::bytes_of(bytes).bytes, bytes.size(), &fields, &read));
     }
 
-    /* Returns whether the filter contains the item: `ds_bloom_contains_u64` and `_string`. */
-    template <class Item> outcome<bool> contains(const Item &item)
-    {
-        return detail::yes(on_item(detail::item_calls{ds_bloom_contains_u64, ds_bloom_contains_string}, item));
-    }
+    /* Returns whether the filter contains the item: `ds_bloom_contains`. */
+    template <class Item> outcome<bool> contains(const Item &item) { return detail::yes(on_item(ds_bloom_contains, item)); }
 
     /* Writes for each item whether the filter contains it, to a range of as many `bool`: `ds_bloom_contains_all`. An error in a
      * block leaves the results of the blocks before it written. */
@@ -86,11 +80,10 @@ public:
         return results_of<bool>(ds_bloom_contains_all, items);
     }
 
-    /* Inserts an item, and returns whether the filter contained it before: `ds_bloom_contains_and_insert_u64` and `_string`. */
+    /* Inserts an item, and returns whether the filter contained it before: `ds_bloom_contains_and_insert`. */
     template <class Item> outcome<bool> contains_and_insert(const Item &item)
     {
-        constexpr detail::item_calls calls{ds_bloom_contains_and_insert_u64, ds_bloom_contains_and_insert_string};
-        return detail::yes(on_item(calls, item));
+        return detail::yes(on_item(ds_bloom_contains_and_insert, item));
     }
 
     /* Inserts many items, and writes for each whether the filter contained it before, to a range of as many `bool`:
@@ -110,15 +103,15 @@ public:
         return results_of<bool>(ds_bloom_contains_and_insert_all, items);
     }
 
-    /* Keeps the positions that both filters have, or removes the other's: `ds_bloom_intersect` and `ds_bloom_difference`.
+    /* Keeps the positions that both filters have, or removes the other's: `ds_join`.
      * `merge` unites. The filter itself as the other is DS_BAD_ARGUMENT. */
     outcome<> intersect(bloom_filter &other)
     {
-        return detail::done(ds_check_two_handles(ds_bloom_intersect, &handle_, &other.handle_));
+        return detail::done(ds_check_join(ds_join, &handle_, &other.handle_, DS_JOIN_INTERSECTION));
     }
     outcome<> difference(bloom_filter &other)
     {
-        return detail::done(ds_check_two_handles(ds_bloom_difference, &handle_, &other.handle_));
+        return detail::done(ds_check_join(ds_join, &handle_, &other.handle_, DS_JOIN_DIFFERENCE));
     }
 };
 
@@ -134,12 +127,11 @@ public:
     {
     }
 
-    /* Returns whether the filter contains the item: `ds_bloom_image_contains_u64` and `_string`. */
+    /* Returns whether the filter contains the item: `ds_bloom_image_contains`. */
     template <class Item> outcome<bool> contains(const Item &item) const
     {
-        constexpr detail::item_calls calls{ds_bloom_image_contains_u64, ds_bloom_image_contains_string};
-        auto make = [&](auto... parts) { return on_image(parts...); };
-        return detail::yes(calls.run(detail::to_item<detail::any_item>(item), make));
+        auto make = [&](const ds_item *plain) { return on_image(ds_bloom_image_contains, plain); };
+        return detail::yes(detail::on_item<detail::any_item>(item, make));
     }
 
     /* Writes for each item whether the filter contains it, to a range of as many `bool`: `ds_bloom_image_contains_all`. An error

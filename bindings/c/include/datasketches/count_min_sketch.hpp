@@ -14,29 +14,27 @@ template <class W> struct count_min_calls {};
 
 template <> struct count_min_calls<std::uint64_t> {
     static constexpr std::int32_t kind = DS_COUNT_MIN_U64;
-    static constexpr item_calls update{ds_count_min_u64_update_u64, ds_count_min_u64_update_string};
-    static constexpr item_calls estimate{ds_count_min_u64_estimate_u64, ds_count_min_u64_estimate_string};
+    static constexpr auto estimate = ds_count_min_u64_estimate;
     static constexpr auto estimate_all = ds_count_min_u64_estimate_all;
-    static constexpr item_calls upper_bound{ds_count_min_u64_upper_bound_u64, ds_count_min_u64_upper_bound_string};
-    static constexpr item_calls image_estimate{ds_count_min_u64_image_estimate_u64, ds_count_min_u64_image_estimate_string};
+    static constexpr auto upper_bound = ds_count_min_u64_upper_bound;
+    static constexpr auto image_estimate = ds_count_min_u64_image_estimate;
 };
 
 template <> struct count_min_calls<std::int64_t> {
     static constexpr std::int32_t kind = DS_COUNT_MIN_I64;
-    static constexpr item_calls update{ds_count_min_i64_update_u64, ds_count_min_i64_update_string};
-    static constexpr item_calls estimate{ds_count_min_i64_estimate_u64, ds_count_min_i64_estimate_string};
+    static constexpr auto estimate = ds_count_min_i64_estimate;
     static constexpr auto estimate_all = ds_count_min_i64_estimate_all;
-    static constexpr item_calls upper_bound{ds_count_min_i64_upper_bound_u64, ds_count_min_i64_upper_bound_string};
-    static constexpr item_calls image_estimate{ds_count_min_i64_image_estimate_u64, ds_count_min_i64_image_estimate_string};
+    static constexpr auto upper_bound = ds_count_min_i64_upper_bound;
+    static constexpr auto image_estimate = ds_count_min_i64_image_estimate;
 };
 
 } /* namespace detail */
 
-/* A Count-Min sketch with weights in `W`: `std::uint64_t`, or `std::int64_t`, which may be below 0. The C calls on an item are
- * named `ds_count_min_u64_..` and `ds_count_min_i64_..`. */
+/* A Count-Min sketch with weights in `W`: `std::uint64_t`, or `std::int64_t`, which may be below 0. The C calls are named
+ * `ds_count_min_u64_..` and `ds_count_min_i64_..`. */
 template <class W>
 class count_min_sketch
-    : public detail::weighted<count_min_sketch<W>, detail::any_item, W, detail::count_min_calls<W>>,
+    : public detail::weighted<count_min_sketch<W>, detail::any_item, W>,
       public detail::comparable<count_min_sketch<W>> {
     static_assert(std::is_same_v<W, std::int64_t> || std::is_same_v<W, std::uint64_t>,
                   "the weights of count_min_sketch are std::int64_t or std::uint64_t");
@@ -75,13 +73,13 @@ public:
         return detail::written<std::uint8_t>(ds_count_min_suggest_num_hashes, questions);
     }
 
-    /* Returns the estimate of the item's weight: `.._estimate_u64` and `_string`. */
+    /* Returns the estimate of the item's weight: `.._estimate`. */
     template <class Item> outcome<W> estimate(const Item &item)
     {
         return detail::written<W>([&](W *found) { return this->on_item(calls::estimate, item, found); });
     }
 
-    /* Returns the estimate plus a margin: `.._upper_bound_u64` and `_string`. */
+    /* Returns the estimate plus a margin: `.._upper_bound`. */
     template <class Item> outcome<W> upper_bound(const Item &item)
     {
         return detail::written<W>([&](W *found) { return this->on_item(calls::upper_bound, item, found); });
@@ -138,12 +136,12 @@ public:
     {
     }
 
-    /* Returns the estimate of the item's weight: `.._image_estimate_u64` and `_string`. */
+    /* Returns the estimate of the item's weight: `.._image_estimate`. */
     template <class Item> outcome<W> estimate(const Item &item) const
     {
         return detail::written<W>([&](W *found) {
-            auto make = [&](auto call, auto... parts) { return on_image(call, seed_, parts..., found); };
-            return calls::image_estimate.run(detail::to_item<detail::any_item>(item), make);
+            auto make = [&](const ds_item *plain) { return on_image(calls::image_estimate, seed_, plain, found); };
+            return detail::on_item<detail::any_item>(item, make);
         });
     }
 

@@ -47,31 +47,25 @@ template <class T> struct frequent_items_calls {};
 
 template <> struct frequent_items_calls<std::uint64_t> {
     static constexpr std::int32_t kind = DS_FREQUENT_ITEMS_U64;
-    static constexpr item_calls update{ds_frequent_items_u64_update, nullptr};
-    static constexpr item_calls bounds{ds_frequent_items_u64_bounds, nullptr};
     static constexpr auto rows = ds_frequent_items_u64_rows;
 };
 
 template <> struct frequent_items_calls<std::int64_t> {
     static constexpr std::int32_t kind = DS_FREQUENT_ITEMS_I64;
-    static constexpr item_calls update{ds_frequent_items_i64_update, nullptr};
-    static constexpr item_calls bounds{ds_frequent_items_i64_bounds, nullptr};
     static constexpr auto rows = ds_frequent_items_i64_rows;
 };
 
 template <> struct frequent_items_calls<std::string> {
     static constexpr std::int32_t kind = DS_FREQUENT_ITEMS_STRING;
-    static constexpr item_calls update{nullptr, ds_frequent_items_string_update};
-    static constexpr item_calls bounds{nullptr, ds_frequent_items_string_bounds};
     static constexpr auto rows = ds_frequent_items_string_rows;
 };
 
 } /* namespace detail */
 
 /* A sketch of the items of the largest weights. `T` is `std::string`, `std::int64_t` or `std::uint64_t`. Weights are
- * `std::uint64_t`. The C calls on an item are named `ds_frequent_items_string_..`, `.._i64_..` and `.._u64_..`. */
+ * `std::uint64_t`. */
 template <class T>
-class frequent_items : public detail::weighted<frequent_items<T>, T, std::uint64_t, detail::frequent_items_calls<T>> {
+class frequent_items : public detail::weighted<frequent_items<T>, T, std::uint64_t> {
     static_assert(std::is_same_v<T, std::string> || std::is_same_v<T, std::int64_t> || std::is_same_v<T, std::uint64_t>,
                   "the items of frequent_items are std::string, std::int64_t or std::uint64_t");
 
@@ -79,7 +73,7 @@ class frequent_items : public detail::weighted<frequent_items<T>, T, std::uint64
     using detail::owner<frequent_items<T>, T>::handle_;
 
 public:
-    using bounds_type = ds_frequent_items_bounds;
+    using bounds_type = ds_item_bounds;
 
     /* The kind, as in `ds_status`. */
     static constexpr std::int32_t kind = calls::kind;
@@ -124,13 +118,13 @@ public:
         return detail::made<frequent_items>(ds_frequent_items_new, kind, max_map_size, sample_size, &words);
     }
 
-    /* Returns the item's lower bound, estimate and upper bound: `.._bounds`. */
+    /* Returns the item's lower bound, estimate and upper bound: `ds_frequent_items_bounds`. */
     template <class Item> outcome<bounds_type> bounds(const Item &item)
     {
-        return detail::written<bounds_type>([&](auto *found) { return this->on_item(calls::bounds, item, found); });
+        return detail::written<bounds_type>([&](auto *found) { return this->on_item(ds_frequent_items_bounds, item, found); });
     }
 
-    /* Writes the bounds of each item to a contiguous range of as many `ds_frequent_items_bounds`:
+    /* Writes the bounds of each item to a contiguous range of as many `ds_item_bounds`:
      * `ds_frequent_items_bounds_all`. An error in a block leaves the bounds of the blocks before it written. */
     template <class Items, class Bounds> outcome<> bounds_all(Items &&items, Bounds &&found)
     {
@@ -147,7 +141,8 @@ public:
         return this->template results_of<bounds_type>(ds_frequent_items_bounds_all, items);
     }
 
-    /* Returns the rows whose bound exceeds the threshold and the sketch's error, at most `limit` of them: `.._rows`.
+    /* Returns the rows whose bound exceeds the threshold and the sketch's error, at most `limit` of them:
+     * `ds_frequent_items_string_rows`, `.._i64_rows` and `.._u64_rows`.
      *
      *     for (auto &[item, lower, estimate, upper] : sketch.rows(error_type::no_false_negatives)) .. */
     outcome<frequent_rows<T>> rows(error_type type, std::uint64_t threshold = 0, std::size_t limit = SIZE_MAX)

@@ -114,19 +114,16 @@ template <class T> T *place(span<T> values) { return values.data() ? values.data
 
 /* --- C calls on an item. --- */
 
-/* The C calls that do the same with a number and with a string. A call that a sketch lacks is `nullptr`. */
-template <class Number, class String> struct item_calls {
-    Number number;
-    String string;
+inline ds_item in_c(std::uint64_t number) { return ds_item_u64(number); }
+inline ds_item in_c(std::int64_t number) { return ds_item_i64(number); }
+inline ds_item in_c(ds_string string) { return {DS_ITEM_STRING, 0, string.bytes, string.length}; }
 
-    /* Runs `make` with the call for the item's type, and the arguments that are the item. */
-    template <class Item, class Make> std::int32_t run(Item item, Make make) const { return make(number, item); }
-    template <class Make> std::int32_t run(ds_string item, Make make) const
-    {
-        return item.bytes ? make(string, item.bytes, item.length) : DS_BAD_ARGUMENT;
-    }
-};
-template <class Number, class String> item_calls(Number, String) -> item_calls<Number, String>;
+/* Makes a C call on an item. */
+template <class As, class Item, class Call> std::int32_t on_item(const Item &item, Call call)
+{
+    const ds_item plain = in_c(to_item<As>(item));
+    return ds_item_has_null(&plain) ? DS_BAD_ARGUMENT : call(&plain);
+}
 
 /* --- Ranges. --- */
 

@@ -135,8 +135,8 @@ public:
     }
     outcome<std::size_t> serialized_size() { return written<std::size_t>(ds_serialized_bytes, &handle_); }
 
-    /* Merges the other sketch into this one, filters as a union: `ds_merge`. The sketch itself as the other is DS_BAD_ARGUMENT. */
-    outcome<> merge(Sketch &other) { return done(ds_check_two_handles(ds_merge, &handle_, other.get())); }
+    /* Merges the other sketch into this one, filters as a union: `ds_join`. The sketch itself as the other is DS_BAD_ARGUMENT. */
+    outcome<> merge(Sketch &other) { return done(ds_check_join(ds_join, &handle_, other.get(), DS_JOIN_MERGE)); }
 
     /* Merges all sketches of a contiguous range into this one: `ds_merge_all`. */
     template <class Others> outcome<> merge_all(Others &&others)
@@ -150,7 +150,10 @@ public:
     /* Removes all items and weights: `ds_reset`. */
     outcome<> reset() { return done(ds_reset(&handle_)); }
 
-    /* Returns the sketch's numbers. Those of other kinds are 0: `ds_get_status`. */
+    /* Returns a number of the sketch, as DS_NUMBER_TOTAL_WEIGHT: `ds_number`. */
+    outcome<std::uint64_t> number(std::int32_t which) { return written<std::uint64_t>(ds_number, &handle_, which); }
+
+    /* Returns all numbers of the sketch. Those of other kinds are 0: `ds_get_status`. */
     outcome<ds_status> status() { return written<ds_status>(ds_get_status, &handle_); }
 
     /* Returns how many bytes the sketch takes: `ds_memory_bytes`. */
@@ -169,10 +172,10 @@ public:
     outcome<bool> thaw() { return yes(ds_thaw(&handle_)); }
 
 protected:
-    /* Makes the call on an item of its type, with more arguments. */
-    template <class Calls, class Item, class... More> std::int32_t on_item(const Calls &calls, const Item &item, More... more)
+    /* Makes the call on an item, with more arguments. */
+    template <class Call, class Item, class... More> std::int32_t on_item(Call call, const Item &item, More... more)
     {
-        return calls.run(to_item<As>(item), [&](auto call, auto... parts) { return call(&handle_, parts..., more...); });
+        return detail::on_item<As>(item, [&](const ds_item *plain) { return call(&handle_, plain, more...); });
     }
 
     /* Makes the call on items, alone or with as many weights or results. */
@@ -191,14 +194,16 @@ protected:
 };
 
 /* What Count-Min sketches and frequent items have too: items with weights in `W`. */
-template <class Sketch, class As, class W, class Calls> class weighted : public owner<Sketch, As> {
+template <class Sketch, class As, class W> class weighted : public owner<Sketch, As> {
 public:
-    /* Adds 1, or a weight, to the item's: `.._update_u64` and `.._update_string` of Count-Min sketches, and `.._update` of frequent
-     * items. */
+    /* Adds 1, or a weight, to the item's: `ds_update`, or `ds_count_min_i64_update` for weights in `std::int64_t`. */
     template <class Item> outcome<> update(const Item &item) { return update(item, W{1}); }
     template <class Item, class Weight> outcome<> update(const Item &item, const Weight &weight)
     {
-        return done(this->on_item(Calls::update, item, to_weight<W>(weight)));
+        if constexpr (std::is_signed_v<W>)
+            return done(this->on_item(ds_count_min_i64_update, item, to_weight<W>(weight)));
+        else
+            return done(this->on_item(ds_update, item, to_weight<W>(weight)));
     }
 
     /* Adds 1 to the weight of each item: `ds_update_all`. If an item's own update returns an error, the items before it are

@@ -14,18 +14,19 @@ inline std::uint64_t keyed_hash(std::string_view bytes, key words) noexcept
 }
 
 /* Returns the number of bytes through the last byte of white space, through the last LF, through the last end of a record of CSV, and
- * before the first that is not UTF-8: `ds_finished_words`, `ds_finished_lines`, `ds_finished_csv_records` and `ds_valid_utf8`. */
+ * before the first that is not UTF-8: `ds_finished` and `ds_valid_utf8`. */
 inline std::size_t finished_words(std::string_view text) noexcept
 {
-    return ds_check_text(ds_finished_words, detail::bytes_of(text).bytes, text.size());
+    return ds_check_chunk(ds_finished, DS_CHUNK_WORDS, detail::bytes_of(text).bytes, text.size(), 0);
 }
 inline std::size_t finished_lines(std::string_view text) noexcept
 {
-    return ds_check_text(ds_finished_lines, detail::bytes_of(text).bytes, text.size());
+    return ds_check_chunk(ds_finished, DS_CHUNK_LINES, detail::bytes_of(text).bytes, text.size(), 0);
 }
 inline std::size_t finished_csv_records(std::string_view bytes, char delimiter = ',') noexcept
 {
-    return ds_check_csv(ds_finished_csv_records, detail::bytes_of(bytes).bytes, bytes.size(), static_cast<std::uint8_t>(delimiter));
+    return ds_check_chunk(ds_finished, DS_CHUNK_CSV_RECORDS, detail::bytes_of(bytes).bytes, bytes.size(),
+                          static_cast<std::uint8_t>(delimiter));
 }
 inline std::size_t valid_utf8(std::string_view text) noexcept
 {

@@ -176,46 +176,45 @@ impl BloomFilter {
     /// Returns the number of set bits.
     #[must_use]
     pub fn bits_used(&self) -> u64 {
-        self.0.status().bits_used
+        self.0.number(sys::DS_NUMBER_BITS_USED)
     }
 
     /// Returns the number of bits.
     #[must_use]
     pub fn capacity(&self) -> usize {
-        self.0.status().num_bits as usize
+        self.0.number(sys::DS_NUMBER_NUM_BITS) as usize
     }
 
     /// Returns the number of hashes, which is that of an item's positions.
     #[must_use]
     pub fn num_hashes(&self) -> u16 {
-        self.0.status().num_hashes
+        self.0.number(sys::DS_NUMBER_NUM_HASHES) as u16
     }
 
     /// Returns the seed.
     #[must_use]
     pub fn seed(&self) -> u64 {
-        self.0.status().seed
+        self.0.number(sys::DS_NUMBER_SEED)
     }
 
     /// Returns the share of bits that are set.
     #[must_use]
     pub fn load_factor(&self) -> f64 {
-        load_factor(&self.0.status())
+        self.bits_used() as f64 / self.capacity() as f64
     }
 
     /// Returns the load factor to the power of the number of hashes: an estimate of the false-positive rate,
     /// under ideal hashes.
     #[must_use]
     pub fn estimated_fpp(&self) -> f64 {
-        let status = self.0.status();
-        load_factor(&status).powf(status.num_hashes.into())
+        self.load_factor().powf(self.num_hashes().into())
     }
 
     /// Returns whether two filters have the same bits, hashes and seed, so that they can be combined.
     #[must_use]
     pub fn is_compatible(&self, other: &Self) -> bool {
-        let (a, b) = (self.0.status(), other.0.status());
-        (a.num_bits, a.num_hashes, a.seed) == (b.num_bits, b.num_hashes, b.seed)
+        (self.capacity(), self.num_hashes(), self.seed())
+            == (other.capacity(), other.num_hashes(), other.seed())
     }
 
     /// Returns the image.
@@ -330,10 +329,6 @@ impl BloomFilter {
     }
 }
 
-fn load_factor(status: &sys::ds_status) -> f64 {
-    status.bits_used as f64 / status.num_bits as f64
-}
-
 impl sealed::Owner for BloomFilter {
     fn from_handle(handle: Handle) -> Self {
         BloomFilter(handle)
@@ -366,13 +361,12 @@ impl Eq for BloomFilter {}
 
 impl fmt::Debug for BloomFilter {
     fn fmt(&self, formatter: &mut fmt::Formatter<'_>) -> fmt::Result {
-        let status = self.0.status();
         formatter
             .debug_struct("BloomFilter")
-            .field("capacity", &status.num_bits)
-            .field("num_hashes", &status.num_hashes)
-            .field("seed", &status.seed)
-            .field("bits_used", &status.bits_used)
+            .field("capacity", &self.capacity())
+            .field("num_hashes", &self.num_hashes())
+            .field("seed", &self.seed())
+            .field("bits_used", &self.bits_used())
             .finish()
     }
 }

@@ -67,19 +67,19 @@ impl<T: CountMinValue> CountMinSketch<T> {
     /// Returns the number of hashes, which is that of rows.
     #[must_use]
     pub fn num_hashes(&self) -> u8 {
-        self.handle.status().num_hashes as u8
+        self.handle.number(sys::DS_NUMBER_NUM_HASHES) as u8
     }
 
     /// Returns the number of buckets, which is that of cells in a row.
     #[must_use]
     pub fn num_buckets(&self) -> u32 {
-        self.handle.status().num_buckets
+        self.handle.number(sys::DS_NUMBER_NUM_BUCKETS) as u32
     }
 
     /// Returns the seed.
     #[must_use]
     pub fn seed(&self) -> u64 {
-        self.handle.status().seed
+        self.handle.number(sys::DS_NUMBER_SEED)
     }
 
     /// Returns the sum of all weights without their signs, halved and decayed as the sketch.
@@ -89,7 +89,7 @@ impl<T: CountMinValue> CountMinSketch<T> {
     }
 
     fn total(&self) -> u64 {
-        self.handle.status().total_weight
+        self.handle.number(sys::DS_NUMBER_TOTAL_WEIGHT)
     }
 
     /// Returns e over the number of buckets, which is the published formula's error in parts of the total.
@@ -301,8 +301,8 @@ impl<T: CountMinValue> CountMinSketch<T> {
     }
 
     fn has_shape_of(&self, other: &Self) -> bool {
-        let (a, b) = (self.handle.status(), other.handle.status());
-        (a.num_hashes, a.num_buckets, a.seed) == (b.num_hashes, b.num_buckets, b.seed)
+        (self.num_hashes(), self.num_buckets(), self.seed())
+            == (other.num_hashes(), other.num_buckets(), other.seed())
     }
 
     /// Returns the image. It is without the seed.
@@ -371,10 +371,11 @@ impl<T: CountMinValue> CountMinSketch<T> {
     /// Returns the errors of [`deserialize_with_options`](Self::deserialize_with_options).
     pub fn deserialize_prefix(bytes: &[u8], options: &ImageOptions) -> Result<(Self, usize), Error> {
         let (handle, used) = Handle::read(T::Cell::KIND, bytes, options)?;
-        if T::IS_NARROW && handle.status().total_weight > T::MAX {
+        let sketch = Self::from(handle);
+        if T::IS_NARROW && sketch.total() > T::MAX {
             return Err(Error::of_data(sys::DS_VALUE_OUT_OF_RANGE));
         }
-        Ok((Self::from(handle), used))
+        Ok((sketch, used))
     }
 
     /// Returns a copy, or an error if memory runs out.
@@ -429,13 +430,12 @@ impl<T: CountMinValue> Eq for CountMinSketch<T> {}
 
 impl<T: CountMinValue> fmt::Debug for CountMinSketch<T> {
     fn fmt(&self, formatter: &mut fmt::Formatter<'_>) -> fmt::Result {
-        let status = self.handle.status();
         formatter
             .debug_struct("CountMinSketch")
-            .field("num_hashes", &status.num_hashes)
-            .field("num_buckets", &status.num_buckets)
-            .field("seed", &status.seed)
-            .field("total_weight", &status.total_weight)
+            .field("num_hashes", &self.num_hashes())
+            .field("num_buckets", &self.num_buckets())
+            .field("seed", &self.seed())
+            .field("total_weight", &self.total())
             .finish()
     }
 }

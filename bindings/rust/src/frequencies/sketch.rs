@@ -88,13 +88,13 @@ impl<T: FrequentItemValue> FrequentItemsSketch<T> {
     /// Returns the number of items that have a counter.
     #[must_use]
     pub fn num_active_items(&self) -> usize {
-        self.handle.status().num_active_items as usize
+        self.handle.number(sys::DS_NUMBER_NUM_ACTIVE_ITEMS) as usize
     }
 
     /// Returns the sum of all weights.
     #[must_use]
     pub fn total_weight(&self) -> u64 {
-        self.handle.status().total_weight
+        self.handle.number(sys::DS_NUMBER_TOTAL_WEIGHT)
     }
 
     /// Returns the estimate of an item's weight: the upper bound if it has a counter, and 0 otherwise.
@@ -138,7 +138,7 @@ impl<T: FrequentItemValue> FrequentItemsSketch<T> {
         T: Borrow<Q>,
         Q: Eq + Hash + ?Sized,
     {
-        match must(with_item(item, |item| T::bounds(&self.handle, item).transpose())) {
+        match must(with_item(item, |item| self.handle.bounds::<T>(item).transpose())) {
             Some(bounds) => bounds,
             None => self.bounds_of_absent(),
         }
@@ -164,7 +164,7 @@ impl<T: FrequentItemValue> FrequentItemsSketch<T> {
     /// Returns the upper bound less the lower bound, of each item.
     #[must_use]
     pub fn maximum_error(&self) -> u64 {
-        self.handle.status().maximum_error
+        self.handle.number(sys::DS_NUMBER_MAXIMUM_ERROR)
     }
 
     /// Returns 3.5 over the maximum size: the error in parts of the total that the published crate states.
@@ -211,19 +211,19 @@ impl<T: FrequentItemValue> FrequentItemsSketch<T> {
     /// Returns the most counters at the maximum size: three quarters of it.
     #[must_use]
     pub fn maximum_map_capacity(&self) -> usize {
-        self.handle.status().maximum_map_capacity as usize
+        self.handle.number(sys::DS_NUMBER_MAXIMUM_MAP_CAPACITY) as usize
     }
 
     /// Returns the most counters before the table grows or is purged.
     #[must_use]
     pub fn current_map_capacity(&self) -> usize {
-        self.handle.status().current_map_capacity as usize
+        self.handle.number(sys::DS_NUMBER_CURRENT_MAP_CAPACITY) as usize
     }
 
     /// Returns the maximum size of the table, in slots.
     #[must_use]
     pub fn max_map_size(&self) -> usize {
-        self.handle.status().max_map_size as usize
+        self.handle.number(sys::DS_NUMBER_MAX_MAP_SIZE) as usize
     }
 
     /// Returns the binary logarithm of the maximum size.
@@ -241,7 +241,7 @@ impl<T: FrequentItemValue> FrequentItemsSketch<T> {
     /// Returns the number of counters that a purge samples.
     #[must_use]
     pub fn sample_size(&self) -> usize {
-        self.handle.status().sample_size as usize
+        self.handle.number(sys::DS_NUMBER_SAMPLE_SIZE) as usize
     }
 
     /// Sets the number of counters that later purges sample. A sketch that was read from an image has the
@@ -342,7 +342,7 @@ impl<T: FrequentItemValue> FrequentItemsSketch<T> {
     /// Adds a weight to the item that feeds a hasher the same. Returns nothing if there is none.
     #[inline]
     fn add<Q: Hash + ?Sized>(&mut self, item: &Q, count: u64) -> Result<Option<()>, Error> {
-        with_item(item, |item| T::update(&mut self.handle, item, count).transpose())
+        with_item(item, |item| self.handle.update::<T>(item, count).transpose())
     }
 
     /// Adds a weight to the item of a borrowed form whose `Hash` is not the item's.
@@ -538,13 +538,12 @@ impl<T: FrequentItemValue> Clone for FrequentItemsSketch<T> {
 
 impl<T: FrequentItemValue> fmt::Debug for FrequentItemsSketch<T> {
     fn fmt(&self, formatter: &mut fmt::Formatter<'_>) -> fmt::Result {
-        let status = self.handle.status();
         formatter
             .debug_struct("FrequentItemsSketch")
-            .field("max_map_size", &status.max_map_size)
-            .field("num_active_items", &status.num_active_items)
-            .field("total_weight", &status.total_weight)
-            .field("maximum_error", &status.maximum_error)
+            .field("max_map_size", &self.max_map_size())
+            .field("num_active_items", &self.num_active_items())
+            .field("total_weight", &self.total_weight())
+            .field("maximum_error", &self.maximum_error())
             .finish()
     }
 }

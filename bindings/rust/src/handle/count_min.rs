@@ -1,7 +1,8 @@
 //! The calls on Count-Min sketches.
 
 use super::filter::data;
-use super::{copied, done, overlap, Handle, Image, Items};
+use super::items::{apart_from, in_c};
+use super::{copied, done, Handle, Image, Items};
 use crate::error::Error;
 use crate::fed::Item;
 use crate::sys;
@@ -20,10 +21,8 @@ pub trait Cell: Copy + Default + Ord {
 }
 
 macro_rules! cell {
-    ($cell:ty, $kind:ident, $update_u64:ident, $update_string:ident, $update_fed:ident, $update_all:ident,
-     $estimate_u64:ident, $estimate_string:ident, $estimate_fed:ident, $estimate_all:ident, $bound_u64:ident,
-     $bound_string:ident, $bound_fed:ident, $image_u64:ident, $image_string:ident, $image_fed:ident,
-     $magnitude:expr) => {
+    ($cell:ty, $kind:ident, $update:ident, $update_all:ident, $estimate:ident, $estimate_all:ident,
+     $upper_bound:ident, $image_estimate:ident, $magnitude:expr) => {
         impl Cell for $cell {
             const KIND: i32 = sys::$kind;
 
@@ -39,18 +38,8 @@ macro_rules! cell {
 
             #[inline]
             fn update(handle: &mut Handle, item: Item<'_>, weight: Self) -> Result<(), Error> {
-                let sketch = handle.get();
-                // SAFETY: rules 2 and 3 hold, as the head of `handle` says.
-                let result = match item {
-                    Item::Number(number) => unsafe { sys::$update_u64(sketch, number, weight) },
-                    Item::Text(text) => unsafe {
-                        sys::$update_string(sketch, text.as_ptr(), text.len(), weight)
-                    },
-                    Item::Fed(bytes) => unsafe {
-                        sys::$update_fed(sketch, bytes.as_ptr(), bytes.len(), weight)
-                    },
-                };
-                done(result).map(drop)
+                // SAFETY: rules 2 and 3 hold, as the head of `handle` says: the item's bytes are borrowed.
+                done(unsafe { sys::$update(handle.get(), &in_c(item), weight) }).map(drop)
             }
 
             fn update_all(handle: &mut Handle, items: &Items<'_>, weights: &[Self]) -> Result<(), Error> {
@@ -64,18 +53,8 @@ macro_rules! cell {
 
             #[inline]
             fn estimate(handle: &Handle, item: Item<'_>) -> Result<Self, Error> {
-                let (sketch, mut estimate) = (handle.get(), 0);
-                // SAFETY: rules 2 and 3.
-                let result = match item {
-                    Item::Number(number) => unsafe { sys::$estimate_u64(sketch, number, &mut estimate) },
-                    Item::Text(text) => unsafe {
-                        sys::$estimate_string(sketch, text.as_ptr(), text.len(), &mut estimate)
-                    },
-                    Item::Fed(bytes) => unsafe {
-                        sys::$estimate_fed(sketch, bytes.as_ptr(), bytes.len(), &mut estimate)
-                    },
-                };
-                done(result).map(|_| estimate)
+                // SAFETY: as of `update`.
+                handle.written(|sketch, estimate| unsafe { sys::$estimate(sketch, &in_c(item), estimate) })
             }
 
             fn estimate_all(handle: &Handle, items: &Items<'_>, estimates: &mut [Self]) -> Result<(), Error> {
@@ -86,45 +65,17 @@ macro_rules! cell {
 
             #[inline]
             fn upper_bound(handle: &Handle, item: Item<'_>) -> Result<Self, Error> {
-                let (sketch, mut bound) = (handle.get(), 0);
-                // SAFETY: rules 2 and 3.
-                let result = match item {
-                    Item::Number(number) => unsafe { sys::$bound_u64(sketch, number, &mut bound) },
-                    Item::Text(text) => unsafe {
-                        sys::$bound_string(sketch, text.as_ptr(), text.len(), &mut bound)
-                    },
-                    Item::Fed(bytes) => unsafe {
-                        sys::$bound_fed(sketch, bytes.as_ptr(), bytes.len(), &mut bound)
-                    },
-                };
-                done(result).map(|_| bound)
+                // SAFETY: as of `update`.
+                handle.written(|sketch, bound| unsafe { sys::$upper_bound(sketch, &in_c(item), bound) })
             }
 
             #[inline]
             fn image_estimate(image: &[u8], seed: u64, item: Item<'_>) -> Result<Self, Error> {
-                let (place, length, mut estimate) = (image.as_ptr(), image.len(), 0);
-                let result = match item {
-                    // SAFETY: the image is borrowed while the call runs.
-                    Item::Number(number) => unsafe {
-                        sys::$image_u64(place, length, seed, number, &mut estimate)
-                    },
-                    Item::Text(text) if overlap(text, image) => {
-                        let apart = copied(text)?;
-                        return Self::image_estimate(image, seed, Item::Text(&apart));
-                    }
-                    // SAFETY: the string is borrowed, too, and does not overlap the image.
-                    Item::Text(text) => unsafe {
-                        sys::$image_string(place, length, seed, text.as_ptr(), text.len(), &mut estimate)
-                    },
-                    Item::Fed(bytes) if overlap(bytes, image) => {
-                        let apart = copied(bytes)?;
-                        return Self::image_estimate(image, seed, Item::Fed(&apart));
-                    }
-                    // SAFETY: as above.
-                    Item::Fed(bytes) => unsafe {
-                        sys::$image_fed(place, length, seed, bytes.as_ptr(), bytes.len(), &mut estimate)
-                    },
-                };
+                let mut estimate = 0;
+                // SAFETY: the image and the item's bytes are borrowed while the call runs, and do not overlap.
+                let result = apart_from(image, item, |image, length, item| unsafe {
+                    sys::$image_estimate(image, length, seed, item, &mut estimate)
+                })?;
                 data(result).map(|_| estimate)
             }
         }
@@ -134,39 +85,23 @@ macro_rules! cell {
 cell!(
     u64,
     DS_COUNT_MIN_U64,
-    ds_count_min_u64_update_u64,
-    ds_count_min_u64_update_string,
-    ds_count_min_u64_update_fed,
+    ds_update,
     ds_update_all_weighted,
-    ds_count_min_u64_estimate_u64,
-    ds_count_min_u64_estimate_string,
-    ds_count_min_u64_estimate_fed,
+    ds_count_min_u64_estimate,
     ds_count_min_u64_estimate_all,
-    ds_count_min_u64_upper_bound_u64,
-    ds_count_min_u64_upper_bound_string,
-    ds_count_min_u64_upper_bound_fed,
-    ds_count_min_u64_image_estimate_u64,
-    ds_count_min_u64_image_estimate_string,
-    ds_count_min_u64_image_estimate_fed,
+    ds_count_min_u64_upper_bound,
+    ds_count_min_u64_image_estimate,
     |number| number
 );
 cell!(
     i64,
     DS_COUNT_MIN_I64,
-    ds_count_min_i64_update_u64,
-    ds_count_min_i64_update_string,
-    ds_count_min_i64_update_fed,
+    ds_count_min_i64_update,
     ds_count_min_i64_update_all_weighted,
-    ds_count_min_i64_estimate_u64,
-    ds_count_min_i64_estimate_string,
-    ds_count_min_i64_estimate_fed,
+    ds_count_min_i64_estimate,
     ds_count_min_i64_estimate_all,
-    ds_count_min_i64_upper_bound_u64,
-    ds_count_min_i64_upper_bound_string,
-    ds_count_min_i64_upper_bound_fed,
-    ds_count_min_i64_image_estimate_u64,
-    ds_count_min_i64_image_estimate_string,
-    ds_count_min_i64_image_estimate_fed,
+    ds_count_min_i64_upper_bound,
+    ds_count_min_i64_image_estimate,
     i64::unsigned_abs
 );
 

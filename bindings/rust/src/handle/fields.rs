@@ -17,17 +17,4 @@ impl Handle {
         let result = unsafe { sys::ds_update_fields(self.get(), place, length, fields, &mut read) };
         (done(result).map(drop), read)
     }
-
-    /// Inserts the items of records.
-    pub(crate) fn insert_fields(
-        &mut self,
-        bytes: &[u8],
-        fields: &sys::ds_fields,
-    ) -> (Result<(), Error>, sys::ds_fields_read) {
-        let mut read = sys::ds_fields_read::default();
-        let (place, length) = (bytes.as_ptr(), bytes.len());
-        // SAFETY: as above.
-        let result = unsafe { sys::ds_bloom_insert_fields(self.get(), place, length, fields, &mut read) };
-        (done(result).map(drop), read)
-    }
 }

@@ -1,6 +1,7 @@
 //! The calls on filters.
 
-use super::{copied, done, overlap, Handle, Items, Text};
+use super::items::{apart_from, in_c};
+use super::{done, suggest, Handle, Items};
 use crate::error::Error;
 use crate::fed::Item;
 use crate::sys;
@@ -13,42 +14,20 @@ impl Handle {
 
     #[inline]
     pub(crate) fn insert(&mut self, item: Item<'_>) -> Result<(), Error> {
-        let handle = self.get();
-        // SAFETY: rules 2 and 3 hold, as the head of `handle` says.
-        let result = match item {
-            Item::Number(number) => unsafe { sys::ds_bloom_insert_u64(handle, number) },
-            Item::Text(text) => unsafe { sys::ds_bloom_insert_string(handle, text.as_ptr(), text.len()) },
-            Item::Fed(bytes) => unsafe { sys::ds_bloom_insert_fed(handle, bytes.as_ptr(), bytes.len()) },
-        };
-        done(result).map(drop)
+        // SAFETY: rules 2 and 3 hold, as the head of `handle` says: the item's bytes are borrowed.
+        done(unsafe { sys::ds_bloom_insert(self.get(), &in_c(item)) }).map(drop)
     }
 
     #[inline]
     pub(crate) fn contains(&self, item: Item<'_>) -> Result<bool, Error> {
-        let handle = self.get();
         // SAFETY: as above.
-        let result = match item {
-            Item::Number(number) => unsafe { sys::ds_bloom_contains_u64(handle, number) },
-            Item::Text(text) => unsafe { sys::ds_bloom_contains_string(handle, text.as_ptr(), text.len()) },
-            Item::Fed(bytes) => unsafe { sys::ds_bloom_contains_fed(handle, bytes.as_ptr(), bytes.len()) },
-        };
-        Ok(done(result)? > 0)
+        Ok(done(unsafe { sys::ds_bloom_contains(self.get(), &in_c(item)) })? > 0)
     }
 
     #[inline]
     pub(crate) fn contains_and_insert(&mut self, item: Item<'_>) -> Result<bool, Error> {
-        let handle = self.get();
         // SAFETY: as above.
-        let result = match item {
-            Item::Number(number) => unsafe { sys::ds_bloom_contains_and_insert_u64(handle, number) },
-            Item::Text(text) => unsafe {
-                sys::ds_bloom_contains_and_insert_string(handle, text.as_ptr(), text.len())
-            },
-            Item::Fed(bytes) => unsafe {
-                sys::ds_bloom_contains_and_insert_fed(handle, bytes.as_ptr(), bytes.len())
-            },
-        };
-        Ok(done(result)? > 0)
+        Ok(done(unsafe { sys::ds_bloom_contains_and_insert(self.get(), &in_c(item)) })? > 0)
     }
 
     pub(crate) fn insert_all(&mut self, items: &Items<'_>) -> Result<(), Error> {
@@ -74,13 +53,11 @@ impl Handle {
     }
 
     pub(crate) fn intersect(&mut self, other: &Handle) -> Result<(), Error> {
-        // SAFETY: the other handle is another one, since this one is `&mut`.
-        done(unsafe { sys::ds_bloom_intersect(self.get(), other.get()) }).map(drop)
+        self.join(other, sys::DS_JOIN_INTERSECTION)
     }
 
     pub(crate) fn difference(&mut self, other: &Handle) -> Result<(), Error> {
-        // SAFETY: as above.
-        done(unsafe { sys::ds_bloom_difference(self.get(), other.get()) }).map(drop)
+        self.join(other, sys::DS_JOIN_DIFFERENCE)
     }
 }
 
@@ -99,24 +76,10 @@ impl<'a> Image<'a> {
 
     #[inline]
     pub(crate) fn contains(&self, item: Item<'_>) -> Result<bool, Error> {
-        let (image, length) = (self.0.as_ptr(), self.0.len());
-        let result = match item {
-            // SAFETY: the image is borrowed while the call runs.
-            Item::Number(number) => unsafe { sys::ds_bloom_image_contains_u64(image, length, number) },
-            Item::Text(text) if overlap(text, self.0) => {
-                let apart = copied(text)?;
-                return self.contains(Item::Text(&apart));
-            }
-            // SAFETY: the string is borrowed, too, and does not overlap the image.
-            Item::Text(text) => unsafe {
-                sys::ds_bloom_image_contains_string(image, length, text.as_ptr(), text.len())
-            },
-            Item::Fed(bytes) => {
-                let mut result = [false];
-                self.contains_all(&Items::fed(&[Text::new(bytes)]), &mut result)?;
-                return Ok(result[0]);
-            }
-        };
+        // SAFETY: the image and the item's bytes are borrowed while the call runs, and do not overlap.
+        let result = apart_from(self.0, item, |image, length, item| unsafe {
+            sys::ds_bloom_image_contains(image, length, item)
+        })?;
         data(result).map(|result| result > 0)
     }
 
@@ -144,24 +107,16 @@ pub(super) fn data(result: i32) -> Result<i32, Error> {
 
 /// Returns the bits of a filter for a number of items, at one false positive in `questions`.
 pub(crate) fn suggest_num_bits(num_items: u64, questions: u64) -> Result<u64, Error> {
-    let mut num_bits = 0;
-    // SAFETY: rule 2.
-    done(unsafe { sys::ds_bloom_suggest_num_bits(num_items, questions, &mut num_bits) })?;
-    Ok(num_bits)
+    suggest(sys::DS_SIZE_NUM_BITS, num_items, questions)
 }
 
 /// Returns the least bits of a filter for a number of items, at one false positive in `questions`.
 pub(crate) fn min_num_bits(num_items: u64, questions: u64) -> Result<u64, Error> {
-    let mut num_bits = 0;
-    // SAFETY: rule 2.
-    done(unsafe { sys::ds_bloom_min_num_bits(num_items, questions, &mut num_bits) })?;
-    Ok(num_bits)
+    suggest(sys::DS_SIZE_MIN_NUM_BITS, num_items, questions)
 }
 
 /// Returns the hashes of a filter of `num_bits` bits for a number of items.
 pub(crate) fn suggest_num_hashes(num_bits: u64, num_items: u64) -> Result<u16, Error> {
-    let mut num_hashes = 0;
-    // SAFETY: rule 2.
-    done(unsafe { sys::ds_bloom_suggest_num_hashes(num_bits, num_items, &mut num_hashes) })?;
-    Ok(num_hashes)
+    // The library's numbers of hashes are at most 32767.
+    suggest(sys::DS_SIZE_FILTER_HASHES, num_bits, num_items).map(|hashes| hashes as u16)
 }

@@ -1,6 +1,7 @@
 //! The calls on frequent items.
 
-use super::{done, raw_key, zeros, Handle, Items};
+use super::items::in_c;
+use super::{done, raw_key, suggest, zeros, Handle, Items};
 use crate::error::Error;
 use crate::fed::Item;
 use crate::sys;
@@ -12,9 +13,11 @@ use crate::frequencies::ItemBounds as Bounds;
 /// A type of items that the library counts.
 pub trait Counted: Sized {
     const KIND: i32;
-    /// Adds a weight to the item that feeds a hasher this. Returns nothing if there is none.
-    fn update(handle: &mut Handle, item: Item<'_>, weight: u64) -> Option<Result<(), Error>>;
-    fn bounds(handle: &Handle, item: Item<'_>) -> Option<Result<Bounds, Error>>;
+    /// Makes a call on the item of this type that feeds a hasher this. Returns nothing if there is none.
+    fn with_item<R>(
+        item: Item<'_>,
+        call: impl FnOnce(*const sys::ds_item) -> Result<R, Error>,
+    ) -> Option<Result<R, Error>>;
     /// Returns a report, as rows that a function makes of an item and its bounds.
     fn rows<R>(
         handle: &Handle,
@@ -25,29 +28,17 @@ pub trait Counted: Sized {
 }
 
 macro_rules! number {
-    ($number:ty, $kind:ident, $update:ident, $bounds:ident, $rows:ident) => {
+    ($number:ty, $kind:ident, $item:ident, $rows:ident) => {
         impl Counted for $number {
             const KIND: i32 = sys::$kind;
 
             #[inline]
-            fn update(handle: &mut Handle, item: Item<'_>, weight: u64) -> Option<Result<(), Error>> {
+            fn with_item<R>(
+                item: Item<'_>,
+                call: impl FnOnce(*const sys::ds_item) -> Result<R, Error>,
+            ) -> Option<Result<R, Error>> {
                 match item {
-                    // SAFETY: rule 3 holds, as the head of `handle` says.
-                    Item::Number(number) => {
-                        let result = unsafe { sys::$update(handle.get(), number as $number, weight) };
-                        Some(done(result).map(drop))
-                    }
-                    Item::Text(_) | Item::Fed(_) => None,
-                }
-            }
-
-            #[inline]
-            fn bounds(handle: &Handle, item: Item<'_>) -> Option<Result<Bounds, Error>> {
-                match item {
-                    // SAFETY: rules 2 and 3.
-                    Item::Number(number) => Some(handle.written(|sketch, bounds| unsafe {
-                        sys::$bounds(sketch, number as $number, bounds)
-                    })),
+                    Item::Number(_) => Some(call(&sys::ds_item { kind: sys::$item, ..in_c(item) })),
                     Item::Text(_) | Item::Fed(_) => None,
                 }
             }
@@ -58,7 +49,7 @@ macro_rules! number {
                 threshold: u64,
                 row: impl Fn(Self, Bounds) -> R,
             ) -> Result<Vec<R>, Error> {
-                let room = handle.status().num_active_items as usize;
+                let room = handle.number(sys::DS_NUMBER_NUM_ACTIVE_ITEMS) as usize;
                 let mut items: Vec<$number> = zeros(room)?;
                 let mut bounds: Vec<Bounds> = zeros(room)?;
                 let mut count = 0;
@@ -87,62 +78,32 @@ macro_rules! number {
     };
 }
 
-number!(
-    u64,
-    DS_FREQUENT_ITEMS_U64,
-    ds_frequent_items_u64_update,
-    ds_frequent_items_u64_bounds,
-    ds_frequent_items_u64_rows
-);
-number!(
-    i64,
-    DS_FREQUENT_ITEMS_I64,
-    ds_frequent_items_i64_update,
-    ds_frequent_items_i64_bounds,
-    ds_frequent_items_i64_rows
-);
-
-/// Makes a call on the string that feeds a hasher this: its bytes and then 0xff. Returns nothing if there is
-/// none.
-#[inline]
-fn with_string<R>(item: Item<'_>, call: impl FnOnce(&[u8]) -> Result<R, Error>) -> Option<Result<R, Error>> {
-    let result = match item {
-        Item::Text(text) => call(text),
-        Item::Fed([text @ .., 0xff]) => call(text),
-        Item::Number(number) => match number.to_le_bytes() {
-            [text @ .., 0xff] => call(&text),
-            _ => return None,
-        },
-        Item::Fed(_) => return None,
-    };
-    match result {
-        Err(error) if error.code() == sys::DS_INVALID_UTF8 => None,
-        result => Some(result),
-    }
-}
+number!(u64, DS_FREQUENT_ITEMS_U64, DS_ITEM_U64, ds_frequent_items_u64_rows);
+number!(i64, DS_FREQUENT_ITEMS_I64, DS_ITEM_I64, ds_frequent_items_i64_rows);
 
 impl Counted for String {
     const KIND: i32 = sys::DS_FREQUENT_ITEMS_STRING;
 
+    /// The string's bytes and then 0xff are what is fed.
     #[inline]
-    fn update(handle: &mut Handle, item: Item<'_>, weight: u64) -> Option<Result<(), Error>> {
-        with_string(item, |text| {
-            let (place, length) = (text.as_ptr(), text.len());
-            // SAFETY: the string is borrowed while the call runs.
-            done(unsafe { sys::ds_frequent_items_string_update(handle.get(), place, length, weight) })
-                .map(drop)
-        })
-    }
-
-    #[inline]
-    fn bounds(handle: &Handle, item: Item<'_>) -> Option<Result<Bounds, Error>> {
-        with_string(item, |text| {
-            let (place, length) = (text.as_ptr(), text.len());
-            // SAFETY: as above.
-            handle.written(|sketch, bounds| unsafe {
-                sys::ds_frequent_items_string_bounds(sketch, place, length, bounds)
-            })
-        })
+    fn with_item<R>(
+        item: Item<'_>,
+        call: impl FnOnce(*const sys::ds_item) -> Result<R, Error>,
+    ) -> Option<Result<R, Error>> {
+        let call = |text: &[u8]| call(&in_c(Item::Text(text)));
+        let result = match item {
+            Item::Text(text) => call(text),
+            Item::Fed([text @ .., 0xff]) => call(text),
+            Item::Number(number) => match number.to_le_bytes() {
+                [text @ .., 0xff] => call(&text),
+                _ => return None,
+            },
+            Item::Fed(_) => return None,
+        };
+        match result {
+            Err(error) if error.code() == sys::DS_INVALID_UTF8 => None,
+            result => Some(result),
+        }
     }
 
     fn rows<R>(
@@ -152,7 +113,7 @@ impl Counted for String {
         row: impl Fn(Self, Bounds) -> R,
     ) -> Result<Vec<R>, Error> {
         // 16 bytes a string is a first guess. A second call has the room that the first one needs.
-        let mut room = handle.status().num_active_items as usize;
+        let mut room = handle.number(sys::DS_NUMBER_NUM_ACTIVE_ITEMS) as usize;
         let mut room_for_bytes = room.saturating_mul(16);
         loop {
             let mut bytes: Vec<u8> = zeros(room_for_bytes)?;
@@ -215,6 +176,21 @@ impl Handle {
         })
     }
 
+    /// Adds a weight to the item of a type that feeds a hasher this. Returns nothing if there is none.
+    #[inline]
+    pub(crate) fn update<T: Counted>(&mut self, item: Item<'_>, weight: u64) -> Option<Result<(), Error>> {
+        // SAFETY: rules 2 and 3 hold, as the head of `handle` says: the item's bytes are borrowed.
+        T::with_item(item, |item| done(unsafe { sys::ds_update(self.get(), item, weight) }).map(drop))
+    }
+
+    /// Returns the bounds of the item of a type that feeds a hasher this, or nothing if there is none.
+    #[inline]
+    pub(crate) fn bounds<T: Counted>(&self, item: Item<'_>) -> Option<Result<Bounds, Error>> {
+        // SAFETY: as above.
+        let call = |sketch, item, bounds| unsafe { sys::ds_frequent_items_bounds(sketch, item, bounds) };
+        T::with_item(item, |item| self.written(|sketch, bounds| call(sketch, item, bounds)))
+    }
+
     pub(crate) fn set_sample_size(&mut self, sample_size: usize) -> Result<(), Error> {
         // SAFETY: rule 3.
         done(unsafe { sys::ds_frequent_items_set_sample_size(self.get(), sample_size) }).map(drop)
@@ -233,8 +209,5 @@ impl Handle {
 
 /// Returns the smallest maximum size whose guarantee is an error of at most the total over `parts`.
 pub(crate) fn suggest_max_map_size(parts: usize) -> Result<usize, Error> {
-    let mut size = 0;
-    // SAFETY: rule 2.
-    done(unsafe { sys::ds_frequent_items_suggest_max_map_size(parts, &mut size) })?;
-    Ok(size)
+    suggest(sys::DS_SIZE_MAX_MAP_SIZE, parts as u64, 0).map(|size| size as usize)
 }

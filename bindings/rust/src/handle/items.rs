@@ -1,13 +1,43 @@
-//! Many items, the argument of one call on all of them.
+//! Items as arguments of calls: one, and many, of one call on all of them.
 
-use super::{done, overlap};
+use super::{copied, done, overlap};
 use crate::error::Error;
+use crate::fed::Item;
 use crate::sys;
 use std::marker::PhantomData;
 use std::ptr::NonNull;
 
 /// The kind of items of which two parts overlap. It is none of the library's, so each call rejects them.
 const OVERLAPPING: i32 = -1;
+
+/// Returns an item for a call, which may read its bytes while they are borrowed.
+#[inline]
+pub(super) fn in_c(item: Item<'_>) -> sys::ds_item {
+    let (kind, number, bytes): (i32, u64, &[u8]) = match item {
+        Item::Number(number) => (sys::DS_ITEM_U64, number, &[]),
+        Item::Text(text) => (sys::DS_ITEM_STRING, 0, text),
+        Item::Fed(bytes) => (sys::DS_ITEM_FED, 0, bytes),
+    };
+    sys::ds_item { kind, number, bytes: bytes.as_ptr(), length: bytes.len() }
+}
+
+/// Makes a call on an item and the bytes of an image. If the item's bytes overlap these, it is made on a copy.
+#[inline]
+pub(super) fn apart_from(
+    image: &[u8],
+    item: Item<'_>,
+    call: impl FnOnce(*const u8, usize, *const sys::ds_item) -> i32,
+) -> Result<i32, Error> {
+    let mut plain = in_c(item);
+    let copy;
+    if let Item::Text(bytes) | Item::Fed(bytes) = item {
+        if overlap(bytes, image) {
+            copy = copied(bytes)?;
+            plain.bytes = copy.as_ptr();
+        }
+    }
+    Ok(call(image.as_ptr(), image.len(), &plain))
+}
 
 /// A string of an array of strings, or bytes as a `Hash` feeds them.
 #[derive(Clone, Copy)]

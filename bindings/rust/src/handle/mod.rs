@@ -112,12 +112,13 @@ impl Handle {
         Ok(value)
     }
 
+    /// Returns a number that sketches of this kind have.
     #[inline]
-    pub(crate) fn status(&self) -> sys::ds_status {
+    pub(crate) fn number(&self, which: i32) -> u64 {
         // SAFETY: rules 2 and 3 hold, as the module's head says.
-        match self.written(|handle, status| unsafe { sys::ds_get_status(handle, status) }) {
-            Ok(status) => status,
-            Err(error) => unreachable!("a handle has a sketch: {}", error),
+        match self.written(|handle, value| unsafe { sys::ds_number(handle, which, value) }) {
+            Ok(value) => value,
+            Err(error) => unreachable!("sketches of this kind have the number {}: {}", which, error),
         }
     }
 
@@ -140,8 +141,13 @@ impl Handle {
     }
 
     pub(crate) fn merge(&mut self, other: &Handle) -> Result<(), Error> {
+        self.join(other, sys::DS_JOIN_MERGE)
+    }
+
+    /// Combines the sketch with another, as one of `DS_JOIN_MERGE` and so on says.
+    fn join(&mut self, other: &Handle, join: i32) -> Result<(), Error> {
         // SAFETY: the other handle is another one, since this one is `&mut`.
-        done(unsafe { sys::ds_merge(self.get(), other.get()) }).map(drop)
+        done(unsafe { sys::ds_join(self.get(), other.get(), join) }).map(drop)
     }
 
     pub(crate) fn merge_all<S: Whole>(&mut self, others: &[S]) -> Result<(), Error> {
@@ -252,12 +258,20 @@ pub(crate) fn version() -> &'static str {
 
 pub(crate) fn finished_words(text: &[u8]) -> usize {
     // SAFETY: rule 2.
-    unsafe { sys::ds_finished_words(text.as_ptr(), text.len()) }
+    unsafe { sys::ds_finished(sys::DS_CHUNK_WORDS, text.as_ptr(), text.len(), 0) }
 }
 
 pub(crate) fn finished_lines(text: &[u8]) -> usize {
     // SAFETY: rule 2.
-    unsafe { sys::ds_finished_lines(text.as_ptr(), text.len()) }
+    unsafe { sys::ds_finished(sys::DS_CHUNK_LINES, text.as_ptr(), text.len(), 0) }
+}
+
+/// Returns a size for error targets, which one of `DS_SIZE_MAX_MAP_SIZE` and so on names.
+fn suggest(size: i32, first: u64, second: u64) -> Result<u64, Error> {
+    let mut found = 0;
+    // SAFETY: rule 2.
+    done(unsafe { sys::ds_suggest(size, first, second, &mut found) })?;
+    Ok(found)
 }
 
 pub(crate) fn valid_utf8(text: &[u8]) -> usize {

@@ -1,7 +1,7 @@
 //! The most frequent items of inputs.
 ghost use Rattle.std.specs.Prelude.{◌≡◌, ◌⊎◌, ◌+◌, ◌<◌, true, IfErr, IfNone, IfOk, IfSome, IsErrOf, IsSome, OnOk};
 ghost use Rattle.sketch_frequencies.specs.Sizes.{size_fault};
-ghost use Rattle.sketches.specs.Failures.{FailsTop, IsOfOutput};
+ghost use Rattle.sketches.specs.Failures.{ComesAfterKeeping, FailsTop, IsOfOutput};
 ghost use Rattle.sketches.specs.Images.{KeepsItems, StopsTop};
 ghost use Rattle.sketches.specs.Inputs.{HaveLongRecord, none_fails};
 ghost use Rattle.sketches.specs.Reports.{IsErrorOf, WritesReport};
@@ -60,8 +60,8 @@ pub struct Summary {
 ///
 /// Returns `BadSize` if the size is not a power of two from 8 to 2^30, and then reads nothing. Returns `LineTooLong` if a line
 /// exceeds the limit, `BadWeight` if a line with an item has no weight, `TooManyItems` if the weights of all items are at least
-/// 2^64, and `Memory` if an allocation fails. The output is not written then. Returns `Write` if a write fails: then the output has
-/// the front of the report, and the sketch was kept.
+/// 2^64, and `Memory` if an allocation fails. The output is not written then, and no sketch is kept, except that `Memory` may come after
+/// it was. Returns `Write` if a write fails: then the output has the front of the report, and the sketch was kept.
 pub fn top<I: Inputs, K: Keeper, W: Output>(
     alloc: Global,
     options: Options,
@@ -73,7 +73,7 @@ pub fn top<I: Inputs, K: Keeper, W: Output>(
         (W.contents writer.old) (W.contents writer.new))) }
     ensures inexact { IfOk result (λ summary. IfSome summary.inexact
         (λ error. (options.layout.exact ≡ true) × (0 < error) × (writer.new ≡ writer.old))) }
-    ensures inexact_error { IfOk result (λ summary. IfSome summary.inexact (IsErrorOf options (I.inputs inputs.old) (I.fails inputs.old))) }
+    ensures inexact_error { IfOk result (λ summary. IfSome summary.inexact (IsErrorOf options (I.inputs inputs.old) (I.fails inputs.old) summary)) }
     ensures kept { OnOk result (KeepsItems options (I.inputs inputs.old) (I.fails inputs.old) (K.kept keeper.new)) }
     ensures complete { IfOk result (λ summary. IfSome (I.inputs inputs.old) (λ _. summary.complete ≡ none_fails (I.fails inputs.old))) }
 
@@ -84,6 +84,8 @@ pub fn top<I: Inputs, K: Keeper, W: Output>(
     ensures bad_size { IsSome (size_fault options.size) → IsErrOf result Failure.BadSize }
     ensures unread { IsErrOf result Failure.BadSize → inputs.new ≡ inputs.old }
     ensures unwritten { IfErr result (λ failure. IsOfOutput failure ⊎ (writer.new ≡ writer.old)) }
+    ensures unkept { IfErr result (λ failure. (keeper.new ≡ keeper.old)
+        ⊎ (ComesAfterKeeping failure × KeepsItems options (I.inputs inputs.old) (I.fails inputs.old) (K.kept keeper.new))) }
 {
     let sketch = FrequentItemsSketch::with_key(alloc, options.size, options.key)?;
     let mut counter = ItemCounter {

@@ -5,8 +5,8 @@ ghost use Rattle.sketch_frequencies.specs.History.FrequentHistory.{Merge};
 ghost use Rattle.sketch_frequencies.specs.Stands.{ExtendsBoth, ExtendsBothBudgets};
 ghost use Rattle.sketch_frequencies.specs.State.{IsState};
 ghost use Rattle.sketch_frequencies.specs.Steps.{JoinsEqual};
-ghost use Rattle.sketches.specs.ImageFailures.{EndsAdding, EndsMerge, IsWriteFailure};
-ghost use Rattle.sketches.specs.Images.{IsMergedError, Merges, StopsMerge, WritesMerge};
+ghost use Rattle.sketches.specs.ImageFailures.{ComesAfterKeeping, EndsAdding, EndsMerge, IsWriteFailure};
+ghost use Rattle.sketches.specs.Images.{IsMergedError, KeepsMerged, Merges, StopsMerge, WritesMerge};
 
 use crate::image::images::{ImageFailure, Images, read_image};
 use crate::image::save::Keeper;
@@ -38,8 +38,8 @@ pub struct MergeOptions {
 ///
 /// # Errors
 ///
-/// Returns those of [`merge_images`]. The output is not written then. Returns `Write` if a write fails: then the output has the front
-/// of the report, and the sketch was kept.
+/// Returns those of [`merge_images`]. The output is not written then, and no sketch is kept, except that `Memory` may come after it was.
+/// Returns `Write` if a write fails: then the output has the front of the report, and the sketch was kept.
 pub fn merge<I: Images, K: Keeper, W: Output>(
     alloc: Global,
     options: MergeOptions,
@@ -58,6 +58,8 @@ pub fn merge<I: Images, K: Keeper, W: Output>(
     ensures err { IfErr result (λ failure. IfSome (I.images images.old) (λ all. EndsMerge options.images.max_bytes all
         (StopsMerge options all (K.kept keeper.new) (W.failure writer.new) (W.contents writer.old) (W.contents writer.new)) failure)) }
     ensures unwritten { IfErr result (λ failure. IsWriteFailure failure ⊎ (writer.new ≡ writer.old)) }
+    ensures unkept { IfErr result (λ failure. (keeper.new ≡ keeper.old)
+        ⊎ (ComesAfterKeeping failure × IfSome (I.images images.old) (λ all. KeepsMerged options all (K.kept keeper.new)))) }
 {
     let sketch = merge_images(alloc, &options.images, images)?;
     keeper.keep(&sketch);

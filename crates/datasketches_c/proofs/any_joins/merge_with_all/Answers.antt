@@ -1,8 +1,8 @@
 use Rattle.std.proofs.Common.{ℤ, map, ap, subst, sym, ◌∙◌}
 use Rattle.datasketches_c.specs.AnyJoins.{MergesWithAll}
-use Rattle.datasketches_c.specs.declared.any_sketch.HeldSketch.{HeldSketch}
-use Rattle.datasketches_c.specs.declared.any_sketch.AnySketch.TheVariants.{Filter, CountI64, CountU64, FrequentI64, FrequentU64, FrequentStrings}
-use Rattle.datasketches_c.specs.declared.any_sketch.HeldSketch.TheVariants.{Own}
+use Rattle.datasketches_c.specs.declared.held_sketch.HeldSketch.{HeldSketch}
+use Rattle.any_sketch.specs.declared.any_sketch.AnySketch.TheVariants.{Filter, CountI64, CountU64, FrequentI64, FrequentU64, FrequentStrings}
+use Rattle.datasketches_c.specs.declared.held_sketch.HeldSketch.TheVariants.{Own}
 use Rattle.datasketches_c.proofs.AnswerLemmas.{handed_on}
 use Rattle.datasketches_c.proofs.any_joins.merge_with_all.Goals as goal
 

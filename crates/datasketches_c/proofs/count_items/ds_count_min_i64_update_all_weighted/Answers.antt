@@ -2,7 +2,7 @@ use Rattle.std.proofs.Common.{◌≡◌, ℤ, refl, rules, length}
 use Rattle.datasketches_c.specs.CountCalls.{AddsWeights}
 use Rattle.datasketches_c.specs.Kinds.{ChangesKind, HoldsKind, count_i64_of}
 use Rattle.datasketches_c.specs.ManyItems.{ManyItems, OnPlaces, fed_items, items_kind_numbered}
-use Rattle.datasketches_c.specs.Numbers.{max_i64}
+use Rattle.any_sketch.specs.Updates.{max_i64}
 use Rattle.datasketches_c.specs.ValidRows.{OnWeights}
 use Rattle.datasketches_c.proofs.ManyItemsLemmas.{on_given, on_refused}
 use Rattle.datasketches_c.proofs.count_items.ds_count_min_i64_update_all_weighted.Goals as goal

@@ -3,7 +3,7 @@ use Rattle.sketch_text.specs.Decimals.{signed_in}
 use Rattle.sketch_text.specs.RecordItems.{ItemsValue}
 use Rattle.datasketches_c.specs.CountCalls.{AddsWeights}
 use Rattle.datasketches_c.specs.FieldUpdates.{OnRead, fed_strings}
-use Rattle.datasketches_c.specs.Numbers.{max_i64}
+use Rattle.any_sketch.specs.Updates.{max_i64}
 use Rattle.datasketches_c.proofs.AnswerLemmas.{handed_on}
 use Rattle.datasketches_c.proofs.FieldLemmas.{items_read, record_refused}
 use Rattle.datasketches_c.proofs.field_updates.update_signed.Goals as goal

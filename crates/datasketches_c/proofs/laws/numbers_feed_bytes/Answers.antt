@@ -4,7 +4,7 @@ use Rattle.std.proofs.lemmas.Int.{of_z-to_z, to_z_pos}
 use mir.Syntax.{w64}
 use mir.Val.{of_z}
 use Rattle.sketch_base.specs.Hashes.{fed_bytes}
-use Rattle.datasketches_c.specs.Numbers.{max_i64}
+use Rattle.any_sketch.specs.Updates.{max_i64}
 use Rattle.datasketches_c.proofs.laws.numbers_feed_bytes.Goals as goal
 
 -- the bits of a number without a sign are its own

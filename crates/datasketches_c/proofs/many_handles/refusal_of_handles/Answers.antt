@@ -5,7 +5,7 @@ use Rattle.std.proofs.Math.Seq.{map-set_same}
 use Rattle.datasketches_c.specs.Kinds.{OnKind}
 use Rattle.datasketches_c.specs.ManyHandles.{OnEachKind}
 use Rattle.datasketches_c.specs.Numbers.{ok}
-use Rattle.datasketches_c.specs.declared.any_sketch.HeldSketch.{HeldSketch}
+use Rattle.datasketches_c.specs.declared.held_sketch.HeldSketch.{HeldSketch}
 use Rattle.datasketches_c.specs.declared.handle.SketchHandle.{SketchHandle}
 use Rattle.datasketches_c.specs.Sharing.{reads}
 use Rattle.datasketches_c.proofs.AnswerLemmas.{handed_on}

@@ -4,7 +4,7 @@ use Rattle.std.specs.Option.{option_map}
 use Rattle.std.proofs.lemmas.List.{take_all}
 use Rattle.datasketches_c.specs.ManyHandles.{found_in}
 use Rattle.datasketches_c.specs.Numbers.{ok}
-use Rattle.datasketches_c.specs.declared.any_sketch.HeldSketch.{HeldSketch}
+use Rattle.datasketches_c.specs.declared.held_sketch.HeldSketch.{HeldSketch}
 use Rattle.datasketches_c.specs.Sharing.{reads}
 use Rattle.datasketches_c.proofs.ManyHandleLemmas.{some_taken}
 use Rattle.datasketches_c.proofs.many_handles.taken_parts.Goals as goal

@@ -5,7 +5,7 @@ use Rattle.std.specs.Global.{Global}
 use Rattle.std.specs.Option.{option_map}
 use Rattle.datasketches_c.specs.ManyHandles.{OnEachKind, OrNoMemory}
 use Rattle.datasketches_c.specs.Numbers.{ok}
-use Rattle.datasketches_c.specs.declared.any_sketch.HeldSketch.{HeldSketch}
+use Rattle.datasketches_c.specs.declared.held_sketch.HeldSketch.{HeldSketch}
 use Rattle.datasketches_c.specs.declared.handle.SketchHandle.{SketchHandle}
 use Rattle.datasketches_c.specs.Sharing.{reads}
 use Rattle.datasketches_c.proofs.AnswerLemmas.{handed_on}

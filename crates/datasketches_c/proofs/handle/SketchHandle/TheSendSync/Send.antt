@@ -12,10 +12,10 @@ use Rattle.std.specs.contracts.impls.GlobalAllocator.TheImpl.{ghosts}
 use Rattle.std.proofs.Crossing as heap
 use Rattle.std_alloc.proofs.SendSync.{quiet, lies}
 use Rattle.std_heap.proofs.Global.TheSendSync as allocator
-use Rattle.datasketches_c.proofs.any_sketch.HeldSketch.TheSendSync as sketch_crosses
+use Rattle.datasketches_c.proofs.held_sketch.HeldSketch.TheSendSync as sketch_crosses
 use Rattle.datasketches_c.specs.Holding.{holds}
-use Rattle.datasketches_c.specs.declared.any_sketch.HeldSketch as sketch
-use Rattle.datasketches_c.specs.contracts.any_sketch.HeldSketch as held_sketch
+use Rattle.datasketches_c.specs.declared.held_sketch.HeldSketch as sketch
+use Rattle.datasketches_c.specs.contracts.held_sketch.HeldSketch as held_sketch
 use Rattle.datasketches_c.specs.contracts.handle.SketchHandle.{the_row, the_type}
 
 holds_keyless : (a : Global) (p : Ptr) (held : Option sketch.HeldSketch) → Keyless (holds (ghosts.dealloc_token a) held_sketch.the_row p held)

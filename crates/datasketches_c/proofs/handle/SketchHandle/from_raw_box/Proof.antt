@@ -19,7 +19,7 @@ use denote.Triple.Walked.{Stays, stay_dropped, walk_of}
 use Rattle.core.proofs.alloc.Calls.{Goes-blank}
 use Rattle.std.specs.contracts.impls.GlobalAllocator.TheImpl.{ghosts}
 use Rattle.std.proofs.raw_atomic.Walks.{proved_at, leaves}
-use Rattle.datasketches_c.specs.declared.any_sketch.HeldSketch as sketch
+use Rattle.datasketches_c.specs.declared.held_sketch.HeldSketch as sketch
 use Rattle.datasketches_c.specs.Holding.{holds}
 use Rattle.datasketches_c.proofs.Words.{pair, word_fits}
 use Rattle.datasketches_c.proofs.Handles.{Sketch, Heap, heap_row_laws, Raw, raw_out, handle_in}

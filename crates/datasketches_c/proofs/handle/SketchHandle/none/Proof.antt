@@ -20,7 +20,7 @@ use denote.Triple.Walked.{Stays, stay_dropped, walk_of, Goes-dropped}
 use Rattle.core.proofs.cell.Inside.{one}
 use Rattle.std.specs.contracts.impls.GlobalAllocator.TheImpl.{ghosts}
 use Rattle.std.proofs.raw_atomic.Walks.{proved_at, leaves}
-use Rattle.datasketches_c.specs.declared.any_sketch.HeldSketch as sketch
+use Rattle.datasketches_c.specs.declared.held_sketch.HeldSketch as sketch
 use Rattle.datasketches_c.proofs.Words.{pair, word_fits}
 use Rattle.datasketches_c.proofs.Handles.{Heap, heap_row_laws, handle_in}
 use Rattle.datasketches_c.specs.contracts.handle.SketchHandle.none.{ended, clauses}

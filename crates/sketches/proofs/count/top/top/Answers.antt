@@ -1,4 +1,4 @@
-use Rattle.std.proofs.Common.{ap, refl, arith, None}
+use Rattle.std.proofs.Common.{ap, refl, arith, None, Some, inr}
 use Rattle.std.proofs.lemmas.Result.{err_from_is_err_and}
 use Rattle.sketches.specs.Added.{Sketch}
 use Rattle.sketches.proofs.Counted.{counted, count_failed}
@@ -49,5 +49,24 @@ pub returns-in_default-clause-inexact_error : goal.returns-in_default-clause-ine
 returns-in_default-clause-inexact_error g c =
     let made = c.in_ok-sketch.ensures in
     let was = g.I.Inputs.inputs c.args.inputs.now in
-    error_of c.args.options was (g.I.Inputs.fails c.args.inputs.now) c.in_ok-sketch.sketch c.read_inputs.new.sink.sketch c.maximum_error.result (0, 0) (c.read_inputs.new.sink.not_utf8, c.read_inputs.new.sink.unweighed) made.ok
-    (counted was (g.I.Inputs.fails c.args.inputs.now) c.in_ok-complete.complete _ (c.read_inputs.new.sink, tt) c.in_ok-complete.ensures.taken) c.maximum_error.ensures.value
+    error_of c.args.options was (g.I.Inputs.fails c.args.inputs.now) (record { complete = c.in_ok-complete.complete; not_utf8 = c.records_not_utf8-not_utf8.result; unweighed = c.records_unweighed-unweighed.result; inexact = Some c.maximum_error.result }) c.in_ok-sketch.sketch c.read_inputs.new.sink.sketch c.maximum_error.result made.ok
+    (rw (c.records_not_utf8-not_utf8.ensures, c.records_unweighed-unweighed.ensures) (counted was (g.I.Inputs.fails c.args.inputs.now) c.in_ok-complete.complete _ (c.read_inputs.new.sink, tt) c.in_ok-complete.ensures.taken)) (omega arith, omega arith) c.maximum_error.ensures.value
+
+pub returns-in_err-text-clause-unkept : goal.returns-in_err-text-clause-unkept
+returns-in_err-text-clause-unkept g c =
+    let e = err_from_is_err_and c.from_residual-in_err-text.result c.from_residual-in_err-text.ensures.1 in
+    let made = c.in_ok-sketch.ensures in
+    let was = g.I.Inputs.inputs c.args.inputs.now in
+    let kept = items_kept c.args.options was (g.I.Inputs.fails c.args.inputs.now) (g.K.Keeper.kept c.keep.new.self) c.in_ok-sketch.sketch c.read_inputs.new.sink.sketch made.stands made.budget made.ok (0, 0) (c.read_inputs.new.sink.not_utf8, c.read_inputs.new.sink.unweighed)
+    (counted was (g.I.Inputs.fails c.args.inputs.now) c.in_ok-complete.complete _ (c.read_inputs.new.sink, tt) c.in_ok-complete.ensures.taken) c.keep.ensures in
+    rw (e.1, e.2, c.in_err-text.ensures.failed) (inr (tt, kept))
+
+pub returns-clause-unkept : goal.returns-clause-unkept
+returns-clause-unkept g c =
+    let made = c.in_ok-sketch.ensures in
+    let was = g.I.Inputs.inputs c.args.inputs.now in
+    inr (
+      tt,
+      items_kept c.args.options was (g.I.Inputs.fails c.args.inputs.now) (g.K.Keeper.kept c.keep.new.self) c.in_ok-sketch.sketch c.read_inputs.new.sink.sketch made.stands made.budget made.ok (0, 0) (c.read_inputs.new.sink.not_utf8, c.read_inputs.new.sink.unweighed)
+          (counted was (g.I.Inputs.fails c.args.inputs.now) c.in_ok-complete.complete _ (c.read_inputs.new.sink, tt) c.in_ok-complete.ensures.taken) c.keep.ensures,
+    )

@@ -1,0 +1,17 @@
+pub mod Changes
+pub mod Copies
+pub mod Counts
+pub mod Errors
+pub mod Estimates
+pub mod Filters
+pub mod FrequentItems
+pub mod Images
+pub mod Items
+pub mod Joins
+pub mod KindNumbers
+pub mod Kinds
+pub mod LookUps
+pub mod Numbers
+pub mod Reading
+pub mod Updates
+pub mod Writing

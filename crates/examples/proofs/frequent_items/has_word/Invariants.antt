@@ -1,5 +1,0 @@
-use Rattle.std.proofs.Common.{length}
-use Rattle.examples.proofs.frequent_items.has_word.Given as goal
-
-abbrev pub decreases-loop-key : goal.decreases-loop-key
-decreases-loop-key l = length l.words

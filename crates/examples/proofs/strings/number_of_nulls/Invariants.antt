@@ -1,5 +1,0 @@
-use Rattle.std.proofs.Common.{length}
-use Rattle.examples.proofs.strings.number_of_nulls.Given as goal
-
-abbrev pub decreases-loop-is_valid : goal.decreases-loop-is_valid
-decreases-loop-is_valid l = length l.rows

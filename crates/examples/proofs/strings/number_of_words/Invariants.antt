@@ -1,5 +1,0 @@
-use Rattle.std.proofs.Common.{length}
-use Rattle.examples.proofs.strings.number_of_words.Given as goal
-
-abbrev pub decreases-loop-count : goal.decreases-loop-count
-decreases-loop-count l = length l.words

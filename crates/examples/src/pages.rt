@@ -1,0 +1,2 @@
+//! Examples of `pages`. Written by `tests/docs/examples.py`.
+pub mod calling;
