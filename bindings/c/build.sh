@@ -26,10 +26,10 @@ for source in "$here"/src/*.c; do
 done
 
 # One object, whose global symbols are the calls. So two static libraries that contain the same runtime can be in one program.
-# Three calls are only for the calls in C.
+# The calls of `src/proved.h` are only for the calls in C.
 "${LD:-ld}" -r --force-group-allocation -o "$work/all" "$work"/*.o --whole-archive "$archive"
-"${OBJCOPY:-objcopy}" --wildcard --keep-global-symbol='ds_*' --localize-symbol=ds_free_handle \
-    --localize-symbol=ds_new_frequent_items --localize-symbol=ds_read_image "$work/all" "$work/datasketches.o"
+"${OBJCOPY:-objcopy}" --wildcard --keep-global-symbol='ds_*' --localize-symbol=ds_free_handle --localize-symbol=ds_new \
+    --localize-symbol=ds_read_image --localize-symbol=ds_set_frozen "$work/all" "$work/datasketches.o"
 rm -f "$out/libdatasketches.a"
 "${AR:-ar}" rcsD "$out/libdatasketches.a" "$work/datasketches.o"
 "${CC:-cc}" -shared -o "$out/libdatasketches.so.0" -Wl,-soname,libdatasketches.so.0 -Wl,-z,defs,-z,relro,-z,now \

@@ -790,9 +790,10 @@ int32_t ds_frequent_items_string_rows(ds_sketch *handle, bool no_false_negatives
 
 /* What the chunks of a stream have. `ds_finished` returns 0 for another number. */
 enum {
-    DS_CHUNK_WORDS = 1,      /* words: what is finished ends with the last byte of ASCII white space */
-    DS_CHUNK_LINES = 2,      /* lines: it ends with the last LF */
-    DS_CHUNK_CSV_RECORDS = 3 /* records of CSV, of which the first begins the chunk: it ends with the end of the last whole one */
+    DS_CHUNK_WORDS = 1,       /* words: what is finished ends with the last byte of ASCII white space */
+    DS_CHUNK_LINES = 2,       /* lines: it ends with the last LF */
+    DS_CHUNK_CSV_RECORDS = 3, /* records of CSV, of which the first begins the chunk: it ends with the end of the last whole one */
+    DS_CHUNK_UTF8 = 4         /* characters: it ends before the first byte that is not part of valid UTF-8 */
 };
 
 /* Returns the number of bytes of a chunk that are finished, or 0 if none are. What begins after them may go on in the next chunk: pass
@@ -800,7 +801,8 @@ enum {
  * `datasketches_typed.h` has `ds_finished_words(text, length)`, `ds_finished_lines` and `ds_finished_csv_records`. */
 size_t ds_finished(int32_t chunk, const uint8_t *bytes, size_t length, uint8_t delimiter);
 
-/* Returns the number of bytes before the first that is not part of valid UTF-8, or `length` if all are UTF-8. */
+/* Returns the number of bytes before the first that is not part of valid UTF-8, or `length` if all are UTF-8: `ds_finished` of
+ * DS_CHUNK_UTF8. */
 size_t ds_valid_utf8(const uint8_t *text, size_t length);
 
 /* --- Items that others choose. This call takes no handle, and returns a hash, never an error. With the checks, null means no

@@ -5,9 +5,8 @@
  * does, so no two sketches of a process get the same key. Both words stay secret. After a `fork` the child draws words of its own.
  * There is no lock that a `fork` could leave held. */
 #define _POSIX_C_SOURCE 200809L
-#define DS_NO_CHECKS
 
-#include "datasketches.h"
+#include "proved.h"
 
 #include <errno.h>
 #include <fcntl.h>
@@ -81,26 +80,30 @@ static bool draw_key(ds_key *key)
     return true;
 }
 
+/* Returns whether sketches of a kind have a key. */
+static bool has_key(int32_t kind)
+{
+    return kind == DS_FREQUENT_ITEMS_U64 || kind == DS_FREQUENT_ITEMS_I64 || kind == DS_FREQUENT_ITEMS_STRING;
+}
+
 /* Writes the key of a new sketch of a kind: the caller's, or one that is drawn if that is null. Other kinds have no key, and draw
  * none. Returns false if a key is drawn and the system has no random bytes. */
 static bool choose_key(int32_t kind, const ds_key *given, ds_key *key)
 {
-    bool has_key = kind == DS_FREQUENT_ITEMS_U64 || kind == DS_FREQUENT_ITEMS_I64 || kind == DS_FREQUENT_ITEMS_STRING;
-    if (has_key && given == NULL) return draw_key(key);
-    *key = has_key ? *given : (ds_key){0, 0};
+    if (has_key(kind) && given == NULL) return draw_key(key);
+    *key = has_key(kind) ? *given : (ds_key){0, 0};
     return true;
 }
-
-/* The proved calls. They are not exported. Each returns DS_WRONG_KIND for a kind that it does not know. */
-int32_t ds_new_frequent_items(ds_sketch *handle, int32_t kind, size_t max_map_size, size_t sample_size, uint64_t k0, uint64_t k1);
-int32_t ds_read_image(ds_sketch *handle, int32_t kind, const uint8_t *image, size_t length, size_t max_bytes, uint64_t seed,
-                      uint64_t k0, uint64_t k1, size_t *used);
 
 int32_t ds_frequent_items_new(ds_sketch *handle, int32_t kind, size_t max_map_size, size_t sample_size, const ds_key *key)
 {
     ds_key chosen;
+    ds_sizes sizes = {.max_map_size = max_map_size, .sample_size = sample_size};
+    if (!has_key(kind)) return DS_WRONG_KIND;
     if (!choose_key(kind, key, &chosen)) return DS_NO_RANDOM;
-    return ds_new_frequent_items(handle, kind, max_map_size, sample_size, chosen.k0, chosen.k1);
+    sizes.k0 = chosen.k0;
+    sizes.k1 = chosen.k1;
+    return ds_new(handle, kind, &sizes);
 }
 
 int32_t ds_deserialize_prefix(ds_sketch *handle, int32_t kind, const uint8_t *image, size_t length, const ds_image_options *options,

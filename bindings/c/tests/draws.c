@@ -15,6 +15,7 @@
 #include <sys/wait.h>
 #include <unistd.h>
 
+#include "../src/proved.h"
 #include "check.h"
 #include "options.h"
 
@@ -66,24 +67,23 @@ static void note(uint64_t k0, uint64_t k1)
     if (i < MOST) keys[i] = (ds_key){k0, k1};
 }
 
-int32_t __real_ds_new_frequent_items(ds_sketch *, int32_t, size_t, size_t, uint64_t, uint64_t);
-int32_t __wrap_ds_new_frequent_items(ds_sketch *, int32_t, size_t, size_t, uint64_t, uint64_t);
+int32_t __real_ds_new(ds_sketch *, int32_t, const ds_sizes *);
+int32_t __wrap_ds_new(ds_sketch *, int32_t, const ds_sizes *);
 int32_t __real_ds_read_image(ds_sketch *, int32_t, const uint8_t *, size_t, size_t, uint64_t, uint64_t, uint64_t, size_t *);
 int32_t __wrap_ds_read_image(ds_sketch *, int32_t, const uint8_t *, size_t, size_t, uint64_t, uint64_t, uint64_t, size_t *);
 
 /* Whether the last arguments are kept, which threads that call at once do not. */
 static bool keeps_arguments = true;
 
-int32_t __wrap_ds_new_frequent_items(ds_sketch *handle, int32_t kind, size_t max_map_size, size_t sample_size, uint64_t k0,
-                                     uint64_t k1)
+int32_t __wrap_ds_new(ds_sketch *handle, int32_t kind, const ds_sizes *sizes)
 {
-    note(k0, k1);
+    note(sizes->k0, sizes->k1);
     if (keeps_arguments) {
         kind_passed = kind;
-        sizes_passed[0] = max_map_size;
-        sizes_passed[1] = sample_size;
+        sizes_passed[0] = sizes->max_map_size;
+        sizes_passed[1] = sizes->sample_size;
     }
-    return __real_ds_new_frequent_items(handle, kind, max_map_size, sample_size, k0, k1);
+    return __real_ds_new(handle, kind, sizes);
 }
 
 int32_t __wrap_ds_read_image(ds_sketch *handle, int32_t kind, const uint8_t *image, size_t length, size_t max_bytes, uint64_t seed,

@@ -13,7 +13,7 @@ CRATE = f"{TOP}/crates/datasketches_c"
 CROSSES = {"u8": "uint8_t", "u16": "uint16_t", "u32": "uint32_t", "u64": "uint64_t", "i32": "int32_t", "i64": "int64_t"}
 CROSSES |= {"usize": "size_t", "bool": "bool", "SketchHandle": "ds_sketch", "Status": "ds_status"}
 CROSSES |= {"ItemBounds": "ds_item_bounds", "ItemArgument": "ds_item", "ItemsArgument": "ds_items"}
-CROSSES |= {"FieldsArgument": "ds_fields", "FieldsRead": "ds_fields_read"}
+CROSSES |= {"FieldsArgument": "ds_fields", "FieldsRead": "ds_fields_read", "SizesArgument": "ds_sizes"}
 
 # The functions of `datasketches_typed.h` for each choice of a call with one: the call, and the constant.
 CHOICES = {
@@ -28,7 +28,7 @@ CHOICES = {
 }
 
 # The exports of the sources that only the library's own C calls.
-INTERNAL = {"ds_free_handle", "ds_new_frequent_items", "ds_read_image"}
+INTERNAL = {"ds_free_handle", "ds_new", "ds_read_image", "ds_set_frozen"}
 
 # The parameters that are an item, for each type of one. Beside the length of an image, that of an item is `item_length`.
 ITEM_TYPES = {"u64": ["uint64_t item"], "i64": ["int64_t item"], "string": ["const uint8_t *item", "size_t length"],

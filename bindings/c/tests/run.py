@@ -149,7 +149,7 @@ class Tests(checks.Checks):
         self.check("there are exports", len(sources) > 30 and len(calls) == len(called) + len(in_c))
         self.check("there are internal exports", INTERNAL <= set(sources))
         self.check("there are calls in C", {"ds_free", "ds_deserialize", "ds_frequent_items_new", "ds_result_name"} <= set(in_c), in_c)
-        for name, form in types(functions(f"{C}/src/keys.c", ";")).items():
+        for name, form in types(functions(f"{C}/src/proved.h", ";")).items():
             self.check(f"the prototype of {name}", sources.get(name) == form, (sources.get(name), form))
         for name in sorted(calls | header):
             self.check(f"the prototype of {name}", calls.get(name) == header.get(name), (calls.get(name), header.get(name)))
@@ -297,7 +297,7 @@ class Tests(checks.Checks):
 
     def keys_drawn(self):
         """Checks which arguments and keys are passed on, also if the system has no random bytes or interrupts the call for them."""
-        wraps = [f"-Wl,--wrap={name}" for name in ["getrandom", "open", "ds_new_frequent_items", "ds_read_image"]]
+        wraps = [f"-Wl,--wrap={name}" for name in ["getrandom", "open", "ds_new", "ds_read_image"]]
         sources = sorted(glob.glob(f"{C}/src/*.c"))
         ran = self.run([self.compile(f"{HERE}/draws.c", "-O2", *sources, *wraps, libraries=[self.archive])])
         self.check("keys drawn", ran.returncode == 0 and b"checks hold" in ran.stdout, ran)

@@ -1,9 +1,12 @@
+pub mod Batches
 pub mod Changes
 pub mod Copies
+pub mod CountBatches
 pub mod Counts
 pub mod Errors
 pub mod Estimates
 pub mod Filters
+pub mod FrequentBatches
 pub mod FrequentItems
 pub mod Images
 pub mod Items
@@ -11,7 +14,10 @@ pub mod Joins
 pub mod KindNumbers
 pub mod Kinds
 pub mod LookUps
+pub mod Making
+pub mod ManyItems
 pub mod Numbers
 pub mod Reading
 pub mod Updates
+pub mod ValidRows
 pub mod Writing

@@ -3,9 +3,13 @@
 
 mod any_error;
 mod any_sketch;
+mod batches;
 mod changes;
 mod copies;
+mod count_batches;
+mod filter_batches;
 mod filters;
+mod frequent_batches;
 mod image_options;
 mod images;
 mod item;
@@ -13,16 +17,24 @@ mod joins;
 mod kind;
 pub mod laws;
 mod lookups;
+mod making;
+mod many_items;
 mod number;
 mod reading;
+mod rows_with_bits;
+mod sketch_sizes;
 mod updates;
+mod valid_rows;
 mod views;
 
 pub use any_error::AnyError;
 pub use any_sketch::AnySketch;
+pub use filter_batches::image_contains_all;
 pub use image_options::ImageOptions;
 pub use item::Item;
 pub use kind::Kind;
+pub use many_items::{AnyItems, AnyRows};
 pub use number::Number;
 pub use sketch_base::{Error, ErrorKind, Fault};
+pub use sketch_sizes::SketchSizes;
 pub use views::{image_contains, image_estimate, image_estimate_signed};

@@ -1,5 +1,4 @@
 pub mod AnswerLemmas
-pub mod BoundsLemmas
 pub mod FieldLemmas
 pub mod Handles
 pub mod ItemLemmas
@@ -7,11 +6,8 @@ pub mod KindLemmas
 pub mod ManyHandleLemmas
 pub mod ManyItemsLemmas
 pub mod ManyJoinLemmas
-pub mod Places
 pub mod Refusals
 pub mod Reports
-pub mod RowCounts
-pub mod Spreading
 pub mod StringReports
 pub mod StringRows
 pub mod Words

@@ -4,15 +4,16 @@ use lib.Signed.{mag}
 use mir.Syntax.{w32}
 use mir.Val.{of_z, to_z}
 use Rattle.std.specs.Prelude.{Ok, Err}
-use Rattle.datasketches_c.specs.ManyItems.{GivesItems, ManyItems, OnItemsOfAny, many}
-use Rattle.datasketches_c.specs.declared.items_argument.GivenItems.{GivenItems}
+use Rattle.any_sketch.specs.ManyItems.{ManyItems, many}
+use Rattle.any_sketch.specs.declared.many_items.AnyItems.{AnyItems}
+use Rattle.datasketches_c.specs.ItemsArguments.{GivesItems, OnItemsOfAny}
 use Rattle.datasketches_c.specs.declared.items_argument.ItemsArgument.{ItemsArgument}
 use Rattle.datasketches_c.specs.declared.items_argument.ItemsKind.{ItemsKind}
 use Rattle.datasketches_c.proofs.AnswerLemmas.{handed_on}
 
 module _ (kind : Option ItemsKind) (a : ItemsArgument) (unchanged : Type 0) where
   -- what holds of the items holds of the argument
-  pub items_said : (kind : Option ItemsKind) (items : GivenItems) (result : ℤ) (said : ManyItems → Type 0) → GivesItems kind a (Ok items) → said (many items)
+  pub items_said : (kind : Option ItemsKind) (items : AnyItems) (result : ℤ) (said : ManyItems → Type 0) → GivesItems kind a (Ok items) → said (many items)
       → OnItemsOfAny a result unchanged said kind
   items_said None items result said gives holds = absurd gives
   items_said (Some kind) items result said gives holds =
@@ -24,7 +25,7 @@ module _ (kind : Option ItemsKind) (a : ItemsArgument) (unchanged : Type 0) wher
       }
 
   -- the same of a result that is handed on
-  pub on_given : (items : GivenItems) (result : ℤ) → mag result < 2147483648 → (said : ℤ → ManyItems → Type 0) → GivesItems kind a (Ok items) → said result (many items)
+  pub on_given : (items : AnyItems) (result : ℤ) → mag result < 2147483648 → (said : ℤ → ManyItems → Type 0) → GivesItems kind a (Ok items) → said result (many items)
       → OnItemsOfAny a (to_z w32 (of_z w32 result)) unchanged (said (to_z w32 (of_z w32 result))) kind
   on_given items result small said gives holds =
       handed_on (λ z. OnItemsOfAny a z unchanged (said z) kind) result small (items_said kind items result (said result) gives holds)

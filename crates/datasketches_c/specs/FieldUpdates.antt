@@ -1,7 +1,5 @@
 -- Results and effects of calls on the items and weights in fields of records.
-use Rattle.std.specs.Hash as fed
-use Rattle.std.specs.Prelude.{◌≡◌, ◌≢◌, ◌⊎◌, ◌<◌, ℕ, ℤ, pos, List, length, map, Option, Some, None}
-use Rattle.sketch_base.specs.Hashes.{fed_bytes}
+use Rattle.std.specs.Prelude.{◌≡◌, ◌≢◌, ◌⊎◌, ◌<◌, ℕ, ℤ, pos, List, length, Option, Some, None}
 use Rattle.sketch_base.specs.declared.fault.Fault.{Fault}
 use Rattle.sketch_base.specs.declared.fault.Fault.TheVariants.{NoMemory}
 use Rattle.sketch_text.specs.Decimals.{number_in, signed_in}
@@ -11,17 +9,17 @@ use Rattle.sketch_text.specs.declared.part.Part.TheVariants as part
 use Rattle.sketch_text.specs.declared.record_items.WeighedRecord.{WeighedRecord}
 use Rattle.sketch_text.specs.declared.record_part.RecordPart.{RecordPart}
 use Rattle.sketch_text.specs.declared.record_part.RecordPart.TheVariants as record_part
-use Rattle.datasketches_c.specs.AnyUpdates.{WeighsAny}
-use Rattle.datasketches_c.specs.CountCalls.{AddsWeights}
-use Rattle.datasketches_c.specs.FilterCalls.{InsertsAll}
-use Rattle.datasketches_c.specs.Kinds.{HoldsKind, count_i64_of}
-use Rattle.datasketches_c.specs.ManyItems.{ManyItems}
-use Rattle.datasketches_c.specs.ManyItems.Rows.{strings}
-use Rattle.datasketches_c.specs.Numbers.{bad_argument, no_sketch, refusal_number}
-use Rattle.any_sketch.specs.Updates.{max_i64}
+use Rattle.any_sketch.specs.Batches.{InsertsAll, UpdatesAllSigned, UpdatesAllWeighted}
+use Rattle.any_sketch.specs.Kinds.{kind_of}
+use Rattle.any_sketch.specs.ManyItems.{ManyItems}
+use Rattle.any_sketch.specs.ManyItems.Rows.{strings}
+use Rattle.any_sketch.specs.declared.any_sketch.AnySketch.{AnySketch}
+use Rattle.any_sketch.specs.declared.kind.Kind.{Kind}
+use Rattle.any_sketch.specs.declared.kind.Kind.TheVariants.{CountI64, CountU64, Filter, FrequentStrings}
+use Rattle.datasketches_c.specs.Calls.{IsDone}
+use Rattle.datasketches_c.specs.Numbers.{bad_argument, no_sketch, refusal_number, wrong_kind}
 use Rattle.datasketches_c.specs.Sharing.{unchangeable}
 use Rattle.datasketches_c.specs.declared.held_sketch.HeldSketch.{HeldSketch}
-use Rattle.any_sketch.specs.declared.any_sketch.AnySketch.TheVariants.{CountI64, CountU64, Filter, FrequentStrings}
 use Rattle.datasketches_c.specs.declared.held_sketch.HeldSketch.TheVariants.{Own}
 use Rattle.datasketches_c.specs.declared.fields_argument.FieldsArgument.{FieldsArgument}
 use Rattle.datasketches_c.specs.declared.fields_argument.FieldsRead.{FieldsRead}
@@ -95,24 +93,30 @@ module _ {W : Type 0} (reads : List ℕ → Option W) (one : W) (chosen : Weighe
 abbrev pub all_strings : List (List ℕ) → ManyItems
 all_strings items = record { rows = strings items; validity = None }
 
--- the bytes that the hashes of strings feed
-abbrev pub fed_strings : List (List ℕ) → List (List ℕ)
-fed_strings items = map (fed_bytes fed.str) items
+-- The items of records were added to a sketch of this kind with their weights, in order, or inserted into a filter. Weights have a sign if
+-- those of the sketch do. Nothing is read for a kind that takes no strings, and nothing is written.
+abbrev pub UpdatesFieldsOf : Kind → WeighedRecord → List ℕ → (old new : AnySketch) → (read_old read_new : FieldsRead) → ℤ → Type 0
+UpdatesFieldsOf CountI64 chosen bytes s t a b result =
+    OnRead signed_in (pos 1) chosen bytes result a b (t ≡ s) (λ found.
+    IsDone result (UpdatesAllSigned s (all_strings found.items) found.weights t))
+UpdatesFieldsOf CountU64 chosen bytes s t a b result =
+    OnRead number_in 1 chosen bytes result a b (t ≡ s) (λ found.
+    IsDone result (UpdatesAllWeighted s (all_strings found.items) found.weights t))
+UpdatesFieldsOf FrequentStrings chosen bytes s t a b result =
+    OnRead number_in 1 chosen bytes result a b (t ≡ s) (λ found.
+    IsDone result (UpdatesAllWeighted s (all_strings found.items) found.weights t))
+UpdatesFieldsOf Filter chosen bytes s t a b result =
+    OnRead number_in 1 chosen bytes result a b (t ≡ s) (λ found. IsDone result (InsertsAll s (all_strings found.items) t))
+UpdatesFieldsOf kind chosen bytes s t a b result = (result ≡ wrong_kind) × (t ≡ s) × (b ≡ a)
 
--- The items of records were added to the sketch of a handle with their weights, in order, or inserted into a filter. Weights have a sign if
--- those of the sketch do. Without a sketch, or with one that is shared or takes no strings, nothing is read and nothing is written.
+-- the same of what a handle holds, which is not changed if it is shared
+abbrev pub UpdatesHeldFields : WeighedRecord → List ℕ → (old new : HeldSketch) → (read_old read_new : FieldsRead) → ℤ → Type 0
+UpdatesHeldFields chosen bytes (Own s) (Own t) a b result = UpdatesFieldsOf (kind_of s) chosen bytes s t a b result
+UpdatesHeldFields chosen bytes (Own s) new a b result = ⊥
+UpdatesHeldFields chosen bytes old new a b result = (result ≡ unchangeable old) × (new ≡ old) × (b ≡ a)
+
+-- the same of the handle's sketch, if any
 abbrev pub UpdatesFields : WeighedRecord → List ℕ → (old new : Option HeldSketch) → (read_old read_new : FieldsRead) → ℤ → Type 0
+UpdatesFields chosen bytes (Some old) (Some new) a b result = UpdatesHeldFields chosen bytes old new a b result
 UpdatesFields chosen bytes None new a b result = (result ≡ no_sketch) × (new ≡ None) × (b ≡ a)
-UpdatesFields chosen bytes (Some (Own (CountI64 s))) new a b result =
-    OnRead signed_in (pos 1) chosen bytes result a b (new ≡ Some (Own (CountI64 s))) (λ found.
-    HoldsKind count_i64_of new (λ t. AddsWeights max_i64 (λ weight. weight) s (fed_strings found.items) found.weights t result))
-UpdatesFields chosen bytes (Some (Own (CountU64 s))) new a b result =
-    OnRead number_in 1 chosen bytes result a b (new ≡ Some (Own (CountU64 s))) (λ found.
-    WeighsAny (Some (Own (CountU64 s))) new (all_strings found.items) found.weights result)
-UpdatesFields chosen bytes (Some (Own (FrequentStrings s))) new a b result =
-    OnRead number_in 1 chosen bytes result a b (new ≡ Some (Own (FrequentStrings s))) (λ found.
-    WeighsAny (Some (Own (FrequentStrings s))) new (all_strings found.items) found.weights result)
-UpdatesFields chosen bytes (Some (Own (Filter s))) new a b result =
-    OnRead number_in 1 chosen bytes result a b (new ≡ Some (Own (Filter s))) (λ found.
-    InsertsAll (Some (Own (Filter s))) new result (fed_strings found.items))
-UpdatesFields chosen bytes (Some old) new a b result = (result ≡ unchangeable old) × (new ≡ Some old) × (b ≡ a)
+UpdatesFields chosen bytes (Some old) None a b result = ⊥

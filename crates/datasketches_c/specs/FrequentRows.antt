@@ -1,12 +1,15 @@
 -- Reports of frequent items sketches, written into the caller's buffers.
-use Rattle.std.specs.Prelude.{◌≡◌, ◌≢◌, ◌⊎◌, ℕ, ℤ, ◌<◌, ◌≤◌, Bool, List, length, map, take, drop, if◌then◌else◌}
+use Rattle.std.specs.Prelude.{◌≡◌, ◌≢◌, ◌⊎◌, ℕ, ℤ, ◌<◌, ◌≤◌, Bool, List, length, map, nat_eq, take, drop, if◌then◌else◌}
+use Rattle.std.specs.Ordering.{int_eq}
 use Rattle.sketch_base.specs.declared.fault.Fault.TheVariants.{NoMemory}
 use Rattle.sketch_frequencies.specs.RowValue.{RowValue}
 use Rattle.sketch_frequencies.specs.Rows.{ShowsExactly, Descends, MissesNone, ShowsNoneBelow}
 use Rattle.sketch_frequencies.specs.State.{FrequentState}
 use Rattle.sketch_frequencies.specs.declared.error_type.ErrorType.{ErrorType}
 use Rattle.sketch_frequencies.specs.declared.error_type.ErrorType.TheVariants.{NoFalseNegatives, NoFalsePositives}
-use Rattle.datasketches_c.specs.Numbers.{OnRefused, ok, no_room, refusal_number}
+use Rattle.any_sketch.specs.declared.any_sketch.AnySketch.{AnySketch}
+use Rattle.any_sketch.specs.declared.any_sketch.AnySketch.TheVariants.{FrequentI64, FrequentU64}
+use Rattle.datasketches_c.specs.Numbers.{OnRefused, ok, no_room, refusal_number, wrong_kind}
 use Rattle.sketch_frequencies.specs.declared.item_bounds.ItemBounds.{ItemBounds}
 
 -- the error type of the flag: `NoFalseNegatives` if it is true, `NoFalsePositives` otherwise
@@ -63,3 +66,19 @@ module _ {T : Type 0} (eq : T → T → Bool) (kind : ErrorType) (threshold : �
       (limit : ℕ) → (items_old items_new : List T) (bounds_old bounds_new : List ItemBounds) (count : ℕ) (result : ℤ) → Type 0
   WritesRows limit items_old items_new bounds_old bounds_new count result =
       Reports limit items_old items_new bounds_old bounds_new count result ⊎ (result ≡ refusal_number NoMemory)
+
+-- the report on a sketch of frequent `u64` was made, or the sketch is of another kind
+abbrev pub WritesU64Rows :
+    AnySketch → ErrorType → (threshold limit : ℕ) → (items_old items_new : List ℕ) (bounds_old bounds_new : List ItemBounds) (count : ℕ) → ℤ →
+    Type 0
+WritesU64Rows (FrequentU64 s) kind threshold limit items_old items_new bounds_old bounds_new count result =
+    WritesRows nat_eq kind threshold s limit items_old items_new bounds_old bounds_new count result
+WritesU64Rows sketch kind threshold limit items_old items_new bounds_old bounds_new count result = result ≡ wrong_kind
+
+-- the same of `i64`
+abbrev pub WritesI64Rows :
+    AnySketch → ErrorType → (threshold limit : ℕ) → (items_old items_new : List ℤ) (bounds_old bounds_new : List ItemBounds) (count : ℕ) → ℤ →
+    Type 0
+WritesI64Rows (FrequentI64 s) kind threshold limit items_old items_new bounds_old bounds_new count result =
+    WritesRows int_eq kind threshold s limit items_old items_new bounds_old bounds_new count result
+WritesI64Rows sketch kind threshold limit items_old items_new bounds_old bounds_new count result = result ≡ wrong_kind

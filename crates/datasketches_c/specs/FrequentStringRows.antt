@@ -10,7 +10,9 @@ use Rattle.sketch_frequencies.specs.State.{FrequentState}
 use Rattle.sketch_frequencies.specs.declared.error_type.ErrorType.{ErrorType}
 use Rattle.datasketches_c.specs.FrequentRows.{AreFirstRows, bounds_in}
 use Rattle.datasketches_c.specs.FrequentStrings.{strings_eq}
-use Rattle.datasketches_c.specs.Numbers.{OnRefused, ok, no_room, refusal_number}
+use Rattle.any_sketch.specs.declared.any_sketch.AnySketch.{AnySketch}
+use Rattle.any_sketch.specs.declared.any_sketch.AnySketch.TheVariants.{FrequentStrings}
+use Rattle.datasketches_c.specs.Numbers.{OnRefused, ok, no_room, refusal_number, wrong_kind}
 use Rattle.sketch_base.specs.Strings.{strings_of}
 use Rattle.datasketches_c.specs.Strings.{offsets_from}
 use Rattle.sketch_frequencies.specs.declared.item_bounds.ItemBounds.{ItemBounds}
@@ -61,3 +63,10 @@ abbrev pub WritesStringRows :
 WritesStringRows kind threshold limit s old new count num_bytes result =
     ((rows : List (RowValue (String Global))) × AreFirstRows strings_eq kind threshold s limit rows × ReportsStrings rows old new count num_bytes result)
     ⊎ (result ≡ refusal_number NoMemory)
+
+-- the report on a sketch of frequent strings was made, or the sketch is of another kind
+abbrev pub WritesRowsOfStrings :
+    AnySketch → ErrorType → (threshold limit : ℕ) → (old new : StringBuffers) → (count num_bytes : ℕ) → ℤ → Type 0
+WritesRowsOfStrings (FrequentStrings s) kind threshold limit old new count num_bytes result =
+    WritesStringRows kind threshold limit s old new count num_bytes result
+WritesRowsOfStrings sketch kind threshold limit old new count num_bytes result = result ≡ wrong_kind

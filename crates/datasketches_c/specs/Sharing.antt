@@ -2,7 +2,7 @@
 use Rattle.std.specs.Prelude.{◌≡◌, ◌⊎◌, Bool, true, false, Option, Some, None, ℤ, if◌then◌else◌}
 use Rattle.std.specs.Arc.{arc_value}
 use Rattle.sketch_base.specs.declared.fault.Fault.TheVariants.{NoMemory}
-use Rattle.datasketches_c.specs.Numbers.{no_sketch, not_shared, refusal_number, shared, wrong_kind}
+use Rattle.datasketches_c.specs.Numbers.{OnDone, OnRefused, no, no_sketch, not_shared, ok, refusal_number, shared, wrong_kind, yes}
 use Rattle.datasketches_c.specs.declared.held_sketch.HeldSketch.{HeldSketch}
 use Rattle.datasketches_c.specs.declared.held_sketch.HeldSketch.TheVariants.{Moved, Own, Shared}
 
@@ -38,16 +38,29 @@ abbrev pub HoldsShared : Option HeldSketch → Type 0
 HoldsShared (Some held) = is_shared held ≡ true
 HoldsShared None = ⊥
 
--- new holds the sketch of old for itself
-abbrev pub IsOwnOf : Option HeldSketch → Option HeldSketch → Type 0
-IsOwnOf (Some held) (Some own) = (unshared own ≡ unshared held) × (is_shared own ≡ false)
-IsOwnOf held own = ⊥
+-- The sketch is shared, or was before. Or memory was exhausted for one that is not shared yet, or a call is moving it, and it is unchanged.
+pub record Freezes (old new : HeldSketch) (result : ℤ) : Type 0 where
+  pub done : OnDone result ((result ≡ ok) × (unshared new ≡ unshared old) × (is_shared new ≡ true))
+  pub refused :
+      OnRefused result ((new ≡ old)
+      × (((result ≡ wrong_kind) × (old ≡ Moved)) ⊎ ((result ≡ refusal_number NoMemory) × (is_shared old ≡ false))))
 
--- why a sketch is not frozen: there is none, a call is moving it, or there was no memory for one that is not shared yet
-abbrev pub IsFreezeRefusal : Option HeldSketch → ℤ → Type 0
-IsFreezeRefusal None result = result ≡ no_sketch
-IsFreezeRefusal (Some held) result =
-    ((result ≡ wrong_kind) × (held ≡ Moved)) ⊎ ((result ≡ refusal_number NoMemory) × (is_shared held ≡ false))
+-- the sketch is no longer shared, or another handle shares it, and it is unchanged
+abbrev pub Thaws : (old new : HeldSketch) → ℤ → Type 0
+Thaws old new result =
+    ((result ≡ yes) × (unshared new ≡ unshared old) × (is_shared new ≡ false))
+    ⊎ ((result ≡ no) × (new ≡ old) × (is_shared old ≡ true))
+
+-- the same of the handle's sketch, if any
+abbrev pub FreezesSketch : (old new : Option HeldSketch) → ℤ → Type 0
+FreezesSketch (Some old) (Some new) result = Freezes old new result
+FreezesSketch None new result = (result ≡ no_sketch) × (new ≡ None)
+FreezesSketch (Some old) None result = ⊥
+
+abbrev pub ThawsSketch : (old new : Option HeldSketch) → ℤ → Type 0
+ThawsSketch (Some old) (Some new) result = Thaws old new result
+ThawsSketch None new result = (result ≡ no_sketch) × (new ≡ None)
+ThawsSketch (Some old) None result = ⊥
 
 -- why a sketch is not shared: there is none, it is not frozen, or there was no memory for one more handle
 abbrev pub IsShareRefusal : Option HeldSketch → ℤ → Type 0

@@ -1,25 +1,19 @@
 //! Calls that add or insert the items in fields of records.
-ghost use Rattle.std.specs.Prelude.{◌≡◌, Some, length, pos};
+ghost use Rattle.std.specs.Prelude.{◌≡◌, length, pos};
+ghost use Rattle.any_sketch.specs.Batches.{InsertsAll, UpdatesAllSigned, UpdatesAllWeighted};
+ghost use Rattle.any_sketch.specs.Kinds.{kind_of};
 ghost use Rattle.sketch_text.specs.Decimals.{number_in, signed_in};
-ghost use Rattle.datasketches_c.specs.AnyUpdates.{WeighsWith};
-ghost use Rattle.datasketches_c.specs.CountCalls.{AddsWeights};
-ghost use Rattle.datasketches_c.specs.FieldUpdates.{OnFields, OnRead, UpdatesFields, all_strings, fed_strings};
-ghost use Rattle.datasketches_c.specs.FilterCalls.{InsertsInto};
+ghost use Rattle.datasketches_c.specs.Calls.{IsDone};
+ghost use Rattle.datasketches_c.specs.FieldUpdates.{OnFields, OnRead, UpdatesFields, UpdatesFieldsOf, UpdatesHeldFields, all_strings};
 ghost use Rattle.datasketches_c.specs.Numbers.{refusal_number};
-ghost use Rattle.any_sketch.specs.Updates.{max_i64};
 
-use crate::any_updates::update_weighted_with;
-use crate::count::add_all_weighted;
+use crate::codes::code_of;
 use crate::fields_argument::{FieldsArgument, FieldsRead, chosen_record};
-use crate::filter_items::insert_each;
 use crate::handle::SketchHandle;
 use crate::held_sketch::HeldSketch;
-use crate::items_argument::{GivenItems, GivenRows};
-use crate::status_code::{BAD_ARGUMENT, NO_SKETCH, OK, WRONG_KIND, refusal_number};
-use any_sketch::AnySketch;
+use crate::status_code::{BAD_ARGUMENT, NO_SKETCH, WRONG_KIND, refusal_number};
+use any_sketch::{AnyItems, AnyRows, AnySketch, Kind};
 use sketch_base::ErrorKind;
-use sketch_bloom::BloomFilter;
-use sketch_countmin::CountMinSketch;
 use sketch_text::records::{BadRecord, RecordItems, RecordWeight, WeighedRecord};
 use std::alloc::Global;
 
@@ -46,21 +40,25 @@ fn note<W: RecordWeight>(found: &RecordItems<W>, read: &mut FieldsRead)
     read.num_items = found.weights().len();
 }
 
-/// Adds the items of records with their weights, which may have signs, to a Count-Min sketch.
+/// Adds the items of records with their weights, which may have signs, to a sketch.
 fn update_signed(
     alloc: Global,
-    sketch: &mut CountMinSketch<i64>,
+    sketch: &mut AnySketch,
     chosen: WeighedRecord,
     bytes: &[u8],
     read: &mut FieldsRead,
 ) -> i32
     ensures { OnRead signed_in (pos 1) chosen bytes.now result read.old read.new (sketch.new ≡ sketch.old) (λ found.
-        AddsWeights max_i64 (λ weight. weight) sketch.old (fed_strings found.items) found.weights sketch.new result) }
+        IsDone result (UpdatesAllSigned sketch.old (all_strings found.items) found.weights sketch.new)) }
 {
     match RecordItems::<i64>::read(alloc, bytes, chosen) {
         Ok(found) => {
             note(&found, read);
-            add_all_weighted(sketch, found.items(), found.weights())
+            let items = AnyItems {
+                rows: AnyRows::Offsets(found.items()),
+                validity: None,
+            };
+            code_of(sketch.update_all_signed(alloc, items, found.weights()))
         }
         Err(bad) => refused(bad, read),
     }
@@ -69,22 +67,22 @@ fn update_signed(
 /// Adds the items of records with their weights, which have no signs, to a sketch.
 fn update_unsigned(
     alloc: Global,
-    sketch: &mut HeldSketch,
+    sketch: &mut AnySketch,
     chosen: WeighedRecord,
     bytes: &[u8],
     read: &mut FieldsRead,
 ) -> i32
     ensures { OnRead number_in 1 chosen bytes.now result read.old read.new (sketch.new ≡ sketch.old) (λ found.
-        WeighsWith sketch.old sketch.new (all_strings found.items) found.weights result) }
+        IsDone result (UpdatesAllWeighted sketch.old (all_strings found.items) found.weights sketch.new)) }
 {
     match RecordItems::<u64>::read(alloc, bytes, chosen) {
         Ok(found) => {
             note(&found, read);
-            let items = GivenItems {
-                rows: GivenRows::Offsets(found.items()),
+            let items = AnyItems {
+                rows: AnyRows::Offsets(found.items()),
                 validity: None,
             };
-            update_weighted_with(sketch, items, found.weights())
+            code_of(sketch.update_all_weighted(alloc, items, found.weights()))
         }
         Err(bad) => refused(bad, read),
     }
@@ -93,23 +91,22 @@ fn update_unsigned(
 /// Inserts the items in a field of records into a filter.
 fn insert_read(
     alloc: Global,
-    filter: &mut BloomFilter,
+    sketch: &mut AnySketch,
     chosen: WeighedRecord,
     bytes: &[u8],
     read: &mut FieldsRead,
 ) -> i32
-    ensures { OnRead number_in 1 chosen bytes.now result read.old read.new (filter.new ≡ filter.old) (λ found.
-        InsertsInto filter.old filter.new (fed_strings found.items) result) }
+    ensures { OnRead number_in 1 chosen bytes.now result read.old read.new (sketch.new ≡ sketch.old) (λ found.
+        IsDone result (InsertsAll sketch.old (all_strings found.items) sketch.new)) }
 {
     match RecordItems::<u64>::read(alloc, bytes, chosen) {
         Ok(found) => {
             note(&found, read);
-            let items = GivenItems {
-                rows: GivenRows::Offsets(found.items()),
+            let items = AnyItems {
+                rows: AnyRows::Offsets(found.items()),
                 validity: None,
             };
-            insert_each(filter, items);
-            OK
+            code_of(sketch.insert_all(items))
         }
         Err(bad) => refused(bad, read),
     }
@@ -117,29 +114,37 @@ fn insert_read(
 
 /// Adds the items of records with their weights to a sketch that takes strings, or inserts them into a filter. Weights have signs if
 /// those of the sketch do.
-fn update_with(
+fn update_own(
     alloc: Global,
-    sketch: &mut HeldSketch,
+    sketch: &mut AnySketch,
     chosen: WeighedRecord,
     bytes: &[u8],
     read: &mut FieldsRead,
 ) -> i32
-    ensures { UpdatesFields chosen bytes.now (Some sketch.old) (Some sketch.new) read.old read.new result }
+    ensures { UpdatesFieldsOf (kind_of sketch.old) chosen bytes.now sketch.old sketch.new read.old read.new result }
 {
-    match sketch {
-        HeldSketch::Own(AnySketch::CountI64(counts)) => update_signed(
-            alloc, counts, chosen, bytes, read,
-        ),
-        HeldSketch::Own(AnySketch::CountU64(_)) => update_unsigned(
-            alloc, sketch, chosen, bytes, read,
-        ),
-        HeldSketch::Own(AnySketch::FrequentStrings(_)) => update_unsigned(
-            alloc, sketch, chosen, bytes, read,
-        ),
-        HeldSketch::Own(AnySketch::Filter(filter)) => insert_read(
-            alloc, filter, chosen, bytes, read,
-        ),
-        _ => sketch.refusal_of_change(),
+    match sketch.kind() {
+        Kind::CountI64 => update_signed(alloc, sketch, chosen, bytes, read),
+        Kind::CountU64 => update_unsigned(alloc, sketch, chosen, bytes, read),
+        Kind::FrequentStrings => update_unsigned(alloc, sketch, chosen, bytes, read),
+        Kind::Filter => insert_read(alloc, sketch, chosen, bytes, read),
+        _ => WRONG_KIND,
+    }
+}
+
+/// Adds the items of records with their weights to what a handle holds.
+fn update_in(
+    alloc: Global,
+    held: &mut HeldSketch,
+    chosen: WeighedRecord,
+    bytes: &[u8],
+    read: &mut FieldsRead,
+) -> i32
+    ensures { UpdatesHeldFields chosen bytes.now held.old held.new read.old read.new result }
+{
+    match held {
+        HeldSketch::Own(sketch) => update_own(alloc, sketch, chosen, bytes, read),
+        _ => held.refusal_of_change(),
     }
 }
 
@@ -153,11 +158,11 @@ fn update_chosen(
 ) -> i32
     ensures { UpdatesFields chosen bytes.now handle.old.value handle.new.value read.old read.new result }
 {
-    let Some(mut sketch) = handle.take(alloc) else {
+    let Some(mut held) = handle.take(alloc) else {
         return NO_SKETCH;
     };
-    let answer = update_with(alloc, &mut *sketch, chosen, bytes, read);
-    handle.give(sketch);
+    let answer = update_in(alloc, &mut *held, chosen, bytes, read);
+    handle.give(held);
     answer
 }
 

@@ -72,7 +72,7 @@ fn copy_rows(
 
 /// Writes the first `limit` rows of a report to the front of the buffers, their number to `count`, and the number of bytes to
 /// `num_bytes`. If a buffer is too short, only both numbers are written.
-pub(crate) fn write_rows(
+pub(crate) fn write_string_rows(
     sketch: &FrequentItemsSketch<String>,
     no_false_negatives: bool,
     threshold: u64,

@@ -1,13 +1,12 @@
 //! Many items as an argument of calls: numbers, strings in one of several forms, or the bytes that a hash feeds.
-ghost use Rattle.std.specs.Prelude.{◌≡◌, ◌↔◌, ◌<◌, ◌^◌, IsTrue, length};
-ghost use Rattle.datasketches_c.specs.ManyItems.{GivesItems, GivesRows, HasBits, OnItems, given_rows, items_kind_numbered, num_rows, rows_with_bits};
+ghost use Rattle.std.specs.Prelude.{◌≡◌, ◌↔◌, IsTrue};
+ghost use Rattle.any_sketch.specs.ManyItems.{num_rows};
+ghost use Rattle.datasketches_c.specs.ItemsArguments.{GivesItems, GivesRows, HasBits, OnItems, bits_from, items_kind_numbered, rows_with_bits};
 ghost use Rattle.datasketches_c.specs.Numbers.{ok};
-ghost use Rattle.datasketches_c.specs.ValidRows.{bits_from};
 
 use crate::status_code::{BAD_ARGUMENT, OK, refusal_number};
-use sketch_base::{
-    ByteStrings, Fault, FedItems, Lines, OffsetStrings, Strings, Validity, Words, from_utf8,
-};
+use any_sketch::{AnyItems, AnyRows};
+use sketch_base::{ByteStrings, Fault, FedItems, OffsetStrings, Validity, from_utf8};
 
 /// A kind of many items.
 #[derive(Clone, Copy)]
@@ -58,27 +57,6 @@ pub struct ItemsArgument<'a> {
     pub first_bit: usize,
 }
 
-/// The rows of a valid argument. Words and lines are those of a string.
-#[derive(Drop)]
-pub enum GivenRows<'a> {
-    U64(&'a [u64]),
-    I64(&'a [i64]),
-    Offsets(OffsetStrings<'a, &'a [u64]>),
-    Offsets32(OffsetStrings<'a, &'a [u32]>),
-    Strings(ByteStrings<'a>),
-    Words(&'a str),
-    Lines(&'a str),
-    Fed(FedItems<'a>),
-}
-
-/// The items of a valid argument: its valid rows.
-#[derive(Drop)]
-pub struct GivenItems<'a> {
-    pub rows: GivenRows<'a>,
-    /// A bit for each row, if some may be null.
-    pub validity: Option<Validity<'a>>,
-}
-
 /// Returns the number of rows that a bitmap has bits for, or `None` if the kind may have no bitmap.
 fn rows_with_bits(kind: ItemsKind, items: &ItemsArgument<'_>) -> Option<usize>
     ensures { result ≡ rows_with_bits kind items.now }
@@ -118,7 +96,7 @@ fn has_bits(validity: &Option<Validity<'_>>, rows: Option<usize>) -> bool
 }
 
 /// Returns the items of an argument, or the number of its first error: `BAD_ARGUMENT`, `BadOffsets` or `InvalidUtf8`.
-pub(crate) fn given_items<'a>(items: &ItemsArgument<'a>) -> Result<GivenItems<'a>, i32>
+pub(crate) fn given_items<'a>(items: &ItemsArgument<'a>) -> Result<AnyItems<'a>, i32>
     ensures { GivesItems (items_kind_numbered items.now.kind) items.now result }
 {
     let Some(kind) = items_kind_numbered(items.kind) else {
@@ -129,68 +107,39 @@ pub(crate) fn given_items<'a>(items: &ItemsArgument<'a>) -> Result<GivenItems<'a
         return Err(BAD_ARGUMENT);
     }
     match given_rows(kind, items) {
-        Ok(rows) => Ok(GivenItems { rows, validity }),
+        Ok(rows) => Ok(AnyItems { rows, validity }),
         Err(refusal) => Err(refusal),
     }
 }
 
 /// Returns the rows of an argument, or the number of their first error: `BadOffsets` or `InvalidUtf8`.
-fn given_rows<'a>(kind: ItemsKind, items: &ItemsArgument<'a>) -> Result<GivenRows<'a>, i32>
+fn given_rows<'a>(kind: ItemsKind, items: &ItemsArgument<'a>) -> Result<AnyRows<'a>, i32>
     ensures { GivesRows kind items.now result }
 {
     match kind {
-        ItemsKind::U64 => Ok(GivenRows::U64(items.u64s)),
-        ItemsKind::I64 => Ok(GivenRows::I64(items.i64s)),
+        ItemsKind::U64 => Ok(AnyRows::U64(items.u64s)),
+        ItemsKind::I64 => Ok(AnyRows::I64(items.i64s)),
         ItemsKind::Offsets => match OffsetStrings::new(items.bytes, items.offsets) {
-            Ok(strings) => Ok(GivenRows::Offsets(strings)),
+            Ok(strings) => Ok(AnyRows::Offsets(strings)),
             Err(error) => Err(refusal_number(error.fault())),
         },
         ItemsKind::Offsets32 => match OffsetStrings::new(items.bytes, items.offsets32) {
-            Ok(strings) => Ok(GivenRows::Offsets32(strings)),
+            Ok(strings) => Ok(AnyRows::Offsets32(strings)),
             Err(error) => Err(refusal_number(error.fault())),
         },
         ItemsKind::Strings => match ByteStrings::new(items.strings) {
-            Ok(strings) => Ok(GivenRows::Strings(strings)),
+            Ok(strings) => Ok(AnyRows::Strings(strings)),
             Err(error) => Err(refusal_number(error.fault())),
         },
         ItemsKind::Words => match from_utf8(items.bytes) {
-            Ok(text) => Ok(GivenRows::Words(text)),
+            Ok(text) => Ok(AnyRows::Words(text)),
             Err(_) => Err(refusal_number(Fault::InvalidUtf8)),
         },
         ItemsKind::Lines => match from_utf8(items.bytes) {
-            Ok(text) => Ok(GivenRows::Lines(text)),
+            Ok(text) => Ok(AnyRows::Lines(text)),
             Err(_) => Err(refusal_number(Fault::InvalidUtf8)),
         },
-        ItemsKind::Fed => Ok(GivenRows::Fed(FedItems(items.fed))),
-    }
-}
-
-/// Returns the number of strings.
-fn count_strings<'a, S: Strings<'a>>(strings: S) -> usize
-    requires { length (S.strings strings) < 2 ^ 64 }
-    ensures { result ≡ length (S.strings strings) }
-{
-    let mut strings = strings;
-    let mut count = 0;
-    'each: while let Some(_) = strings.next_str() {
-        count += 1;
-    }
-    count
-}
-
-/// Returns the number of rows. Words and lines are counted.
-pub(crate) fn num_rows(rows: &GivenRows<'_>) -> usize
-    ensures { result ≡ num_rows (given_rows rows.now) }
-{
-    match rows {
-        GivenRows::U64(numbers) => numbers.len(),
-        GivenRows::I64(numbers) => numbers.len(),
-        GivenRows::Offsets(strings) => strings.len(),
-        GivenRows::Offsets32(strings) => strings.len(),
-        GivenRows::Strings(strings) => strings.len(),
-        GivenRows::Words(text) => count_strings(Words::new(text)),
-        GivenRows::Lines(text) => count_strings(Lines::new(text)),
-        GivenRows::Fed(items) => items.0.len(),
+        ItemsKind::Fed => Ok(AnyRows::Fed(FedItems(items.fed))),
     }
 }
 
@@ -206,93 +155,6 @@ macro_rules! on_given {
 
 pub(crate) use on_given;
 
-/// Does `$work` on the valid items of a sequence of rows, and gives the result of `$work`.
-macro_rules! on_valid {
-    ($rows:expr, $validity:expr, $sequence:ident => $work:expr) => {
-        match $validity {
-            None => {
-                let $sequence = $rows;
-                $work
-            }
-            Some(validity) => {
-                let $sequence = $crate::rows_with_bits::RowsWithBits {
-                    items: $rows,
-                    validity,
-                };
-                $work
-            }
-        }
-    };
-}
-
-pub(crate) use on_valid;
-
-/// Does `$work` on the sequence of given strings, and gives the result of `$work`. Gives `$other` if the items are numbers.
-macro_rules! on_strings {
-    ($items:expr, $strings:ident => $work:expr, $other:expr) => {{
-        let $crate::items_argument::GivenItems { rows, validity } = $items;
-        match rows {
-            $crate::items_argument::GivenRows::Offsets(rows) => {
-                $crate::items_argument::on_valid!(rows, validity, $strings => $work)
-            }
-            $crate::items_argument::GivenRows::Offsets32(rows) => {
-                $crate::items_argument::on_valid!(rows, validity, $strings => $work)
-            }
-            $crate::items_argument::GivenRows::Strings(rows) => {
-                $crate::items_argument::on_valid!(rows, validity, $strings => $work)
-            }
-            $crate::items_argument::GivenRows::Words(text) => {
-                let rows = sketch_base::Words::new(text);
-                $crate::items_argument::on_valid!(rows, validity, $strings => $work)
-            }
-            $crate::items_argument::GivenRows::Lines(text) => {
-                let rows = sketch_base::Lines::new(text);
-                $crate::items_argument::on_valid!(rows, validity, $strings => $work)
-            }
-            _ => $other,
-        }
-    }};
-}
-
-pub(crate) use on_strings;
-
-/// Does `$work` on the sequence of given items, and gives the result of `$work`.
-macro_rules! on_items {
-    ($items:expr, $sequence:ident => $work:expr) => {{
-        let $crate::items_argument::GivenItems { rows, validity } = $items;
-        match rows {
-            $crate::items_argument::GivenRows::U64(rows) => {
-                $crate::items_argument::on_valid!(rows, validity, $sequence => $work)
-            }
-            $crate::items_argument::GivenRows::I64(rows) => {
-                $crate::items_argument::on_valid!(rows, validity, $sequence => $work)
-            }
-            $crate::items_argument::GivenRows::Offsets(rows) => {
-                $crate::items_argument::on_valid!(rows, validity, $sequence => $work)
-            }
-            $crate::items_argument::GivenRows::Offsets32(rows) => {
-                $crate::items_argument::on_valid!(rows, validity, $sequence => $work)
-            }
-            $crate::items_argument::GivenRows::Strings(rows) => {
-                $crate::items_argument::on_valid!(rows, validity, $sequence => $work)
-            }
-            $crate::items_argument::GivenRows::Words(text) => {
-                let rows = sketch_base::Words::new(text);
-                $crate::items_argument::on_valid!(rows, validity, $sequence => $work)
-            }
-            $crate::items_argument::GivenRows::Lines(text) => {
-                let rows = sketch_base::Lines::new(text);
-                $crate::items_argument::on_valid!(rows, validity, $sequence => $work)
-            }
-            $crate::items_argument::GivenRows::Fed(rows) => {
-                $crate::items_argument::on_valid!(rows, validity, $sequence => $work)
-            }
-        }
-    }};
-}
-
-pub(crate) use on_items;
-
 /// Writes the number of items to `count`, those of null rows included. Words and lines are counted.
 ///
 /// Returns the first of these errors, and then changes nothing:
@@ -307,7 +169,7 @@ pub extern "C" fn ds_num_items(items: &ItemsArgument<'_>, count: &mut usize) -> 
         (result ≡ ok) × (count.new ≡ num_rows given.rows)) }
 {
     on_given!(items, given => {
-        *count = num_rows(&given.rows);
+        *count = given.rows.num_rows();
         OK
     })
 }

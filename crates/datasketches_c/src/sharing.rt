@@ -1,8 +1,7 @@
 //! Calls that share a sketch among handles, as for threads that read it at once.
-ghost use Rattle.std.specs.Prelude.{◌≡◌, ◌⊎◌, true, false, IfOk, IfErr, IsOk, not};
-ghost use Rattle.datasketches_c.specs.Numbers.{OnDone, OnRefused, ok, no, yes, no_sketch, not_shared, wrong_kind, refusal_number};
-ghost use Rattle.datasketches_c.specs.Sharing.{is_shared, unshared, HoldsShared, IsFreezeRefusal, IsShareOf, IsOwnOf, IsShareRefusal};
-ghost use Rattle.datasketches_c.specs.declared.held_sketch.HeldSketch.TheVariants.{Moved};
+ghost use Rattle.std.specs.Prelude.{◌≡◌, ◌⊎◌, true, false, IfOk, IfErr, IsOk};
+ghost use Rattle.datasketches_c.specs.Numbers.{OnDone, OnRefused, ok, not_shared, refusal_number};
+ghost use Rattle.datasketches_c.specs.Sharing.{Freezes, FreezesSketch, HoldsShared, IsShareOf, IsShareRefusal, Thaws, ThawsSketch, is_shared, unshared};
 
 use crate::handle::SketchHandle;
 use crate::held_sketch::HeldSketch;
@@ -14,11 +13,7 @@ use std::sync::Arc;
 
 /// Moves a sketch to where handles can share it, unless it is there. Returns it as it was, with `NoMemory`, if an allocation fails.
 fn freeze(alloc: Global, held: HeldSketch) -> (HeldSketch, i32)
-    ensures done { OnDone result.1
-        ((result.1 ≡ ok) × (unshared result.0 ≡ unshared held) × (is_shared result.0 ≡ true)) }
-    ensures refused { OnRefused result.1 ((result.0 ≡ held)
-        × (((result.1 ≡ wrong_kind) × (held ≡ Moved))
-        ⊎ ((result.1 ≡ refusal_number Fault.NoMemory) × (is_shared held ≡ false)))) }
+    ensures { Freezes held result.0 result.1 }
 {
     match held {
         HeldSketch::Own(sketch) => match Arc::new(alloc, sketch) {
@@ -35,8 +30,7 @@ fn freeze(alloc: Global, held: HeldSketch) -> (HeldSketch, i32)
 
 /// Returns the sketch alone, with `YES`, if no other handle shares it. Otherwise returns it as it was, with `NO`.
 fn thaw(held: HeldSketch) -> (HeldSketch, i32)
-    ensures { ((result.1 ≡ yes) × (unshared result.0 ≡ unshared held) × (is_shared result.0 ≡ false))
-        ⊎ ((result.1 ≡ no) × (result.0 ≡ held) × (is_shared held ≡ true)) }
+    ensures { Thaws held result.0 result.1 }
 {
     match held {
         HeldSketch::Shared(shared) => match Arc::try_unwrap(shared) {
@@ -62,30 +56,6 @@ fn share(held: &HeldSketch) -> Result<HeldSketch, i32>
         Ok(share) => Ok(HeldSketch::Shared(share)),
         Err(_) => Err(refusal_number(Fault::NoMemory)),
     }
-}
-
-/// Freezes the handle's sketch, of any kind: handles can share it, and no call changes it until `ds_thaw`. Does nothing to a
-/// sketch that is shared.
-///
-/// The calls that read a sketch take a shared one, and those that change it return `SHARED`.
-///
-/// Returns the first of these errors, and then changes nothing:
-///
-/// - `NO_SKETCH` if the handle has no sketch.
-/// - `NoMemory` if an allocation fails. It never comes for a sketch that is shared.
-#[unsafe(no_mangle)]
-pub extern "C" fn ds_freeze(alloc: Global, handle: &mut SketchHandle) -> i32
-    ensures done { OnDone result ((result ≡ ok) × IsShareOf handle.old.value handle.new.value) }
-    ensures refused { OnRefused result (IsFreezeRefusal handle.old.value result × (handle.new.value ≡ handle.old.value)) }
-{
-    let Some(mut boxed) = handle.take(alloc) else {
-        return NO_SKETCH;
-    };
-    let sketch = Box::replace(&mut boxed, HeldSketch::Moved);
-    let (after, answer) = freeze(alloc, sketch);
-    *boxed = after;
-    handle.give(boxed);
-    answer
 }
 
 /// Puts one more share of the sketch of `shared` into the handle, and frees what the handle had. It copies no sketch. The handle
@@ -117,22 +87,40 @@ pub extern "C" fn ds_share(
     answer
 }
 
-/// Thaws the handle's sketch, of any kind: if no other handle shares it, calls may change it again. Returns `YES` then, and `NO`
-/// if another handle shares it. A sketch that is not shared is thawed.
+/// Freezes or thaws what a handle holds. Returns it afterwards, with the result's number.
+fn set_frozen(alloc: Global, held: HeldSketch, frozen: bool) -> (HeldSketch, i32)
+    ensures frozen { frozen ≡ true → Freezes held result.0 result.1 }
+    ensures thawed { frozen ≡ false → Thaws held result.0 result.1 }
+{
+    if frozen {
+        freeze(alloc, held)
+    } else {
+        thaw(held)
+    }
+}
+
+/// Freezes the handle's sketch, of any kind, if `frozen` is true: handles can share it, and no call changes it until it is thawed. Does
+/// nothing to a sketch that is shared. `ds_freeze` of C is this call.
 ///
-/// Returns `NO_SKETCH` if the handle has no sketch. `NO` and this error change nothing.
+/// The calls that read a sketch take a shared one, and those that change it return `SHARED`.
+///
+/// Thaws the sketch otherwise: if no other handle shares it, calls may change it again. Returns `YES` then, and `NO` if another handle
+/// shares it. A sketch that is not shared is thawed. `ds_thaw` of C is this call.
+///
+/// Returns the first of these errors, and then changes nothing, as `NO` does:
+///
+/// - `NO_SKETCH` if the handle has no sketch.
+/// - `NoMemory` if an allocation fails. It comes only if a sketch is frozen that is not shared.
 #[unsafe(no_mangle)]
-pub extern "C" fn ds_thaw(alloc: Global, handle: &mut SketchHandle) -> i32
-    ensures answer { OnDone result ((result ≡ yes) ⊎ (result ≡ no)) }
-    ensures thawed { result ≡ yes → IsOwnOf handle.old.value handle.new.value }
-    ensures shared { result ≡ no → (handle.new.value ≡ handle.old.value) × IsShareOf handle.old.value handle.new.value }
-    ensures refused { OnRefused result ((result ≡ no_sketch) × (handle.old.value ≡ None) × (handle.new.value ≡ None)) }
+pub extern "C" fn ds_set_frozen(alloc: Global, handle: &mut SketchHandle, frozen: bool) -> i32
+    ensures frozen { frozen ≡ true → FreezesSketch handle.old.value handle.new.value result }
+    ensures thawed { frozen ≡ false → ThawsSketch handle.old.value handle.new.value result }
 {
     let Some(mut boxed) = handle.take(alloc) else {
         return NO_SKETCH;
     };
     let sketch = Box::replace(&mut boxed, HeldSketch::Moved);
-    let (after, answer) = thaw(sketch);
+    let (after, answer) = set_frozen(alloc, sketch, frozen);
     *boxed = after;
     handle.give(boxed);
     answer

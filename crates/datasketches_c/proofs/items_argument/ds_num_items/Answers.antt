@@ -1,5 +1,6 @@
 use Rattle.std.proofs.Common.{◌≡◌, ℤ, refl, rules}
-use Rattle.datasketches_c.specs.ManyItems.{ManyItems, items_kind_numbered, num_rows}
+use Rattle.datasketches_c.specs.ItemsArguments.{items_kind_numbered}
+use Rattle.any_sketch.specs.ManyItems.{ManyItems, num_rows}
 use Rattle.datasketches_c.specs.Numbers.{ok}
 use Rattle.datasketches_c.proofs.ManyItemsLemmas.{items_said, on_refused}
 use Rattle.datasketches_c.proofs.items_argument.ds_num_items.Goals as goal

@@ -2,7 +2,7 @@ use Rattle.std.proofs.Common.{rules}
 use Rattle.std.proofs.lemmas.Bool.{false≢true}
 use mir.Syntax.{w32}
 use mir.Val.{of_z, to_z}
-use Rattle.datasketches_c.specs.ManyItems.{IsFirstError}
+use Rattle.datasketches_c.specs.ItemsArguments.{IsFirstError}
 use Rattle.datasketches_c.specs.declared.items_argument.ItemsKind.TheVariants.{Offsets, Offsets32, Strings}
 use Rattle.datasketches_c.proofs.Refusals.{refused_for}
 use Rattle.datasketches_c.proofs.items_argument.given_rows.Goals as goal
