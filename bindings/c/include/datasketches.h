@@ -655,7 +655,7 @@ int32_t ds_update_all(ds_sketch *handle, const ds_items *items);
  * unless `num_weights` is the number of items. Returns DS_WEIGHT_OVERFLOW if the total would exceed 2^64 - 1 with all weights:
  * then none is added. Frequent items return DS_NO_MEMORY for the first item without memory: then the items before it are added,
  * and no others. With a bitmap, the call copies the weights of the rows that are there. It allocates 8 bytes for each row, and
- * returns DS_NO_MEMORY if that fails, before errors of the handle. Then nothing changes. */
+ * returns DS_NO_MEMORY if that fails, after DS_NO_SKETCH and DS_SHARED and before DS_WRONG_KIND. Then nothing changes. */
 int32_t ds_update_all_weighted(ds_sketch *handle, const ds_items *items, const uint64_t *weights, size_t num_weights);
 
 /* Adds the weight of each record to that of the record's item, in order, in a Count-Min sketch or in frequent strings. Inserts the
