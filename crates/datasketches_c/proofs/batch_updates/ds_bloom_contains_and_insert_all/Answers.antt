@@ -11,7 +11,7 @@ pub returns-in-Ok-clause-call : goal.returns-in-Ok-clause-call
 returns-in-Ok-clause-call c =
     let call = c.contains_and_insert_given in
     let Said : ℤ → ManyItems → Type 0 = λ z given. OnPlaces (length c.args.results.now) given z ((call.new.handle.value ≡ c.args.handle.now.value) × (call.new.results ≡ c.args.results.now)) (ChangesSketch c.args.handle.now.value call.new.handle.value z (λ s t. IsDone z (ContainsAndInsertsAll s given c.args.results.now call.new.results t))) in
-    on_given (items_kind_numbered c.args.items.now.kind) c.args.items.now ((call.new.handle.value ≡ c.args.handle.now.value) × (call.new.results ≡ c.args.results.now)) c.in-Ok.given call.result call.type_inv Said c.in-Ok.ensures (record { no_room = call.ensures.no_room; placed = call.ensures.call })
+    on_given (items_kind_numbered c.args.items.now.kind) c.args.items.now ((call.new.handle.value ≡ c.args.handle.now.value) × (call.new.results ≡ c.args.results.now)) c.in-Ok.given call.result call.type_inv Said c.in-Ok.ensures (record { no_room = λ few. let none = call.ensures.no_room few in (none.0, (none.1, none.2)); placed = call.ensures.call })
 
 -- the argument has an error
 pub returns-in-Err-clause-call : goal.returns-in-Err-clause-call
