@@ -189,7 +189,7 @@ class Tests(checks.Checks):
         for file, choice in [("joins", "Join"), ("chunks", "Chunk"), ("sizes", "Size")]:
             rows = re.findall(rf"^ +(\d) => Some\({choice}::(\w+)\),$", read(f"{CRATE}/src/{file}.rt"), re.MULTILINE)
             of_kinds += [(re.sub(r"(?<!^)(?=[A-Z])", "_", f"{choice}{name}").upper(), number) for number, name in rows]
-        self.check("the kinds and choices", len(of_kinds) == 33 and set(of_kinds) <= set(constants), (of_kinds, constants))
+        self.check("the kinds and choices", len(of_kinds) == 34 and set(of_kinds) <= set(constants), (of_kinds, constants))
         numbered = re.findall(r"^ +(\d+) => Some\(Number::(\w+)\),$", read(f"{CRATE}/src/sketch_calls.rt"), re.MULTILINE)
         rows = re.findall(r"X\((\d+), DS_NUMBER_(\w+), uint\d+_t, (\w+),", read(f"{C}/include/datasketches.h"))
         self.check("the numbers of sketches", len(rows) == 13 and all(it.lower() == member for _, it, member in rows)
