@@ -1,10 +1,9 @@
 -- The images of filters.
 use Rattle.std.specs.Prelude.{◌≡◌, ◌⊎◌, ℕ, ◌*◌, ◌≤◌, List, length, Option}
 use Rattle.std.specs.Io.KnownBytes.{Appends}
-use Rattle.sketch_bloom.specs.Image.{IsImage, IsSpelled, prefix_bytes}
+use Rattle.sketch_bloom.specs.Image.{IsImage, IsSpelled, first_fault_within, prefix_bytes}
 use Rattle.sketch_bloom.specs.State.{FilterState}
-use Rattle.sketches.specs.ImageFailures.{IsUnread}
-use Rattle.sketches.specs.Shown.{IsBadFilter}
+use Rattle.sketches.specs.ImageFailures.{IsBad, IsUnread}
 use Rattle.sketches.specs.declared.image.images.ImageFailure.{ImageFailure}
 
 -- the bytes are an image of the filter and nothing more, and its words take at most `limit` bytes
@@ -12,6 +11,10 @@ pub record LoadsFilter (limit : ℕ) (image : List ℕ) (filter : FilterState) :
   pub image_of : IsImage image filter
   pub whole : prefix_bytes image ≡ length image
   pub within : 8 * filter.num_words ≤ limit
+
+-- why the bytes are not an image of a filter
+abbrev pub IsBadFilter : ℕ → List ℕ → ImageFailure → Type 0
+IsBadFilter limit image failure = IsBad (first_fault_within limit image) (prefix_bytes image) (length image) failure
 
 -- why the filter of an image was not read
 abbrev pub IsNoFilter : ℕ → List ℕ → ImageFailure → Type 0

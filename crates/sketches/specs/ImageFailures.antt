@@ -31,16 +31,21 @@ IsUnread limit image TrailingBytes = ⊥
 IsUnread limit image TooManyItems = ⊥
 IsUnread limit image (Write error) = ⊥
 
--- why the bytes are not an image of a sketch of strings. An allocation can fail at any image
+-- why bytes are not an image and nothing more, by their first fault, and the number of bytes that an image takes of all. An allocation
+-- can fail at any image
+abbrev pub IsBad : (fault : Option Fault) → (used all : ℕ) → ImageFailure → Type 0
+IsBad fault used all Memory = Unit {0}
+IsBad fault used all NoImage = ⊥
+IsBad fault used all (Read error) = ⊥
+IsBad fault used all TooLong = ⊥
+IsBad fault used all (Rejected first) = fault ≡ Some first
+IsBad fault used all TrailingBytes = used < all
+IsBad fault used all TooManyItems = ⊥
+IsBad fault used all (Write error) = ⊥
+
+-- why the bytes are not an image of a sketch of strings
 abbrev pub IsBadImage : ℕ → List ℕ → ImageFailure → Type 0
-IsBadImage limit image Memory = Unit {0}
-IsBadImage limit image NoImage = ⊥
-IsBadImage limit image (Read error) = ⊥
-IsBadImage limit image TooLong = ⊥
-IsBadImage limit image (Rejected fault) = fault_within limit image ≡ Some fault
-IsBadImage limit image TrailingBytes = prefix_bytes text_codec image < length image
-IsBadImage limit image TooManyItems = ⊥
-IsBadImage limit image (Write error) = ⊥
+IsBadImage limit image failure = IsBad (fault_within limit image) (prefix_bytes text_codec image) (length image) failure
 
 -- why the sketch of an image was not read
 abbrev pub IsRejected : ℕ → List ℕ → ImageFailure → Type 0

@@ -1,8 +1,7 @@
 //! Images of filters that are read whole.
 ghost use Rattle.std.specs.Prelude.{ℕ, List, MatchResult};
-ghost use Rattle.sketches.specs.FilterImages.{IsNoFilter, LoadsFilter};
+ghost use Rattle.sketches.specs.FilterImages.{IsBadFilter, IsNoFilter, LoadsFilter};
 ghost use Rattle.sketches.specs.Images.{IsOpened};
-ghost use Rattle.sketches.specs.Shown.{IsBadFilter};
 
 use crate::image::images::{ImageFailure, failure_of, read_opened};
 use sketch_bloom::BloomFilter;

@@ -13,6 +13,7 @@ use crate::image::show::show;
 use crate::print::endings::{ERROR, end_of_output, fail, fail_at, fail_inexact, message_of};
 use crate::print::output::Watched;
 use crate::print::terminal::StandardOutput;
+use any_sketch::ImageOptions;
 use clap::ArgMatches;
 use sketch_frequencies::{FrequentItemsImageOptions, TableKey};
 
@@ -55,17 +56,16 @@ pub fn run_merge(rt: &HostRuntime, matches: &ArgMatches<'_>) -> u8 {
 
 /// Runs `sketches show`. Returns the status.
 pub fn run_show(rt: &HostRuntime, matches: &ArgMatches<'_>) -> u8 {
-    let options = FrequentItemsImageOptions {
+    let options = ImageOptions {
         max_bytes: usual_number(matches, "max-bytes"),
+        seed: matches.get_one::<u64>("seed").unwrap_or(0),
         key: TableKey::Plain,
     };
     let name = matches.get_str("image").unwrap_or("-");
-    let seed = matches.get_one::<u64>("seed").unwrap_or(0);
     let image = ImageInput::open(rt, name);
     match show(
         rt.alloc(),
         &options,
-        seed,
         image,
         &mut Watched::new(StandardOutput::new(rt)),
     ) {

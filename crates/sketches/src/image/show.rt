@@ -1,15 +1,21 @@
 //! What an image states.
-ghost use Rattle.std.specs.Prelude.{◌≡◌, ◌⊎◌, ◌++◌, ◌≤◌, true, false, List, ℕ, IfErr, IfOk, MatchResult, OnOk, length, string_bytes};
-ghost use Rattle.sketches.specs.ImageFailures.{IsBadImage, IsWriteFailure};
-ghost use Rattle.sketches.specs.Images.{IsOpened, Loads};
-ghost use Rattle.sketches.specs.Shown.{IsBadAs, IsBadCells, IsBadCounts, IsBadFilter, IsNotShown, ShowsImage, StatesAs, StatesCounts, StopsShow, counts_text, filter_text, is_of_counts, is_of_filter, items_text, value_line};
+ghost use Rattle.std.specs.List.{flat_map};
+ghost use Rattle.std.specs.Prelude.{◌≡◌, ◌≢◌, ◌⊎◌, ◌++◌, ℕ, List, IfErr, IfOk, MatchResult, OnOk, string_bytes};
+ghost use Rattle.any_sketch.specs.Numbers.{number_of};
+ghost use Rattle.any_sketch.specs.declared.any_error.AnyError.TheVariants.{Sketch, WrongKind};
+ghost use Rattle.any_sketch.specs.declared.kind.Kind.TheVariants.{CountI64};
+ghost use Rattle.sketch_base.specs.Errors.{ErrorValue};
+ghost use Rattle.sketch_base.specs.Fields.{byte_at};
+ghost use Rattle.sketch_base.specs.declared.fault.Fault.TheVariants.{NoMemory};
+ghost use Rattle.sketches.specs.ImageFailures.{IsWriteFailure};
+ghost use Rattle.sketches.specs.Images.{IsOpened};
+ghost use Rattle.sketches.specs.Shown.{IsBadFor, IsImageFor, IsNotShown, IsNotWhole, IsWhole, ShowsImage, StopsShow, kind_in, kind_name, names_of, number_line, sketch_text};
+ghost use Rattle.sketches.specs.declared.image.images.ImageFailure.TheVariants.{Memory, Rejected};
 
-use crate::image::images::{ImageFailure, failure_of, load, read_opened};
+use crate::image::images::{ImageFailure, failure_of, read_opened};
 use crate::print::output::Output;
+use any_sketch::{AnyError, AnySketch, ImageOptions, Kind, Number};
 use sketch_base::{Family, Fault};
-use sketch_bloom::BloomFilter;
-use sketch_countmin::{CountMinImageOptions, CountMinSketch, CountMinValue};
-use sketch_frequencies::{FrequentItemsImageOptions, FrequentItemsSketch};
 use std::alloc::{AllocError, Global};
 use std::fmt::Write as _;
 use std::io;
@@ -23,28 +29,32 @@ use std::io::Read;
 ///
 /// # Errors
 ///
-/// Returns those of [`read_image`](crate::image::images::read_image). The faults of a filter and of a Count-Min sketch are those of their
-/// readers. The output is not written then. Returns `Write` if a write fails: then the output has the front of the lines.
+/// Returns those of [`read_opened`] if the bytes are not read whole. Returns `Rejected` with the fault of the first failing check of the
+/// kind's reader. That is `TableTooLarge` if the sketch takes more than `options.max_bytes`. Returns `TrailingBytes` if bytes follow the
+/// image, and `Memory` if an allocation fails. The output is not written then. Returns `Write` if a write fails: then the output has the
+/// front of the lines.
 pub fn show<R: Read + Drop, W: Output>(
     alloc: Global,
-    options: &FrequentItemsImageOptions,
-    seed: u64,
+    options: &ImageOptions,
     opened: io::Result<R>,
     writer: &mut W,
 ) -> Result<(), ImageFailure>
     ensures shown { (image : List ℕ) → IsOpened R.remaining image opened
-        → OnOk result (ShowsImage options.now.max_bytes seed image (W.contents writer.old) (W.contents writer.new)) }
-    ensures err { (image : List ℕ) → IsOpened R.remaining image opened → IfErr result (IsNotShown options.now.max_bytes seed image
-        (StopsShow options.now.max_bytes seed image (W.failure writer.new) (W.contents writer.old) (W.contents writer.new))) }
+        → OnOk result (ShowsImage options.now image (W.contents writer.old) (W.contents writer.new)) }
+    ensures err { (image : List ℕ) → IsOpened R.remaining image opened → IfErr result (IsNotShown options.now image
+        (StopsShow options.now image (W.failure writer.new) (W.contents writer.old) (W.contents writer.new))) }
     ensures unwritten { IfErr result (λ failure. IsWriteFailure failure ⊎ (writer.new ≡ writer.old)) }
 {
     let image = match read_opened(alloc, options.max_bytes, opened) {
         Ok(image) => image,
         Err(failure) => return Err(failure),
     };
-    let text = match text_of(alloc, options, seed, &image) {
-        Ok(text) => text,
+    let sketch = match read_sketch(alloc, options, &image) {
+        Ok(sketch) => sketch,
         Err(failure) => return Err(failure),
+    };
+    let Ok(text) = text_of(alloc, &sketch) else {
+        return Err(ImageFailure::Memory);
     };
     match writer.write_all(text.as_bytes()) {
         Ok(()) => Ok(()),
@@ -52,173 +62,162 @@ pub fn show<R: Read + Drop, W: Output>(
     }
 }
 
-/// Returns the lines of an image.
-fn text_of(
+/// Returns the sketch of an image.
+fn read_sketch(
     alloc: Global,
-    options: &FrequentItemsImageOptions,
-    seed: u64,
+    options: &ImageOptions,
     image: &[u8],
-) -> Result<String, ImageFailure>
-    requires { length image.now ≤ options.now.max_bytes }
-    ensures { MatchResult result
-        (λ text. StatesAs (is_of_filter image.now) (is_of_counts image.now) options.now.max_bytes seed image.now (string_bytes text))
-        (IsBadAs (is_of_filter image.now) (is_of_counts image.now) options.now.max_bytes seed image.now) }
+) -> Result<AnySketch, ImageFailure>
+    ensures { MatchResult result (IsImageFor (kind_in image.now) options.now image.now) (IsBadFor (kind_in image.now) options.now image.now) }
 {
-    if is_of_filter(image) {
-        text_of_filter(alloc, options.max_bytes, image)
-    } else if is_of_counts(image) {
-        text_of_counts(alloc, options.max_bytes, seed, image)
+    let family = family_of(image);
+    if family == Family::BLOOMFILTER.id {
+        read_whole(alloc, Kind::Filter, options, image)
+    } else if family == Family::COUNTMIN.id {
+        read_counts(alloc, options, image)
     } else {
-        text_of_items(alloc, options, image)
+        read_whole(alloc, Kind::FrequentStrings, options, image)
     }
 }
 
-/// Returns whether the family of an image is that of filters.
-fn is_of_filter(image: &[u8]) -> bool
-    ensures { result ≡ is_of_filter image.now }
+/// Returns the byte of the family of an image, or 0 if it is too short.
+fn family_of(image: &[u8]) -> u8
+    ensures { result ≡ byte_at image.now 2 }
 {
-    image.len() > 2 && image[2] == Family::BLOOMFILTER.id
+    if image.len() > 2 { image[2] } else { 0 }
 }
 
-/// Returns whether the family of an image is that of Count-Min sketches.
-fn is_of_counts(image: &[u8]) -> bool
-    ensures { result ≡ is_of_counts image.now }
-{
-    image.len() > 2 && image[2] == Family::COUNTMIN.id
-}
-
-/// Returns the lines of the image of a filter.
-fn text_of_filter(alloc: Global, limit: usize, image: &[u8]) -> Result<String, ImageFailure>
-    ensures { MatchResult result (λ text. StatesAs true false limit 0 image.now (string_bytes text)) (IsBadFilter limit image.now) }
-{
-    let (filter, used) = match BloomFilter::deserialize_prefix(alloc, image, limit) {
-        Ok(read) => read,
-        Err(error) => return Err(failure_of(error)),
-    };
-    if used < image.len() {
-        return Err(ImageFailure::TrailingBytes);
-    }
-    match lines_of_filter(alloc, &filter) {
-        Ok(text) => Ok(text),
-        Err(_) => Err(ImageFailure::Memory),
-    }
-}
-
-/// Returns the lines of the image of a Count-Min sketch with this seed.
-fn text_of_counts(
+/// Returns the Count-Min sketch of an image.
+fn read_counts(
     alloc: Global,
-    limit: usize,
-    seed: u64,
+    options: &ImageOptions,
     image: &[u8],
-) -> Result<String, ImageFailure>
-    ensures { MatchResult result (λ text. StatesAs false true limit seed image.now (string_bytes text))
-        (IsBadCounts limit seed image.now) }
+) -> Result<AnySketch, ImageFailure>
+    ensures { MatchResult result (IsImageFor CountI64 options.now image.now) (IsBadFor CountI64 options.now image.now) }
 {
-    let options = CountMinImageOptions {
-        seed,
-        max_bytes: limit,
-    };
-    match text_of_cells::<i64>(alloc, options, image) {
-        Ok(text) => Ok(text),
+    match read_whole(alloc, Kind::CountI64, options, image) {
+        Ok(sketch) => Ok(sketch),
         Err(ImageFailure::Rejected(Fault::NegativeTotal)) => {
-            text_of_cells::<u64>(alloc, options, image)
+            read_whole(alloc, Kind::CountU64, options, image)
         }
         Err(failure) => Err(failure),
     }
 }
 
-/// Returns the lines of the image of a Count-Min sketch over a type of numbers of 64 bits.
-fn text_of_cells<T: CountMinValue>(
+/// Returns the sketch of this kind of an image that ends with the bytes.
+fn read_whole(
     alloc: Global,
-    options: CountMinImageOptions,
+    kind: Kind,
+    options: &ImageOptions,
     image: &[u8],
-) -> Result<String, ImageFailure>
-    requires { T.SIZE ≡ 8 }
-    ensures { MatchResult result (λ text. StatesCounts T.least T.greatest options.max_bytes options.seed image.now (string_bytes text))
-        (IsBadCells T.least T.greatest options.max_bytes options.seed image.now) }
+) -> Result<AnySketch, ImageFailure>
+    ensures { MatchResult result (IsWhole kind options.now image.now) (IsNotWhole kind options.now image.now) }
 {
-    let (sketch, used) = match CountMinSketch::<T>::deserialize_prefix(alloc, image, options) {
-        Ok(read) => read,
-        Err(error) => return Err(failure_of(error)),
-    };
-    if used < image.len() {
-        return Err(ImageFailure::TrailingBytes);
-    }
-    match lines_of_counts(alloc, &sketch) {
-        Ok(text) => Ok(text),
-        Err(_) => Err(ImageFailure::Memory),
+    match AnySketch::deserialize_prefix(alloc, kind, image, *options) {
+        Ok((sketch, used)) => {
+            if used < image.len() {
+                return Err(ImageFailure::TrailingBytes);
+            }
+            Ok(sketch)
+        }
+        Err(error) => Err(failure_for(error)),
     }
 }
 
-/// Returns the lines of the image of a sketch of strings.
-fn text_of_items(
-    alloc: Global,
-    options: &FrequentItemsImageOptions,
-    image: &[u8],
-) -> Result<String, ImageFailure>
-    requires { length image.now ≤ options.now.max_bytes }
-    ensures { MatchResult result (λ text. StatesAs false false options.now.max_bytes 0 image.now (string_bytes text))
-        (IsBadImage options.now.max_bytes image.now) }
+/// Returns the failure for an error of a reader of images, each of which reads images of its kind.
+fn failure_for(error: AnyError) -> ImageFailure
+    requires { error ≢ WrongKind }
+    ensures memory { (e : ErrorValue) → error ≡ Sketch e → e.fault ≡ NoMemory → result ≡ Memory }
+    ensures other { (e : ErrorValue) → error ≡ Sketch e → (result ≡ Memory) ⊎ (result ≡ Rejected e.fault) }
 {
-    let sketch = match load(alloc, *options, image) {
-        Ok(sketch) => sketch,
-        Err(failure) => return Err(failure),
-    };
-    match lines_of_items(alloc, &sketch) {
-        Ok(text) => Ok(text),
-        Err(_) => Err(ImageFailure::Memory),
+    match error {
+        AnyError::Sketch(error) => failure_of(error),
+        AnyError::WrongKind => unreachable!(),
     }
 }
 
-/// Returns the lines of a sketch of strings.
-fn lines_of_items(alloc: Global, sketch: &FrequentItemsSketch<String>) -> Result<String, AllocError>
-    ensures { IfOk result (λ text. string_bytes text ≡ items_text sketch.now) }
+/// Returns the lines of a sketch: its kind, and its numbers.
+fn text_of(alloc: Global, sketch: &AnySketch) -> Result<String, AllocError>
+    ensures { IfOk result (λ text. string_bytes text ≡ sketch_text sketch.now) }
 {
-    let mut text = String::from_str(alloc, "kind\tfrequent items of strings\n")?;
-    write_value(&mut text, "max_size", sketch.max_map_size() as u64)?;
-    write_value(&mut text, "counters", sketch.num_active_items() as u64)?;
-    write_value(&mut text, "total", sketch.total_weight())?;
-    write_value(&mut text, "error", sketch.maximum_error())?;
+    let mut text = String::new(alloc);
+    let kind = sketch.kind();
+    writeln!(text, "kind\t{}", name_of(kind))?;
+    write_numbers_of(&mut text, sketch, kind)?;
     Ok(text)
 }
 
-/// Returns the lines of a filter.
-fn lines_of_filter(alloc: Global, filter: &BloomFilter) -> Result<String, AllocError>
-    ensures { IfOk result (λ text. string_bytes text ≡ filter_text filter.now) }
+/// Returns the name of a kind.
+fn name_of(kind: Kind) -> &'static str
+    ensures { result.now ≡ kind_name kind }
 {
-    let mut text = String::from_str(alloc, "kind\tBloom filter\n")?;
-    write_value(&mut text, "bits", filter.capacity() as u64)?;
-    write_value(&mut text, "hashes", filter.num_hashes() as u64)?;
-    write_value(&mut text, "seed", filter.seed())?;
-    write_value(&mut text, "set_bits", filter.bits_used())?;
-    Ok(text)
+    match kind {
+        Kind::Filter => "Bloom filter",
+        Kind::CountU64 | Kind::CountI64 => "Count-Min sketch",
+        Kind::FrequentU64 | Kind::FrequentI64 => "frequent items of numbers",
+        Kind::FrequentStrings => "frequent items of strings",
+    }
 }
 
-/// Returns the lines of a Count-Min sketch.
-fn lines_of_counts<T: CountMinValue>(
-    alloc: Global,
-    sketch: &CountMinSketch<T>,
-) -> Result<String, AllocError>
-    ensures { IfOk result (λ text. string_bytes text ≡ counts_text sketch.now) }
+/// Writes the lines of the numbers that are shown of a kind.
+fn write_numbers_of(out: &mut String, sketch: &AnySketch, kind: Kind) -> Result<(), AllocError>
+    ensures { OnOk result (string_bytes out.new
+        ≡ string_bytes out.old ++ flat_map (λ named. number_line named.0 (number_of sketch.now named.1)) (names_of kind)) }
 {
-    let mut text = String::from_str(alloc, "kind\tCount-Min sketch\n")?;
-    write_value(&mut text, "hashes", sketch.num_hashes() as u64)?;
-    write_value(&mut text, "buckets", sketch.num_buckets() as u64)?;
-    write_value(&mut text, "total", total_of(sketch))?;
-    Ok(text)
+    match kind {
+        Kind::Filter => write_numbers(
+            out,
+            sketch,
+            &[
+                ("bits", Number::NumBits),
+                ("hashes", Number::NumHashes),
+                ("seed", Number::Seed),
+                ("set_bits", Number::BitsUsed),
+            ],
+        ),
+        Kind::CountU64 | Kind::CountI64 => write_numbers(
+            out,
+            sketch,
+            &[
+                ("hashes", Number::NumHashes),
+                ("buckets", Number::NumBuckets),
+                ("total", Number::TotalWeight),
+            ],
+        ),
+        Kind::FrequentU64 | Kind::FrequentI64 | Kind::FrequentStrings => write_numbers(
+            out,
+            sketch,
+            &[
+                ("max_size", Number::MaxMapSize),
+                ("counters", Number::NumActiveItems),
+                ("total", Number::TotalWeight),
+                ("error", Number::MaximumError),
+            ],
+        ),
+    }
 }
 
-/// Returns the total weight of a Count-Min sketch.
-fn total_of<T: CountMinValue>(sketch: &CountMinSketch<T>) -> u64
-    ensures { result ≡ sketch.now.total }
+/// Writes the line of each number that the sketch has.
+fn write_numbers(
+    out: &mut String,
+    sketch: &AnySketch,
+    names: &[(&str, Number)],
+) -> Result<(), AllocError>
+    ensures { OnOk result (string_bytes out.new
+        ≡ string_bytes out.old ++ flat_map (λ named. number_line named.0.now (number_of sketch.now named.1)) names.now) }
 {
-    sketch.total_weight().to_number().unsigned_abs() as u64
+    for (name, which) in names {
+        write_number(out, name, sketch.number(*which))?;
+    }
+    Ok(())
 }
 
-/// Writes the line of a value.
-fn write_value(out: &mut String, name: &str, value: u64) -> Result<(), AllocError>
-    ensures { OnOk result (string_bytes out.new ≡ string_bytes out.old ++ value_line name.now value) }
+/// Writes the line of a number, if there is one.
+fn write_number(out: &mut String, name: &str, number: Option<u64>) -> Result<(), AllocError>
+    ensures { OnOk result (string_bytes out.new ≡ string_bytes out.old ++ number_line name.now number) }
 {
-    writeln!(out, "{name}\t{value}")?;
+    if let Some(value) = number {
+        writeln!(out, "{name}\t{value}")?;
+    }
     Ok(())
 }
