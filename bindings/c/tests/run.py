@@ -26,6 +26,7 @@ sys.path[:0] = [f"{TOP}/tests/cli", f"{TOP}/tests"]
 
 import checks  # noqa: E402
 import loads  # noqa: E402
+import tables  # noqa: E402
 
 COMPILER = next(name for name in [os.environ.get("CC", "cc"), "gcc", "clang"] if shutil.which(name))
 CPP_COMPILERS = [name for name in ["g++", "clang++"] if shutil.which(name)]
@@ -171,14 +172,15 @@ class Tests(checks.Checks):
         numbers = re.findall(r"Fault::(\w+) => (-\d+)", read(f"{CRATE}/src/status_code.rt"))
         texts = dict(re.findall(r'fault\.\w+ = \(codes "(\w+)", codes "(.*)"\)',
                                 read(f"{TOP}/crates/sketch_base/specs/Faults.antt")))
-        rows = re.findall(r'X\((-\d+), DS_(\w+), "(\w+)", "(.*)"\)', read(f"{C}/include/datasketches.h"))
-        self.check("the numbers of errors", [(name, number) for number, _, name, _ in rows] == numbers, rows)
-        self.check("the messages of errors", {name: text for _, _, name, text in rows} == texts, rows)
-        for _, constant, name, _ in rows:
-            self.check(f"the constant of {name}", constant.replace("_", "") == name.upper())
+        errors = tables.errors()
+        self.check("the numbers of errors", [(name, number) for number, _, name, _ in errors] == numbers, errors)
+        self.check("the messages of errors", {name: text for _, _, name, text in errors} == texts, errors)
+        for _, constant, name, _ in errors:
+            self.check(f"the constant of {name}", constant.replace("_", "") == f"DS{name.upper()}")
         others = re.findall(r"pub const (\w+): i32 = (-?\d+);", read(f"{CRATE}/src/status_code.rt"))
         constants = re.findall(r"DS_(\w+) = (-?\d+)", read(f"{C}/include/datasketches.h"))
-        of_c = {("NO_RANDOM", "-7"), ("MIN_RESULT", "-45")}
+        of_c = {("NO_RANDOM", "-7"), ("MIN_RESULT", min((number for number, *_ in errors), key=int))}
+        self.check("DS_MIN_RESULT is the least number of an error", of_c <= set(constants), of_c)
         kinds = re.findall(r"^ +(\d) => Some\(Kind::(\w+)\),$", read(f"{TOP}/crates/any_sketch/src/kind.rt"), re.MULTILINE)
         of_kinds = [(KINDS.get(name), number) for number, name in kinds]
         for word in ["Item", "Items"]:
@@ -191,9 +193,10 @@ class Tests(checks.Checks):
             of_kinds += [(re.sub(r"(?<!^)(?=[A-Z])", "_", f"{choice}{name}").upper(), number) for number, name in rows]
         self.check("the kinds and choices", len(of_kinds) == 33 and set(of_kinds) <= set(constants), (of_kinds, constants))
         numbered = re.findall(r"^ +(\d+) => Some\(Number::(\w+)\),$", read(f"{CRATE}/src/sketch_calls.rt"), re.MULTILINE)
-        rows = re.findall(r"X\((\d+), DS_NUMBER_(\w+), uint\d+_t, (\w+),", read(f"{C}/include/datasketches.h"))
-        self.check("the numbers of sketches", len(rows) == 13 and all(it.lower() == member for _, it, member in rows)
-                   and [(it.replace("_", ""), number) for number, it, _ in rows] == [(it.upper(), number) for number, it in numbered], rows)
+        rows = [(member.replace("_", ""), number) for number, _, _, member, _ in tables.numbers()]
+        self.check("the numbers of sketches", rows == [(name.lower(), number) for number, name in numbered], rows)
+        for _, constant, _, member, _ in tables.numbers():
+            self.check(f"the constant of {member}", constant == f"DS_NUMBER_{member.upper()}")
         self.check("no constant twice", len(constants) == len(set(constants)), constants)
         self.check("the other results", set(others) == set(constants) - set(of_kinds) - of_c, constants)
         for name, count in [("item", "length"), ("items", "num_{}")]:
