@@ -19,12 +19,12 @@ HEAD = """\
 
 
 def lines():
-    """Returns a line for each constant of the header, but the limit of its results, which changes with each error."""
+    """Returns a line for each constant of the header that has a number of its own."""
     with open(tables.HEADER, encoding="utf-8") as it:
         text = re.sub(r"/\*.*?\*/", "", it.read(), flags=re.DOTALL)
     found = re.findall(r"\b(DS_\w+) = (-?\d+)|X\((-?\d+), (DS_\w+),", text)
     pairs = [(name or of_row, value or number) for name, value, number, of_row in found]
-    return [f"pub const {name}: i32 = {value};" for name, value in pairs if name != "DS_MIN_RESULT"]
+    return [f"pub const {name}: i32 = {value};" for name, value in pairs]
 
 
 def text():

@@ -173,14 +173,15 @@ class Tests(checks.Checks):
         texts = dict(re.findall(r'fault\.\w+ = \(codes "(\w+)", codes "(.*)"\)',
                                 read(f"{TOP}/crates/sketch_base/specs/Faults.antt")))
         errors = tables.errors()
-        self.check("the numbers of errors", [(name, number) for number, _, name, _ in errors] == numbers, errors)
-        self.check("the messages of errors", {name: text for _, _, name, text in errors} == texts, errors)
+        of_header = [(name, number) for number, _, name, _ in errors]
+        self.check("the numbers of errors", of_header == numbers, set(of_header) ^ set(numbers))
+        messages = {name: text for _, _, name, text in errors}
+        self.check("the messages of errors", messages == texts, messages.items() ^ texts.items())
         for _, constant, name, _ in errors:
             self.check(f"the constant of {name}", constant.replace("_", "") == f"DS{name.upper()}")
         others = re.findall(r"pub const (\w+): i32 = (-?\d+);", read(f"{CRATE}/src/status_code.rt"))
         constants = re.findall(r"DS_(\w+) = (-?\d+)", read(f"{C}/include/datasketches.h"))
-        of_c = {("NO_RANDOM", "-7"), ("MIN_RESULT", min((number for number, *_ in errors), key=int))}
-        self.check("DS_MIN_RESULT is the least number of an error", of_c <= set(constants), of_c)
+        of_c = {("NO_RANDOM", "-7")}
         kinds = re.findall(r"^ +(\d) => Some\(Kind::(\w+)\),$", read(f"{TOP}/crates/any_sketch/src/kind.rt"), re.MULTILINE)
         of_kinds = [(KINDS.get(name), number) for number, name in kinds]
         for word in ["Item", "Items"]:
@@ -194,11 +195,13 @@ class Tests(checks.Checks):
         self.check("the kinds and choices", len(of_kinds) == 33 and set(of_kinds) <= set(constants), (of_kinds, constants))
         numbered = re.findall(r"^ +(\d+) => Some\(Number::(\w+)\),$", read(f"{CRATE}/src/sketch_calls.rt"), re.MULTILINE)
         rows = [(member.replace("_", ""), number) for number, _, _, member, _ in tables.numbers()]
-        self.check("the numbers of sketches", rows == [(name.lower(), number) for number, name in numbered], rows)
+        numbered = [(name.lower(), number) for number, name in numbered]
+        self.check("the numbers of sketches", rows == numbered, set(rows) ^ set(numbered))
         for _, constant, _, member, _ in tables.numbers():
             self.check(f"the constant of {member}", constant == f"DS_NUMBER_{member.upper()}")
         self.check("no constant twice", len(constants) == len(set(constants)), constants)
-        self.check("the other results", set(others) == set(constants) - set(of_kinds) - of_c, constants)
+        rest = set(constants) - set(of_kinds) - of_c
+        self.check("the other results", set(others) == rest, set(others) ^ rest)
         for name, count in [("item", "length"), ("items", "num_{}")]:
             sources = members_in_sources(f"{name}_argument.rt", f"{name.capitalize()}Argument", count)
             header = members_in_header(f"ds_{name}")
