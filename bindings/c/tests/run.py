@@ -281,12 +281,8 @@ class Tests(checks.Checks):
         self.check("an allocator that is set", ran.returncode == 0 and b"checks hold" in ran.stdout, ran)
 
     def version(self):
-        """Compares the version of the header and of the library with the repository's."""
+        """Compares the version of the library with the repository's."""
         version = read(f"{TOP}/VERSION").strip()
-        header = read(f"{C}/include/datasketches.h")
-        numbers = [re.findall(rf"^#define DS_VERSION_{name} (\d+)$", header, re.MULTILINE) for name in ["MAJOR", "MINOR", "PATCH"]]
-        self.check("the numbers of the version", numbers == [[number] for number in version.split(".")], numbers)
-        self.check("the string of the version", re.findall('^#define DS_VERSION "(.*)"$', header, re.MULTILINE) == [version])
         call = ctypes.CDLL(f"{self.built}/libdatasketches.so.0").ds_version
         call.restype = ctypes.c_char_p
         self.check("ds_version", call() == version.encode(), call())

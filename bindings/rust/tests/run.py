@@ -168,8 +168,6 @@ class Tests(checks.Checks):
         sources = "".join(read(path) for path in glob.glob(f"{RUST}/src/**/*.rs", recursive=True))
         shown = {name.lower() for name in re.findall(r"sys::DS_NUMBER_(\w+)", sources)}
         tables.check_shown(self.check, shown, LEFT_OUT)
-        version = re.search(r'^version = "(.*)"$', read(f"{RUST}/Cargo.toml"), re.MULTILINE)[1]
-        self.check("the version", version == read(f"{RUST}/../../VERSION").strip(), version)
 
     def crate(self):
         """Runs the crate's tests and the examples of its docs."""
