@@ -20,11 +20,13 @@ def check(tests):
     crates = set(re.findall(r"^(\w+)(?: staticlib)?:", read("crates.txt"), re.MULTILINE))
     folders = {os.path.basename(os.path.dirname(path)) for path in glob.glob(f"{TOP}/crates/*/src")}
     tests.check("crates.txt lists the crates", crates == folders, crates ^ folders)
+    rows = re.findall(r"^- (`.*?`): ", read("docs/ARCHITECTURE.md").partition("\n## The data flow")[0], re.MULTILINE)
+    mapped = set(re.findall(r"`(\w+)`", " ".join(rows)))
+    tests.check("docs/ARCHITECTURE.md maps the crates", mapped == crates, mapped ^ crates)
     rust, python = read("bindings/rust/Cargo.toml"), read("bindings/python/tests/interpreters.py")
     versions = {f"Rust {version}" for version in re.findall(r'^rust-version = "(.*)"', rust, re.MULTILINE)}
     versions |= set(re.findall(r'"(3\.\d+)"', re.search(r"^TESTED = \((.*)\)", python, re.MULTILINE)[1]))
     for page, what, names in [
-        ("docs/ARCHITECTURE.md", "crate", {f"`{name}`" for name in crates}),
         ("README.md", "page", {f"(docs/{name}" for name in found("docs/*.md")}),
         ("README.md", "tested version", versions),
         ("bench/README.md", "script", {f"`{name}" for name in found("bench/*.sh")}),
