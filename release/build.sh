@@ -42,15 +42,8 @@ if [ -z "$archive" ]; then
         echo "crates/ or crates.txt differ from the last commit: commit them first" >&2
         exit 1
     }
-    log="$out/build.log"
-    echo "proving and building the crates: about half an hour on four cores if nothing is built yet (all output: $log)"
-    (cd "$top/crates/datasketches_c" && rt lib && cd ../datasketches_cli && rt run <stdin &&
-        cd ../sketches && rt run -- top <stdin) 2>&1 | tee "$log" |
-        awk '/^(so far|crate )/ { print "  " $0; fflush() }' || {
-        tail -n 20 "$log" >&2
-        exit 1
-    }
-    rm "$log"
+    bash "$top/bindings/c/prove.sh" "$out/build.log" all
+    rm "$out/build.log"
     archive="$top/crates/datasketches_c/out/libdatasketches_c.a"
     program="$top/crates/datasketches_cli/out/datasketches_cli"
     sketches="$top/crates/sketches/out/sketches"

@@ -5,18 +5,12 @@
 set -euo pipefail
 here="$(cd "$(dirname "$0")" && pwd)"
 out="${1:?the folder to build into}"
-crate="$here/../../crates/datasketches_c"
 archive="${2:-}"
 mkdir -p "$out"
 out="$(cd "$out" && pwd)"
 if [ -z "$archive" ]; then
-    archive="$crate/out/libdatasketches_c.a"
-    log="$out/build.log"
-    echo "proving and building crates/datasketches_c: about 12 minutes on four cores if nothing is built yet (all output: $log)"
-    (cd "$crate" && rt lib 2>&1) | tee "$log" | awk '/^(so far|crate )/ { print "  " $0; fflush() }' || {
-        tail -n 20 "$log" >&2
-        exit 1
-    }
+    archive="$here/../../crates/datasketches_c/out/libdatasketches_c.a"
+    bash "$here/prove.sh" "$out/build.log"
 fi
 work="$(mktemp -d)"
 trap 'rm -rf "$work"' EXIT

@@ -5,18 +5,10 @@
 set -euo pipefail
 here="$(cd "$(dirname "$0")" && pwd)"
 out="${1:?the folder to build into}"
-crate="$here/../../crates/datasketches_c"
-archive="${2:-$crate/out/libdatasketches_c.a}"
+archive="${2:-$here/../../crates/datasketches_c/out/libdatasketches_c.a}"
 python="${PYTHON:-/usr/bin/python3}"
 mkdir -p "$out/datasketches_rattle"
-if [ $# -lt 2 ]; then
-    log="$(cd "$out" && pwd)/build.log"
-    echo "proving and building crates/datasketches_c: about 12 minutes on four cores if nothing is built yet (all output: $log)"
-    (cd "$crate" && rt lib 2>&1) | tee "$log" | awk '/^(so far|crate )/ { print "  " $0; fflush() }' || {
-        tail -n 20 "$log" >&2
-        exit 1
-    }
-fi
+[ $# -ge 2 ] || bash "$here/../c/prove.sh" "$(cd "$out" && pwd)/build.log"
 cp "$here"/datasketches_rattle/{*.py,*.pyi,py.typed} "$out/datasketches_rattle/"
 suffix="$("$python" -c 'import sysconfig; print(sysconfig.get_config_var("EXT_SUFFIX"))')"
 include="$("$python" -c 'import sysconfig; print(sysconfig.get_path("include"))')"

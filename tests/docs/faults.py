@@ -1,6 +1,8 @@
-"""Checks the faults of docs/faults.txt and docs/lines.txt against those of the header: each name, and their number in docs/FORMATS.md."""
+"""Checks the faults of docs/faults.txt and docs/lines.txt against those of the header."""
 import os
 import re
+
+import tables
 
 TOP = os.path.dirname(os.path.dirname(os.path.dirname(os.path.abspath(__file__))))
 OF_SESSIONS = {"NoSuchName", "NameTaken", "SameName", "WrongKind", "BadFraction"}
@@ -18,10 +20,7 @@ def named(text):
 
 
 def check(tests):
-    page = read("docs/FORMATS.md")
-    listed = set(re.findall(r'X\(-\d+, DS_\w+, "(\w+)"', read("bindings/c/include/datasketches.h")))
-    number = re.search(r"one of (\d+) faults", page)
-    tests.check("docs/FORMATS.md has the number of faults", number and int(number[1]) == len(listed), len(listed))
+    listed = {name for _, _, name, _ in tables.errors()}
     of_images, of_lines = named(read("docs/faults.txt")), named(read("docs/lines.txt"))
     tests.check("docs/faults.txt names faults of the header alone", of_images <= listed, of_images - listed)
     tests.check("docs/lines.txt names faults of the header and of sessions", of_lines <= listed | OF_SESSIONS, of_lines - listed)

@@ -1,4 +1,4 @@
-"""Checks pages beside the sources: examples, errors, links, the manual, lists and times.
+"""Checks pages beside the sources: examples, errors, links, lists, the manual, times and versions.
 
     python3 tests/docs/run.py
 
@@ -13,14 +13,15 @@ import checks  # noqa: E402
 import examples  # noqa: E402
 import faults  # noqa: E402
 import links  # noqa: E402
+import lists  # noqa: E402
 import manual  # noqa: E402
-import sizes  # noqa: E402
 import times  # noqa: E402
+import versions  # noqa: E402
 
 
 def main():
     tests = checks.Checks()
-    for page in [examples, faults, links, manual, sizes, times]:
+    for page in [examples, faults, links, lists, manual, times, versions]:
         page.check(tests)
     tests.end()
 

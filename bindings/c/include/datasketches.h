@@ -109,7 +109,7 @@ enum {
     DS_NOT_SHARED = -9     /* the sketch is not shared, and the call takes shared ones alone */
 };
 
-/* The errors of sketches: number, constant, name and message of each. */
+/* The errors of sketches: number, constant, name and message of each. The last one has the least number. */
 #define DS_SKETCH_ERRORS(X) \
     X(-11, DS_BAD_NUM_BITS, "BadNumBits", "num_bits out of range") \
     X(-12, DS_BAD_NUM_HASHES, "BadNumHashes", "num_hashes out of range") \
@@ -149,7 +149,7 @@ enum {
     X(-45, DS_BAD_WEIGHT, "BadWeight", "weight missing or no number in range")
 
 #define DS_AS_CONSTANT(number, constant, name, message) constant = number,
-enum { DS_SKETCH_ERRORS(DS_AS_CONSTANT) DS_MIN_RESULT = -45 };
+enum { DS_SKETCH_ERRORS(DS_AS_CONSTANT) DS_AFTER_ERRORS, DS_MIN_RESULT = DS_AFTER_ERRORS - 1 };
 #undef DS_AS_CONSTANT
 
 /* Returns the name of a result, as "Mismatch", and its message, as "shapes or seeds differ". They are never null, and are never

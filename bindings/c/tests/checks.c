@@ -228,7 +228,8 @@ static void names(void)
     CHECK(strcmp(ds_result_message(DS_BAD_ARGUMENT),
                  "items of no kind or with a wrong bitmap, the same handle twice, or null where there are values or options") == 0);
 #define IS_NAMED(number, constant, name, message) \
-    CHECK(strcmp(ds_result_name(number), name) == 0 && strcmp(ds_result_message(constant), message) == 0);
+    CHECK(strcmp(ds_result_name(number), name) == 0 && strcmp(ds_result_message(constant), message) == 0); \
+    CHECK(DS_MIN_RESULT <= (number));
     DS_SKETCH_ERRORS(IS_NAMED)
 }
 

@@ -58,6 +58,27 @@ template <class Sketch, class Create> void shares(Create create)
     FAILS(DS_NO_SKETCH, none.thaw());
 }
 
+/* Each number of the header's table is that of the status, or one that the kind does not have. */
+template <class Sketch> void numbers_of(Sketch &sketch)
+{
+    ds_status status = take(sketch.status());
+#define IS_SAME(row, constant, type, member, text) \
+    if (code_of([&] { return sketch.number(constant); }) == DS_WRONG_KIND) CHECK(status.member == 0); \
+    else CHECK(take(sketch.number(constant)) == status.member);
+    DS_SKETCH_NUMBERS(IS_SAME)
+#undef IS_SAME
+}
+
+/* Each error of the header's table has its name and message. */
+static void named_errors()
+{
+#define IS_NAMED(row, constant, its_name, its_message) \
+    CHECK(std::string(ds::detail::result_code(constant).name()) == its_name); \
+    CHECK(std::string(ds::detail::result_code(constant).message()) == its_message);
+    DS_SKETCH_ERRORS(IS_NAMED)
+#undef IS_NAMED
+}
+
 /* Each class has the number of its kind, and numbers of other kinds are 0. */
 static void kinds()
 {
@@ -67,6 +88,7 @@ static void kinds()
     strings heavy = take(strings::create(64));
     numbers of_u64 = take(numbers::create(64));
     signed_numbers of_i64 = take(signed_numbers::create(64));
+    numbers_of(seen), numbers_of(count), numbers_of(below), numbers_of(heavy), numbers_of(of_u64), numbers_of(of_i64);
     ds_status status = take(seen.status());
     CHECK(status.kind == filter::kind && filter::kind == DS_BLOOM && status.num_bits == 64 && status.total_weight == 0);
     status = take(count.status());
@@ -559,6 +581,7 @@ int main()
     shares<signed_numbers>([] { return take(signed_numbers::create(64, 48, KEY)); });
     threads_of_shares();
     kinds();
+    named_errors();
     count_min<std::uint64_t>();
     count_min<std::int64_t>();
     weights();

@@ -26,6 +26,7 @@ sys.path[:0] = [f"{TOP}/tests/cli", f"{TOP}/tests"]
 
 import checks  # noqa: E402
 import loads  # noqa: E402
+import tables  # noqa: E402
 
 COMPILER = next(name for name in [os.environ.get("CC", "cc"), "gcc", "clang"] if shutil.which(name))
 CPP_COMPILERS = [name for name in ["g++", "clang++"] if shutil.which(name)]
@@ -171,14 +172,16 @@ class Tests(checks.Checks):
         numbers = re.findall(r"Fault::(\w+) => (-\d+)", read(f"{CRATE}/src/status_code.rt"))
         texts = dict(re.findall(r'fault\.\w+ = \(codes "(\w+)", codes "(.*)"\)',
                                 read(f"{TOP}/crates/sketch_base/specs/Faults.antt")))
-        rows = re.findall(r'X\((-\d+), DS_(\w+), "(\w+)", "(.*)"\)', read(f"{C}/include/datasketches.h"))
-        self.check("the numbers of errors", [(name, number) for number, _, name, _ in rows] == numbers, rows)
-        self.check("the messages of errors", {name: text for _, _, name, text in rows} == texts, rows)
-        for _, constant, name, _ in rows:
-            self.check(f"the constant of {name}", constant.replace("_", "") == name.upper())
+        errors = tables.errors()
+        of_header = [(name, number) for number, _, name, _ in errors]
+        self.check("the numbers of errors", of_header == numbers, set(of_header) ^ set(numbers))
+        messages = {name: text for _, _, name, text in errors}
+        self.check("the messages of errors", messages == texts, messages.items() ^ texts.items())
+        for _, constant, name, _ in errors:
+            self.check(f"the constant of {name}", constant.replace("_", "") == f"DS{name.upper()}")
         others = re.findall(r"pub const (\w+): i32 = (-?\d+);", read(f"{CRATE}/src/status_code.rt"))
         constants = re.findall(r"DS_(\w+) = (-?\d+)", read(f"{C}/include/datasketches.h"))
-        of_c = {("NO_RANDOM", "-7"), ("MIN_RESULT", "-45")}
+        of_c = {("NO_RANDOM", "-7")}
         kinds = re.findall(r"^ +(\d) => Some\(Kind::(\w+)\),$", read(f"{TOP}/crates/any_sketch/src/kind.rt"), re.MULTILINE)
         of_kinds = [(KINDS.get(name), number) for number, name in kinds]
         for word in ["Item", "Items"]:
@@ -191,11 +194,14 @@ class Tests(checks.Checks):
             of_kinds += [(re.sub(r"(?<!^)(?=[A-Z])", "_", f"{choice}{name}").upper(), number) for number, name in rows]
         self.check("the kinds and choices", len(of_kinds) == 34 and set(of_kinds) <= set(constants), (of_kinds, constants))
         numbered = re.findall(r"^ +(\d+) => Some\(Number::(\w+)\),$", read(f"{CRATE}/src/sketch_calls.rt"), re.MULTILINE)
-        rows = re.findall(r"X\((\d+), DS_NUMBER_(\w+), uint\d+_t, (\w+),", read(f"{C}/include/datasketches.h"))
-        self.check("the numbers of sketches", len(rows) == 13 and all(it.lower() == member for _, it, member in rows)
-                   and [(it.replace("_", ""), number) for number, it, _ in rows] == [(it.upper(), number) for number, it in numbered], rows)
+        rows = [(member.replace("_", ""), number) for number, _, _, member, _ in tables.numbers()]
+        numbered = [(name.lower(), number) for number, name in numbered]
+        self.check("the numbers of sketches", rows == numbered, set(rows) ^ set(numbered))
+        for _, constant, _, member, _ in tables.numbers():
+            self.check(f"the constant of {member}", constant == f"DS_NUMBER_{member.upper()}")
         self.check("no constant twice", len(constants) == len(set(constants)), constants)
-        self.check("the other results", set(others) == set(constants) - set(of_kinds) - of_c, constants)
+        rest = set(constants) - set(of_kinds) - of_c
+        self.check("the other results", set(others) == rest, set(others) ^ rest)
         for name, count in [("item", "length"), ("items", "num_{}")]:
             sources = members_in_sources(f"{name}_argument.rt", f"{name.capitalize()}Argument", count)
             header = members_in_header(f"ds_{name}")
@@ -275,12 +281,8 @@ class Tests(checks.Checks):
         self.check("an allocator that is set", ran.returncode == 0 and b"checks hold" in ran.stdout, ran)
 
     def version(self):
-        """Compares the version of the header and of the library with the repository's."""
+        """Compares the version of the library with the repository's."""
         version = read(f"{TOP}/VERSION").strip()
-        header = read(f"{C}/include/datasketches.h")
-        numbers = [re.findall(rf"^#define DS_VERSION_{name} (\d+)$", header, re.MULTILINE) for name in ["MAJOR", "MINOR", "PATCH"]]
-        self.check("the numbers of the version", numbers == [[number] for number in version.split(".")], numbers)
-        self.check("the string of the version", re.findall('^#define DS_VERSION "(.*)"$', header, re.MULTILINE) == [version])
         call = ctypes.CDLL(f"{self.built}/libdatasketches.so.0").ds_version
         call.restype = ctypes.c_char_p
         self.check("ds_version", call() == version.encode(), call())

@@ -1,4 +1,4 @@
-/* Queries of Count-Min sketches: estimates, upper bounds and status. */
+/* Queries of Count-Min sketches: estimates and upper bounds. */
 #include "extension.h"
 
 /* Returns the sketch of the call, with a handle, and reads the call's item. */
@@ -40,21 +40,3 @@ FUNCTION(count_min_estimate, of_item, ds_count_min_u64_estimate)
 FUNCTION(count_min_upper_bound, of_item, ds_count_min_u64_upper_bound)
 FUNCTION(signed_count_min_estimate, signed_of_item, ds_count_min_i64_estimate)
 FUNCTION(signed_count_min_upper_bound, signed_of_item, ds_count_min_i64_upper_bound)
-
-/* Returns a sketch's numbers as a row. */
-static Datum status_row(FunctionCallInfo fcinfo, Kind kind)
-{
-    Kept *kept = kept_handle(fcinfo, kind);
-    ds_status status = status_of(&kept->handle);
-    bool nulls[5] = {false, false, false, false, false};
-    Datum values[5];
-    values[0] = Int64GetDatum(as_bigint(status.total_weight));
-    values[1] = Int32GetDatum((int32)status.num_hashes);
-    values[2] = Int64GetDatum((int64)status.num_buckets);
-    values[3] = seed_value(status.seed);
-    values[4] = items_name(kept->sketch);
-    return kept_row(fcinfo, values, nulls);
-}
-
-FUNCTION(count_min_status, status_row, DS_COUNT_MIN_U64)
-FUNCTION(signed_count_min_status, status_row, DS_COUNT_MIN_I64)

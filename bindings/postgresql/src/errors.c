@@ -1,34 +1,11 @@
-/* The errors of the extension, each with its SQLSTATE.
- *
- * A standard SQLSTATE is used where one fits. The others are of the class SK:
- *
- * | SQLSTATE | error |
- * |---|---|
- * | SK001 | the value is no sketch, or is one of another type, or of an unknown version of the stored form |
- * | SK002 | the sketch has items of another type |
- * | SK003 | sizes differ between rows of a group |
- * | SK016 | two filters or two counts differ in shape or seed |
- * | SK022 to SK041 | an image fails the check of this number in `datasketches.h`, without the sign |
- * | 22003 | a weight is below 0, a weight, a total weight or a result is out of range |
- * | 22004 | a size is null |
- * | 22021 | a string is not UTF-8, or has a zero byte |
- * | 22023 | a size, a fraction, a threshold, a mode or a seed is out of range, the hash of the seed is 0, or a weight is not whole |
- * | 22P02, 22P03 | the text or the binary form is damaged |
- * | 0A000 | the collation of strings is nondeterministic, or values of the item's type are no items |
- * | 22P05 | a string of a sketch has a character that is not in the database's encoding |
- * | 42804 | weights are of another type than an integer or numeric, or items of another type than those of the sketch |
- * | 53200 | out of memory, or all sketches of a statement take more than `sketches_rattle.max_statement_memory` |
- * | 54000 | a sketch takes more than `sketches_rattle.max_image_bytes`, `max_frequent_bytes` or `max_user_bytes`, or than is stored |
- * | 58000 | the system has no random bytes for a key |
- * | XX000 | an error of the extension itself |
- * | XX001 | a stored sketch is damaged: its checksum is wrong |
- */
+/* The errors of the extension, each with its SQLSTATE: a standard one where one fits, and else one of the class SK. `errors.txt` lists
+ * them. */
 #include "extension.h"
 
 /* Returns the SQLSTATE of the class SK with this number. */
 #define SK(number) MAKE_SQLSTATE('S', 'K', '0', '0' + (number) / 10, '0' + (number) % 10)
 
-/* Results of the library with a standard SQLSTATE. */
+/* Errors of the library with a standard SQLSTATE. The last four come from no call of the extension. */
 static const struct {
     int32_t result;
     int state;
@@ -47,15 +24,22 @@ static const struct {
     {DS_MAP_SIZE_NOT_POWER_OF_TWO, ERRCODE_INVALID_PARAMETER_VALUE},
     {DS_MAP_SIZE_TOO_SMALL, ERRCODE_INVALID_PARAMETER_VALUE},
     {DS_MAP_SIZE_TOO_LARGE, ERRCODE_INVALID_PARAMETER_VALUE},
+    {DS_BAD_SAMPLE_SIZE, ERRCODE_INTERNAL_ERROR},
+    {DS_BAD_WINDOWS, ERRCODE_INTERNAL_ERROR},
+    {DS_BAD_OFFSETS, ERRCODE_INTERNAL_ERROR},
+    {DS_BAD_WEIGHT, ERRCODE_INTERNAL_ERROR},
 };
 
-/* Returns the SQLSTATE of a result below 0: a standard one, one of the class SK for a mismatch and for checks of images, or
- * that of an internal error. */
+/* Returns the SQLSTATE of a result below 0: a standard one, that of the class SK for other errors of sketches, such as a mismatch and
+ * the checks of images, or that of an internal error. */
 static int state_of(int32_t result)
 {
     for (size_t i = 0; i < lengthof(states); i++)
         if (states[i].result == result) return states[i].state;
-    if (result == DS_MISMATCH || (result <= DS_INSUFFICIENT_DATA && result >= DS_BAD_ITEM)) return SK(-result);
+#define OF_SKETCHES(number, constant, name, message) \
+    if (result == constant) return SK(-(number));
+    DS_SKETCH_ERRORS(OF_SKETCHES)
+#undef OF_SKETCHES
     return ERRCODE_INTERNAL_ERROR;
 }
 

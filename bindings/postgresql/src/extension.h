@@ -386,7 +386,8 @@ Kept *kept_handle(FunctionCallInfo fcinfo, Kind kind);
 /* Reads the call's second argument into an item. The call has called `kept_argument` before. */
 void kept_item(FunctionCallInfo fcinfo, SketchItem *item);
 
-/* Returns a row of the call's result type. The call has called `kept_argument` before. */
+/* Returns the call's result type, and a row of it. The call has called `kept_argument` before. */
+TupleDesc kept_row_type(FunctionCallInfo fcinfo);
 Datum kept_row(FunctionCallInfo fcinfo, Datum *values, bool *nulls);
 
 #pragma GCC visibility pop

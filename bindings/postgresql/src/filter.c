@@ -21,20 +21,3 @@ Datum bloom_filter_contains(PG_FUNCTION_ARGS)
     check_result(result);
     PG_RETURN_BOOL(result == DS_YES);
 }
-
-PG_FUNCTION_INFO_V1(bloom_filter_status);
-
-/* Returns a filter's numbers as a row. */
-Datum bloom_filter_status(PG_FUNCTION_ARGS)
-{
-    Kept *kept = kept_handle(fcinfo, DS_BLOOM);
-    ds_status status = status_of(&kept->handle);
-    bool nulls[5] = {false, false, false, false, false};
-    Datum values[5];
-    values[0] = Int64GetDatum(as_bigint(status.bits_used));
-    values[1] = Int64GetDatum(as_bigint(status.num_bits));
-    values[2] = Int32GetDatum((int32)status.num_hashes);
-    values[3] = seed_value(status.seed);
-    values[4] = items_name(kept->sketch);
-    return kept_row(fcinfo, values, nulls);
-}

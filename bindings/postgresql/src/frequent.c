@@ -1,4 +1,4 @@
-/* Queries of frequent items: bounds, rows and status. */
+/* Queries of frequent items: bounds and rows. */
 #include "extension.h"
 
 #include "funcapi.h"
@@ -183,24 +183,6 @@ static Datum rows_of(FunctionCallInfo fcinfo, Kind kind)
     return (Datum)0;
 }
 
-/* --- Status. --- */
-
-/* Returns a sketch's numbers as a row. */
-static Datum status_row(FunctionCallInfo fcinfo, Kind kind)
-{
-    Kept *kept = kept_handle(fcinfo, kind);
-    ds_status status = status_of(&kept->handle);
-    bool nulls[6] = {false, false, false, false, false, false};
-    Datum values[6];
-    values[0] = Int64GetDatum(as_bigint(status.total_weight));
-    values[1] = Int64GetDatum(as_bigint(status.maximum_error));
-    values[2] = Int64GetDatum(as_bigint(status.num_active_items));
-    values[3] = Int64GetDatum(as_bigint(status.maximum_map_capacity));
-    values[4] = Int64GetDatum(as_bigint(status.current_map_capacity));
-    values[5] = Int64GetDatum(as_bigint(status.max_map_size));
-    return kept_row(fcinfo, values, nulls);
-}
-
 #define BOUND(name, kind, bound) \
     PG_FUNCTION_INFO_V1(name); \
     Datum name(PG_FUNCTION_ARGS) \
@@ -212,8 +194,7 @@ static Datum status_row(FunctionCallInfo fcinfo, Kind kind)
     BOUND(type##_estimate, kind, estimate) \
     BOUND(type##_upper_bound, kind, upper_bound) \
     FUNCTION(type##_bounds, bounds_row, kind) \
-    FUNCTION(type##_rows, rows_of, kind) \
-    FUNCTION(type##_status, status_row, kind)
+    FUNCTION(type##_rows, rows_of, kind)
 
 QUERIES(frequent_strings, DS_FREQUENT_ITEMS_STRING)
 QUERIES(frequent_bigints, DS_FREQUENT_ITEMS_I64)

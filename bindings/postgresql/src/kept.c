@@ -310,7 +310,7 @@ void kept_item(FunctionCallInfo fcinfo, SketchItem *item)
     read_item(fcinfo, 1, ((const Cache *)fcinfo->flinfo->fn_extra)->form, item);
 }
 
-Datum kept_row(FunctionCallInfo fcinfo, Datum *values, bool *nulls)
+TupleDesc kept_row_type(FunctionCallInfo fcinfo)
 {
     Cache *cache = fcinfo->flinfo->fn_extra;
     if (cache->row == NULL) {
@@ -321,5 +321,10 @@ Datum kept_row(FunctionCallInfo fcinfo, Datum *values, bool *nulls)
         cache->row = BlessTupleDesc(CreateTupleDescCopy(row));
         MemoryContextSwitchTo(before);
     }
-    return HeapTupleGetDatum(heap_form_tuple(cache->row, values, nulls));
+    return cache->row;
+}
+
+Datum kept_row(FunctionCallInfo fcinfo, Datum *values, bool *nulls)
+{
+    return HeapTupleGetDatum(heap_form_tuple(kept_row_type(fcinfo), values, nulls));
 }

@@ -26,7 +26,7 @@ ERRORS = {
     "42804": "SELECT frequent_strings_agg('a', 1.5::double precision)",
     "54000": "SELECT frequent_strings_agg('a', 1, 1048576)",
 }
-ELSEWHERE = {"22P05": "stored.py", "53200": "ends.py", "57014": "ends.py", "XX001": "damage.py", "58000": "none", "SK041": "none"}
+ELSEWHERE = {"22P05": "stored.py", "53200": "ends.py", "57014": "ends.py", "XX001": "damage.py", "58000": "none", "XX000": "none"}
 
 
 def listed_errors(tests):

@@ -37,6 +37,7 @@ import page  # noqa: E402
 import restored  # noqa: E402
 import scripts  # noqa: E402
 import server  # noqa: E402
+import statuses  # noqa: E402
 import stored  # noqa: E402
 import versions  # noqa: E402
 
@@ -152,7 +153,7 @@ GROUPS = [scripts.attacks, scripts.schemas, queries, isolation, bounds.every_key
           limits.kept_by_use, limits.kept_in_part, limits.long_strings, memory.statements,
           restored.dumps, restored.replicas, restored.too_large, restored.short_texts,
           restored.changed_images,
-          exchange.interfaces, exchange.seeds, page.page_queries, page.filter_is_faster, page.items, errors.listed_errors, damage.damaged_bytes, versions.compiles]
+          exchange.interfaces, exchange.seeds, page.page_queries, page.filter_is_faster, page.items, statuses.columns, errors.listed_errors, damage.damaged_bytes, versions.compiles]
 
 
 def run_group(tests, group):

@@ -8,6 +8,17 @@ import unittest
 import datasketches_rattle as ds
 
 FOLDER = os.path.dirname(ds.__file__)
+TOP = os.path.dirname(os.path.dirname(os.path.dirname(os.path.dirname(os.path.abspath(__file__)))))
+sys.path.append(f"{TOP}/tests")
+
+import tables  # noqa: E402
+
+# Numbers of sketches that are no attributes.
+LEFT_OUT = {
+    "kind": "the class, `signed`, and the type of items that `repr` has",
+    "maximum_map_capacity": "three quarters of `max_map_size`",
+    "current_map_capacity": "changes with the growth of the table alone",
+}
 
 SHORT_OF_MEMORY = """
 import copy, resource
@@ -130,8 +141,13 @@ class Package(unittest.TestCase):
                 self.assertTrue(hasattr(getattr(ds, name), each), f"{name}.{each}")
         self.assertTrue(os.path.exists(os.path.join(FOLDER, "py.typed")))
 
+    def test_numbers(self):
+        attributes = {name for each in (ds.BloomFilter, ds.CountMinSketch, ds.FrequentItemsSketch) for name in vars(each)}
+        shown = {member for _, _, _, member, _ in tables.numbers() if member in attributes}
+        tables.check_shown(lambda name, holds, said="": self.assertTrue(holds, f"{name} {said}"), shown, LEFT_OUT)
+
     def test_version(self):
-        with open(os.path.join(os.path.dirname(os.path.abspath(__file__)), "..", "..", "..", "VERSION"), encoding="utf-8") as file:
+        with open(f"{TOP}/VERSION", encoding="utf-8") as file:
             self.assertEqual(ds.__version__, file.read().strip())
 
     def test_each_call_has_an_example(self):

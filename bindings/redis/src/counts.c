@@ -123,12 +123,9 @@ int cms_query(Call *call)
 
 int cms_info(Call *call)
 {
-    ds_status status = status_of(call->sketch);
-    RedisModule_ReplyWithMap(call->ctx, 3);
-    reply_number(call, "width", status.num_buckets);
-    reply_number(call, "depth", status.num_hashes);
-    reply_number(call, "count", status.total_weight);
-    return REDISMODULE_OK;
+    static const Field fields[] = {
+        {"width", DS_NUMBER_NUM_BUCKETS}, {"depth", DS_NUMBER_NUM_HASHES}, {"count", DS_NUMBER_TOTAL_WEIGHT}};
+    return reply_fields(call, fields, sizeof fields / sizeof *fields);
 }
 
 /* Multiplies the cells and the total by a fraction. That changes a sketch unless it is empty or the fraction is 1. */

@@ -41,6 +41,13 @@ void reply_number(Call *call, const char *name, uint64_t number)
     RedisModule_ReplyWithLongLong(call->ctx, (long long)number);
 }
 
+int reply_fields(Call *call, const Field *fields, size_t count)
+{
+    RedisModule_ReplyWithMap(call->ctx, (long)count);
+    for (size_t i = 0; i < count; i++) reply_number(call, fields[i].name, number_of(call->sketch, fields[i].number));
+    return REDISMODULE_OK;
+}
+
 /* The words of a family of commands for a key that is not there, and for one that is. */
 static const struct Family {
     const char *prefix, *missing, *exists;

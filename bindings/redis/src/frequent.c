@@ -329,14 +329,12 @@ int topk_info(Call *call)
 
 int freq_info(Call *call)
 {
-    ds_status status = status_of(call->sketch);
-    RedisModule_ReplyWithMap(call->ctx, 5);
-    reply_number(call, "size", status.max_map_size);
-    reply_number(call, "counters", status.maximum_map_capacity);
-    reply_number(call, "items", status.num_active_items);
-    reply_number(call, "total", status.total_weight);
-    reply_number(call, "error", status.maximum_error);
-    return REDISMODULE_OK;
+    static const Field fields[] = {{"size", DS_NUMBER_MAX_MAP_SIZE},
+                                   {"counters", DS_NUMBER_MAXIMUM_MAP_CAPACITY},
+                                   {"items", DS_NUMBER_NUM_ACTIVE_ITEMS},
+                                   {"total", DS_NUMBER_TOTAL_WEIGHT},
+                                   {"error", DS_NUMBER_MAXIMUM_ERROR}};
+    return reply_fields(call, fields, sizeof fields / sizeof *fields);
 }
 
 /* --- Merges. --- */

@@ -236,6 +236,15 @@ int reply_result(Call *call, int32_t result);
 /* Returns a number and its name, as a part of a map. */
 void reply_number(Call *call, const char *name, uint64_t number);
 
+/* A number of sketches, DS_NUMBER_SEED .., and its name for clients. */
+typedef struct Field {
+    const char *name;
+    int32_t number;
+} Field;
+
+/* Returns numbers of the call's sketch and their names, as a map. */
+int reply_fields(Call *call, const Field *fields, size_t count);
+
 /* Return the errors that a key is not there, and that it is there, in the words of the command's family. */
 int reply_missing(Call *call);
 int reply_exists(Call *call);

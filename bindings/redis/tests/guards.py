@@ -1,12 +1,15 @@
 """What an administrator sets: who gets secrets, limits and their units, and what the log has of damaged keys."""
+import glob
 import os
 import re
 import struct
 
 import damage
 import redis_page
+import tables
 from resp import Error
 
+HERE = os.path.dirname(os.path.abspath(__file__))
 SEED = 0x7A3B5C9D1E2F4860
 TOO_MANY = Error("ERR a sketch of this command has more hashes than the module's max-hashes")
 TOO_MUCH = Error("ERR a sketch of this command takes more bytes than the module's max-bytes")
@@ -121,6 +124,25 @@ def hashes(tests):
         tests.check("fewer fit", client("CMS.INITBYDIM", "m", 100, 3) == "OK" and client("BF.RESERVE", "n", "0.2", 100) == "OK")
         client.done("DEBUG", "RELOAD")
         tests.check("a file is read", client.done("BF.EXISTS", "l", "a") == 1)
+
+
+# Numbers of sketches that no reply has under a name.
+LEFT_OUT = {
+    "bits_used": "BF.CARD counts items",
+    "current_map_capacity": "SKETCH.INFO has the slots of the table",
+    "kind": "SKETCH.INFO has the name of the kind",
+    "sample_size": "always the largest one of the size",
+    "seed": "SKETCH.SEED alone has it, which few users have",
+}
+
+
+def numbers(tests):
+    """Each number of sketches has a name in a reply, or is left out on purpose."""
+    shown = set()
+    for path in glob.glob(f"{os.path.dirname(HERE)}/src/*.c"):
+        with open(path, encoding="utf-8") as file:
+            shown |= {name.lower() for name in re.findall(r'"[a-z-]+", (?:DS_NUMBER_|status\.)(\w+)[})]', file.read())}
+    tables.check_shown(tests.check, shown, LEFT_OUT)
 
 
 def information(tests):

@@ -102,6 +102,7 @@ GROUPS = [
     guards.secrets,
     guards.hashes,
     guards.information,
+    guards.numbers,
     guards.parameters,
     guards.damaged_keys,
     full_filters.default_sizes,

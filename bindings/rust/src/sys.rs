@@ -2,6 +2,9 @@
 //! callers keep.
 #![allow(non_camel_case_types)]
 
+mod constants;
+pub use constants::*;
+
 use core::ffi::c_void;
 use std::os::raw::c_char;
 
@@ -81,70 +84,6 @@ pub struct ds_items {
 }
 
 pub type ds_item_bounds = crate::frequencies::ItemBounds;
-
-pub const DS_NO_ROOM: i32 = -3;
-pub const DS_BAD_FRACTION: i32 = -4;
-pub const DS_BAD_ARGUMENT: i32 = -5;
-pub const DS_NO_RANDOM: i32 = -7;
-pub const DS_BAD_NUM_BITS: i32 = -11;
-pub const DS_BAD_NUM_HASHES: i32 = -12;
-pub const DS_BAD_NUM_BUCKETS: i32 = -13;
-pub const DS_TABLE_TOO_LARGE: i32 = -14;
-pub const DS_WEIGHT_OVERFLOW: i32 = -17;
-pub const DS_MAP_SIZE_NOT_POWER_OF_TWO: i32 = -18;
-pub const DS_MAP_SIZE_TOO_SMALL: i32 = -19;
-pub const DS_MAP_SIZE_TOO_LARGE: i32 = -20;
-pub const DS_INSUFFICIENT_DATA: i32 = -22;
-pub const DS_BAD_FAMILY: i32 = -23;
-pub const DS_VALUE_OUT_OF_RANGE: i32 = -29;
-pub const DS_INVALID_UTF8: i32 = -40;
-pub const DS_NO_MEMORY: i32 = -42;
-
-pub const DS_BLOOM: i32 = 1;
-pub const DS_COUNT_MIN_U64: i32 = 2;
-pub const DS_COUNT_MIN_I64: i32 = 3;
-pub const DS_FREQUENT_ITEMS_U64: i32 = 4;
-pub const DS_FREQUENT_ITEMS_I64: i32 = 5;
-pub const DS_FREQUENT_ITEMS_STRING: i32 = 6;
-
-pub const DS_JOIN_MERGE: i32 = 1;
-pub const DS_JOIN_INTERSECTION: i32 = 2;
-pub const DS_JOIN_DIFFERENCE: i32 = 3;
-
-pub const DS_NUMBER_SEED: i32 = 1;
-pub const DS_NUMBER_NUM_BITS: i32 = 2;
-pub const DS_NUMBER_BITS_USED: i32 = 3;
-pub const DS_NUMBER_TOTAL_WEIGHT: i32 = 4;
-pub const DS_NUMBER_MAXIMUM_ERROR: i32 = 5;
-pub const DS_NUMBER_NUM_ACTIVE_ITEMS: i32 = 6;
-pub const DS_NUMBER_MAXIMUM_MAP_CAPACITY: i32 = 7;
-pub const DS_NUMBER_CURRENT_MAP_CAPACITY: i32 = 8;
-pub const DS_NUMBER_MAX_MAP_SIZE: i32 = 9;
-pub const DS_NUMBER_SAMPLE_SIZE: i32 = 10;
-pub const DS_NUMBER_NUM_BUCKETS: i32 = 11;
-pub const DS_NUMBER_NUM_HASHES: i32 = 12;
-
-pub const DS_ITEM_U64: i32 = 0;
-pub const DS_ITEM_I64: i32 = 1;
-pub const DS_ITEM_STRING: i32 = 2;
-pub const DS_ITEM_FED: i32 = 3;
-
-pub const DS_ITEMS_U64: i32 = 0;
-pub const DS_ITEMS_I64: i32 = 1;
-pub const DS_ITEMS_OFFSETS: i32 = 2;
-pub const DS_ITEMS_OFFSETS32: i32 = 3;
-pub const DS_ITEMS_STRINGS: i32 = 4;
-pub const DS_ITEMS_WORDS: i32 = 5;
-pub const DS_ITEMS_LINES: i32 = 6;
-pub const DS_ITEMS_FED: i32 = 7;
-
-pub const DS_CHUNK_WORDS: i32 = 1;
-pub const DS_CHUNK_LINES: i32 = 2;
-
-pub const DS_SIZE_MAX_MAP_SIZE: i32 = 1;
-pub const DS_SIZE_NUM_BITS: i32 = 4;
-pub const DS_SIZE_MIN_NUM_BITS: i32 = 5;
-pub const DS_SIZE_FILTER_HASHES: i32 = 6;
 
 extern "C" {
     pub fn ds_version() -> *const c_char;

@@ -17,9 +17,11 @@ import tempfile
 HERE = os.path.dirname(os.path.abspath(__file__))
 RUST = os.path.dirname(HERE)
 C = os.path.join(os.path.dirname(RUST), "c")
-sys.path.insert(0, f"{os.path.dirname(os.path.dirname(RUST))}/tests")
+sys.path[:0] = [RUST, f"{os.path.dirname(os.path.dirname(RUST))}/tests"]
 
 import checks  # noqa: E402
+import constants  # noqa: E402
+import tables  # noqa: E402
 
 CARGO = os.environ.get("CARGO", "/usr/bin/cargo")
 RUSTC = os.environ.get("RUSTC", "/usr/bin/rustc")
@@ -27,6 +29,9 @@ RUSTC = os.environ.get("RUSTC", "/usr/bin/rustc")
 # The C type of each type of a declaration.
 TYPES = {"u8": "uint8_t", "u16": "uint16_t", "u32": "uint32_t", "u64": "uint64_t", "i32": "int32_t", "i64": "int64_t"}
 TYPES |= {"usize": "size_t", "c_void": "void", "c_char": "char"}
+
+# Numbers of sketches that no method returns.
+LEFT_OUT = {"kind": "the type of the sketch"}
 
 # The start of a function in which each line of `NOT_RUST` does not compile: the line and the numbers of errors that
 # the compiler may find.
@@ -111,7 +116,7 @@ def in_c(kind):
 
 
 def declared():
-    """Returns the functions, the structures and the constants of `sys.rs`."""
+    """Returns the functions and the structures of `sys.rs`."""
     text = read(f"{RUST}/src/sys.rs")
     text += read(f"{RUST}/src/frequencies/row.rs").replace("ItemBounds", "ds_item_bounds")
     calls = {}
@@ -120,7 +125,7 @@ def declared():
         calls[name] = (in_c(result) if result else "void", kinds)
     structures = {name: [(in_c(kind), member) for member, kind in re.findall(r"pub (\w+): (.*),", inside)]
                   for name, inside in re.findall(r"repr\(C\)\]\npub struct (\w+) \{\n(.*?)\n\}", text, re.DOTALL)}
-    return calls, structures, dict(re.findall(r"pub const (\w+): i32 = (-?\d+);", text))
+    return calls, structures
 
 
 def in_header():
@@ -132,9 +137,7 @@ def in_header():
         calls[name] = (result, [kind for kind in kinds if kind or inside != "void"])
     structures = {name: [(kind.strip(), member) for kind, member in re.findall(r"^    (.*?)(\w+);", inside, re.MULTILINE)]
                   for name, inside in re.findall(r"typedef struct (\w+) \{\n(.*?)\n\}", text, re.DOTALL)}
-    constants = re.findall(r"(DS_\w+) = (-?\d+)", text)
-    constants += [(name, number) for number, name in re.findall(r"X\((-?\d+), (DS_\w+),", text)]
-    return calls, structures, dict(constants)
+    return calls, structures
 
 
 class Tests(checks.Checks):
@@ -155,13 +158,16 @@ class Tests(checks.Checks):
                         **{"DATASKETCHES_DIR": self.built, **settings})
 
     def declarations(self):
-        """Compares the declarations with the header."""
-        for name, ours, theirs in zip(["call", "structure", "constant"], declared(), in_header()):
+        """Compares the declarations and the constants with the header, and looks for numbers of sketches that no method returns."""
+        for name, ours, theirs in zip(["call", "structure"], declared(), in_header()):
             self.check(f"there are {name}s", len(ours) >= 7, ours)
             for each, form in ours.items():
                 self.check(f"the {name} {each}", theirs.get(each) == form, (form, theirs.get(each)))
-        version = re.search(r'^version = "(.*)"$', read(f"{RUST}/Cargo.toml"), re.MULTILINE)[1]
-        self.check("the version", version == read(f"{RUST}/../../VERSION").strip(), version)
+        ours, theirs = read(constants.FILE), constants.text()
+        self.check("the constants: run bindings/rust/constants.py", ours == theirs, set(ours.splitlines()) ^ set(theirs.splitlines()))
+        sources = "".join(read(path) for path in glob.glob(f"{RUST}/src/**/*.rs", recursive=True))
+        shown = {name.lower() for name in re.findall(r"sys::DS_NUMBER_(\w+)", sources)}
+        tables.check_shown(self.check, shown, LEFT_OUT)
 
     def crate(self):
         """Runs the crate's tests and the examples of its docs."""
