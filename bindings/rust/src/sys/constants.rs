@@ -88,6 +88,7 @@ pub const DS_FIELDS_CSV: i32 = 2;
 pub const DS_CHUNK_WORDS: i32 = 1;
 pub const DS_CHUNK_LINES: i32 = 2;
 pub const DS_CHUNK_CSV_RECORDS: i32 = 3;
+pub const DS_CHUNK_UTF8: i32 = 4;
 pub const DS_SIZE_MAX_MAP_SIZE: i32 = 1;
 pub const DS_SIZE_NUM_BUCKETS: i32 = 2;
 pub const DS_SIZE_COUNT_HASHES: i32 = 3;
