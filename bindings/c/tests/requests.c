@@ -533,7 +533,7 @@ static void bitmaps(void)
         FREE(DS_OK, ds_update_all(&count, &all));
         ROW(1, 1, DS_OK, ds_update_all_weighted(&count, &all, WEIGHTS, 3));
         FREE(DS_NO_ROOM, ds_update_all_weighted(&count, &all, WEIGHTS, 2));
-        ROW(1, 1, DS_NO_SKETCH, ds_update_all_weighted(&none, &all, WEIGHTS, 3));
+        FREE(DS_NO_SKETCH, ds_update_all_weighted(&none, &all, WEIGHTS, 3));
         FREE(DS_OK, ds_count_min_u64_estimate_all(&count, &all, estimates, 3));
         ROW(1, 1, DS_OK, ds_count_min_i64_update_all_weighted(&with_sign, &all, DIFFERENCES, 3));
         ROW(1, 1, DS_WRONG_KIND, ds_count_min_i64_update_all_weighted(&count, &all, DIFFERENCES, 3));
